@@ -1,0 +1,11 @@
+-- The laws of the definitions, and the proofs of the functions.
+-- Tests, Runs: bytes, runs of bytes, texts that end at a cut.
+pub mod Tests
+pub mod Runs
+pub mod Onward
+pub mod Shift
+pub mod Chain
+pub mod Locality
+pub mod TokenLocality
+pub mod Slicing
+pub mod Repetition

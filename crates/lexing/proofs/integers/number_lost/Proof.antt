@@ -1,0 +1,24 @@
+use borrow.Author.Needs.{needs}
+use Rattle.lexing.proofs.integers.number_lost.Statement.{statement}
+use Rattle.lexing.proofs.integers.number_lost.Tie as tie
+use Rattle.lexing.proofs.integers.number_lost.Reads as reads
+use Rattle.lexing.proofs.integers.number_lost.Lts as lts
+
+-- src/integers.rt:185:26
+enum-known-r : tie.Need-enum-known-r
+enum-known-r c = search needs
+
+-- src/integers.rt:186:26
+enum-known-r-2 : tie.Need-enum-known-r-2
+enum-known-r-2 c = search needs
+
+-- src/integers.rt:181:1
+returns : tie.Need-returns
+returns c = ?
+
+-- src/integers.rt:181:1
+returns-2 : tie.Need-returns-2
+returns-2 c = search needs
+
+pub number-lost-spec : {M : Type 1} → statement M
+number-lost-spec = tie.close (tie.spec enum-known-r enum-known-r-2 returns returns-2)

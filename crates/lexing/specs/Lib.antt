@@ -1,0 +1,9 @@
+-- The definitions that the contracts of lexing cite: what a reader must believe.
+pub mod reply
+pub mod bytes
+pub mod blanks
+pub mod words
+pub mod integers
+pub mod strings
+pub mod word_sets
+pub mod answers

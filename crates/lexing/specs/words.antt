@@ -1,0 +1,48 @@
+-- Words, keywords and tags.
+use Prim.Native.Nat.{ℕ, suc, _+_}
+use mathlib.Core.Bool.{Bool, true, false, _&&_}
+use mathlib.Core.List.{List, [], _∷_}
+use lib.Dec.{eqb}
+use lib.ListN.{length}
+use Rattle.lexing.specs.bytes.{isLetter, isWord, lower, takeWhile, dropWhile}
+use Rattle.lexing.specs.reply.{Reply, ok, fail, Parser, ret, _>>=_, _>>_, _or_, position, failAt, pick}
+
+-- its offset and its bytes
+pub data Word : Type 0 where
+  word : ℕ → List ℕ → Word
+
+unfoldable pub bytesOf : Word → List ℕ
+bytesOf (word o w) = w
+
+-- `parse_id`, parser.rs line 403: /[a-zA-Z_][a-zA-Z0-9_]*/
+unfoldable pub parse-id : Parser Word
+parse-id b [] = fail b
+parse-id b (x ∷ u) =
+    elim (isLetter x) [
+      | true ↦ ok (word b (x ∷ takeWhile isWord u)) (b + suc (length (takeWhile isWord u))) (dropWhile isWord u)
+      | false ↦ fail b
+    ]
+
+-- `eq_ignore_ascii_case` with a keyword k, which is in lower case
+unfoldable pub isKeyword : List ℕ → List ℕ → Bool
+isKeyword [] [] = true
+isKeyword [] (y ∷ k) = false
+isKeyword (x ∷ w) [] = false
+isKeyword (x ∷ w) (y ∷ k) = eqb (lower x) y && isKeyword w k
+
+-- `keyword`, parser.rs line 173: a whole word; another word fails at its first byte
+unfoldable pub keyword : List ℕ → Parser Word
+keyword k = do
+  start ← position
+  w ← parse-id
+  pick (isKeyword (bytesOf w) k) (ret w) (failAt start)
+
+-- `alt` of keywords
+unfoldable pub any-keyword : List (List ℕ) → Parser Word
+any-keyword [] = λ b u. fail b
+any-keyword (k ∷ ks) = keyword k or any-keyword ks
+
+-- nom's `tag` of one byte
+unfoldable pub tag : ℕ → Parser (Unit {0})
+tag t b [] = fail b
+tag t b (x ∷ u) = elim (eqb x t) [ true ↦ ok tt (suc b) u | false ↦ fail b ]

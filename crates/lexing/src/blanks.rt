@@ -1,0 +1,196 @@
+// Blanks: white space and comments.
+ghost use mathlib.Core.Path.{_≡_};
+ghost use Prim.Native.Nat.{_+_, _-_, _≤_};
+ghost use lib.ListN.{length, drop, getD};
+ghost use Rattle.lexing.specs.bytes.{slash, isSpace, inLine, takeWhile};
+ghost use Rattle.lexing.specs.integers.{u64-max};
+ghost use Rattle.lexing.specs.blanks.{until-close, whitespace-group, one-blank, whitespace1};
+ghost use Rattle.lexing.specs.answers.{endUntil, groupReply, docOf, turnReply, BlankTo, gapReply};
+use crate::answers::Lost;
+use crate::bytes::is_in_line;
+use crate::bytes::is_space;
+use crate::parts::after;
+use crate::parts::peek;
+use crate::parts::rest_at;
+
+// A doc comment's text: its offset and its length.
+pub enum DocSpan {
+    Absent,
+    At(usize, usize),
+}
+
+// A run of blanks: the offset behind it, and the doc comment that counts.
+pub struct Blank {
+    pub next: usize,
+    pub doc: DocSpan,
+}
+
+// A run of at least one blank.
+pub enum Gap {
+    Passed(Blank),
+    NoGap(Lost),
+}
+
+// One blank: its kind and its length; of a doc comment the length of its text.
+pub enum Group {
+    Nothing,
+    White(usize),
+    Plain(usize),
+    DocComment(usize),
+}
+
+// Where a block comment ends.
+enum End {
+    Closed(usize),
+    Open,
+}
+
+// One turn of a run of blanks.
+enum Turn {
+    Again(Blank),
+    Done,
+}
+
+// How much white space stands at the front.
+fn white_length(part: &[u8]) -> usize
+    ensures { λ r. ⌜ r ≡ length (takeWhile isSpace (now (part .entry))) ⌝ }
+{
+    let mut i = 0;
+    while i < part.len() {
+        if !is_space(part[i]) {
+            return i;
+        }
+        i += 1;
+    }
+    i
+}
+
+// How many bytes of a line stand at the front.
+fn line_length(part: &[u8]) -> usize
+    ensures { λ r. ⌜ r ≡ length (takeWhile inLine (now (part .entry))) ⌝ }
+{
+    let mut i = 0;
+    while i < part.len() {
+        if !is_in_line(part[i]) {
+            return i;
+        }
+        i += 1;
+    }
+    i
+}
+
+// How many bytes stand before the first `*/`.
+fn comment_end(part: &[u8]) -> End
+    ensures { λ r. ⌜ endUntil r (now (part .entry)) ≡ until-close (now (part .entry)) ⌝ }
+{
+    let mut i = 0;
+    while i < part.len() {
+        if part[i] == b'*' {
+            if peek(part, i + 1) == b'/' {
+                return End::Closed(i);
+            }
+        }
+        i += 1;
+    }
+    End::Open
+}
+
+// A line comment or a block comment; the part starts with a slash.
+fn comment_group(part: &[u8], base: usize) -> Group
+    requires { ⌜ base + length (now part) ≤ u64-max ⌝ }
+    requires { ⌜ getD (now part) 0 0 ≡ slash ⌝ }
+    ensures { λ r. ⌜ groupReply r base (now (part .entry)) ≡ whitespace-group base (now (part .entry)) ⌝ }
+{
+    let y = peek(part, 1);
+    if y == b'/' {
+        let n = line_length(after(part, 2));
+        if 0 < n {
+            return Group::Plain(2 + n);
+        }
+        return Group::Nothing;
+    }
+    if y != b'*' {
+        return Group::Nothing;
+    }
+    let e = comment_end(after(part, 2));
+    let End::Closed(n) = e else {
+        return Group::Nothing;
+    };
+    if n == 0 {
+        return Group::Plain(4);
+    }
+    if peek(part, 2) == b'*' {
+        return Group::DocComment(n - 1);
+    }
+    Group::Plain(n + 4)
+}
+
+// One blank.
+pub fn whitespace_group(part: &[u8], base: usize) -> Group
+    requires { ⌜ base + length (now part) ≤ u64-max ⌝ }
+    ensures { λ r. ⌜ groupReply r base (now (part .entry)) ≡ whitespace-group base (now (part .entry)) ⌝ }
+{
+    if peek(part, 0) == b'/' {
+        return comment_group(part, base);
+    }
+    let n = white_length(part);
+    if 0 < n {
+        return Group::White(n);
+    }
+    Group::Nothing
+}
+
+// One more blank, or the end of the run.
+fn one_blank(part: &[u8], base: usize, b: Blank) -> Turn
+    requires { ⌜ base ≤ b .next ⌝ }
+    requires { ⌜ b .next ≤ base + length (now part) ⌝ }
+    requires { ⌜ base + length (now part) ≤ u64-max ⌝ }
+    ensures { λ r. ⌜ turnReply r (b .next) (drop (b .next - base) (now (part .entry))) ≡ one-blank (docOf (b .doc)) (b .next) (drop (b .next - base) (now (part .entry))) ⌝ }
+{
+    let at = b.next;
+    let doc = b.doc;
+    let g = whitespace_group(rest_at(part, base, at), at);
+    match g {
+        Group::Nothing => Turn::Done,
+        Group::White(n) => Turn::Again(Blank { next: at + n, doc }),
+        Group::Plain(n) => Turn::Again(Blank {
+            next: at + n,
+            doc: DocSpan::Absent,
+        }),
+        Group::DocComment(n) => Turn::Again(Blank {
+            next: at + (n + 5),
+            doc: DocSpan::At(at + 3, n),
+        }),
+    }
+}
+
+// Any number of blanks.
+pub fn whitespace0(part: &[u8], base: usize) -> Blank
+    requires { ⌜ base + length (now part) ≤ u64-max ⌝ }
+    ensures { λ r. ⌜ BlankTo r base (now (part .entry)) ⌝ }
+{
+    let mut b = Blank {
+        next: base,
+        doc: DocSpan::Absent,
+    };
+    loop {
+        let t = one_blank(part, base, b);
+        let Turn::Again(next) = t else {
+            return b;
+        };
+        b = next;
+    }
+}
+
+// At least one blank.
+pub fn whitespace1(part: &[u8], base: usize) -> Gap
+    requires { ⌜ base + length (now part) ≤ u64-max ⌝ }
+    ensures { λ r. ⌜ gapReply r base (now (part .entry)) ≡ whitespace1 base (now (part .entry)) ⌝ }
+{
+    let b = whitespace0(part, base);
+    let next = b.next;
+    if next == base {
+        return Gap::NoGap(Lost::Fail(base));
+    }
+    Gap::Passed(b)
+}

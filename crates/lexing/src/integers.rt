@@ -1,0 +1,200 @@
+// Integers.
+ghost use mathlib.Core.Path.{_≡_};
+ghost use mathlib.Core.Bool.{true};
+ghost use Prim.Native.Nat.{_+_, _≤_, _<_};
+ghost use lib.ListN.{length, drop};
+ghost use Rattle.lexing.specs.bytes.{isDigit, digit};
+ghost use Rattle.lexing.specs.integers.{u64-max, hex-integer, decimal-integer, positive-integer, signed-integer, largest, after-sign};
+ghost use Rattle.lexing.specs.answers.{numberReply, numberLost, signedReply, signedLost, digitTest, radix, digitsAre, isHexAhead};
+use crate::answers::Lost;
+use crate::bytes::is_between;
+use crate::bytes::is_digit;
+use crate::bytes::is_hex;
+use crate::parts::after;
+use crate::parts::peek;
+
+// A value and the offset behind it.
+pub enum Number {
+    Value(u64, usize),
+    NoNumber(Lost),
+}
+
+// Whether a number is negative, its magnitude, and the offset behind it.
+pub enum SignedNumber {
+    Sized(bool, u64, usize),
+    NoSigned(Lost),
+}
+
+// Digits: their value and how many there are, or a value of 2^64 or more.
+enum Digits {
+    Count(u64, usize),
+    Over,
+}
+
+fn is_digit_in(hex: bool, x: u8) -> bool
+    ensures { λ r. ⌜ r ≡ digitTest hex x ⌝ }
+{
+    if hex {
+        return is_hex(x);
+    }
+    is_digit(x)
+}
+
+fn digit_of(hex: bool, x: u8) -> u64
+    requires { ⌜ digitTest hex x ≡ true ⌝ }
+    ensures { λ r. ⌜ r ≡ digit x ⌝ }
+{
+    if is_digit(x) {
+        return (x - b'0') as u64;
+    }
+    if is_between(b'a', b'f', x) {
+        return (x - b'a' + 10) as u64;
+    }
+    (x - b'A' + 10) as u64
+}
+
+fn radix_of(hex: bool) -> u64
+    ensures { λ r. ⌜ r ≡ radix hex ⌝ }
+{
+    if hex {
+        return 16;
+    }
+    10
+}
+
+// The digits at the front; it ends at the first digit with which the value is too large.
+fn read_digits(part: &[u8], hex: bool) -> Digits
+    ensures { λ r. ⌜ digitsAre hex (now (part .entry)) r ⌝ }
+{
+    let base = radix_of(hex);
+    let mut v: u64 = 0;
+    let mut i = 0;
+    while i < part.len() {
+        let x = part[i];
+        if !is_digit_in(hex, x) {
+            return Digits::Count(v, i);
+        }
+        let d = digit_of(hex, x);
+        if (0xffff_ffff_ffff_ffff - d) / base < v {
+            return Digits::Over;
+        }
+        v = v * base + d;
+        i += 1;
+    }
+    Digits::Count(v, i)
+}
+
+// Whether `0x` or `0X` and a hexadecimal digit stand at the front.
+fn is_hex_ahead(part: &[u8]) -> bool
+    ensures { λ r. ⌜ r ≡ isHexAhead (now (part .entry)) ⌝ }
+{
+    if peek(part, 0) != b'0' {
+        return false;
+    }
+    let x = peek(part, 1);
+    if x == b'x' {
+        return is_hex(peek(part, 2));
+    }
+    if x == b'X' {
+        return is_hex(peek(part, 2));
+    }
+    false
+}
+
+fn hex_integer(part: &[u8], base: usize) -> Number
+    requires { ⌜ base + length (now part) ≤ u64-max ⌝ }
+    requires { ⌜ isHexAhead (now part) ≡ true ⌝ }
+    ensures { λ r. ⌜ numberReply r base (now (part .entry)) ≡ hex-integer base (now (part .entry)) ⌝ }
+{
+    let d = read_digits(after(part, 2), true);
+    let Digits::Count(v, n) = d else {
+        return Number::NoNumber(Lost::Stop(4, base));
+    };
+    Number::Value(v, base + (2 + n))
+}
+
+fn decimal_integer(part: &[u8], base: usize) -> Number
+    requires { ⌜ base + length (now part) ≤ u64-max ⌝ }
+    ensures { λ r. ⌜ numberReply r base (now (part .entry)) ≡ decimal-integer base (now (part .entry)) ⌝ }
+{
+    if !is_digit(peek(part, 0)) {
+        return Number::NoNumber(Lost::Fail(base));
+    }
+    let d = read_digits(part, false);
+    let Digits::Count(v, n) = d else {
+        return Number::NoNumber(Lost::Stop(4, base));
+    };
+    Number::Value(v, base + n)
+}
+
+pub fn positive_integer(part: &[u8], base: usize) -> Number
+    requires { ⌜ base + length (now part) ≤ u64-max ⌝ }
+    ensures { λ r. ⌜ numberReply r base (now (part .entry)) ≡ positive-integer base (now (part .entry)) ⌝ }
+{
+    if is_hex_ahead(part) {
+        return hex_integer(part, base);
+    }
+    decimal_integer(part, base)
+}
+
+// The largest magnitude of a signed 64-bit number.
+fn largest_of(negative: bool) -> u64
+    ensures { λ r. ⌜ r ≡ largest negative ⌝ }
+{
+    if negative {
+        return 0x8000_0000_0000_0000;
+    }
+    0x7fff_ffff_ffff_ffff
+}
+
+// The digits behind a sign, which stands at the front.
+fn after_sign(part: &[u8], base: usize, negative: bool) -> SignedNumber
+    requires { ⌜ base + length (now part) ≤ u64-max ⌝ }
+    requires { ⌜ 0 < length (now part) ⌝ }
+    ensures { λ r. ⌜ signedReply r base (now (part .entry)) ≡ after-sign negative base (drop 1 (now (part .entry))) ⌝ }
+{
+    let rest = after(part, 1);
+    if !is_digit(peek(rest, 0)) {
+        return SignedNumber::NoSigned(Lost::Fail(base));
+    }
+    let d = read_digits(rest, false);
+    let Digits::Count(v, n) = d else {
+        return SignedNumber::NoSigned(Lost::Fail(base));
+    };
+    if largest_of(negative) < v {
+        return SignedNumber::NoSigned(Lost::Fail(base));
+    }
+    SignedNumber::Sized(negative, v, base + (1 + n))
+}
+
+pub fn signed_integer(part: &[u8], base: usize) -> SignedNumber
+    requires { ⌜ base + length (now part) ≤ u64-max ⌝ }
+    ensures { λ r. ⌜ signedReply r base (now (part .entry)) ≡ signed-integer base (now (part .entry)) ⌝ }
+{
+    let x = peek(part, 0);
+    if x == b'-' {
+        return after_sign(part, base, true);
+    }
+    if x == b'+' {
+        return after_sign(part, base, false);
+    }
+    SignedNumber::NoSigned(Lost::Fail(base))
+}
+
+pub fn number_lost(r: Number) -> Lost
+    ensures { λ x. ⌜ x ≡ numberLost r ⌝ }
+{
+    match r {
+        Number::Value(_, c) => Lost::Fail(c),
+        Number::NoNumber(l) => l,
+    }
+}
+
+pub fn signed_lost(r: SignedNumber) -> Lost
+    ensures { λ x. ⌜ x ≡ signedLost r ⌝ }
+{
+    match r {
+        SignedNumber::Sized(_, _, c) => Lost::Fail(c),
+        SignedNumber::NoSigned(l) => l,
+    }
+}

@@ -1,0 +1,9 @@
+// The tokens of Matter IDL. A reader is handed a part of a text, which may begin in the text's middle, and the offset of its first byte;
+// offsets in its answer are those of the text.
+pub mod answers;
+pub mod blanks;
+pub mod bytes;
+pub mod integers;
+pub mod parts;
+pub mod strings;
+pub mod words;

@@ -1,0 +1,35 @@
+// Parts of a text.
+ghost use mathlib.Core.Path.{_≡_};
+ghost use Prim.Native.Nat.{_+_, _≤_};
+ghost use lib.ListN.{length, drop, getD};
+ghost use Rattle.lexing.specs.answers.{Rest};
+
+// The rest of a part, from an offset on.
+pub fn rest_at(part: &[u8], base: usize, c: usize) -> &[u8]
+    requires { ⌜ (base ≤ c) × (c ≤ base + length (now part)) ⌝ }
+    ensures { λ r. ⌜ Rest base (now (part .entry)) c (now r) ⌝ }
+{
+    let n = c - base;
+    &part[n..]
+}
+
+// The byte at a place, 0 past the end: no token holds a 0.
+pub fn peek(part: &[u8], i: usize) -> u8
+    ensures { λ r. ⌜ r ≡ getD (now (part .entry)) i 0 ⌝ }
+{
+    if i < part.len() {
+        return part[i];
+    }
+    0
+}
+
+// What is left behind n bytes; nothing where there are fewer.
+pub fn after(part: &[u8], n: usize) -> &[u8]
+    ensures { λ r. ⌜ now r ≡ drop n (now (part .entry)) ⌝ }
+{
+    if n < part.len() {
+        return &part[n..];
+    }
+    let m = part.len();
+    &part[m..]
+}

@@ -1,0 +1,78 @@
+// Words, keywords and tags.
+ghost use mathlib.Core.Path.{_≡_};
+ghost use Prim.Native.Nat.{_+_, _≤_};
+ghost use lib.ListN.{length};
+ghost use Rattle.lexing.specs.bytes.{isWord, takeWhile};
+ghost use Rattle.lexing.specs.integers.{u64-max};
+ghost use Rattle.lexing.specs.words.{parse-id, keyword, tag};
+ghost use Rattle.lexing.specs.answers.{wordReply, tagReply};
+use crate::answers::Lost;
+use crate::answers::Step;
+use crate::bytes::is_letter;
+use crate::bytes::is_word;
+use crate::bytes::lower_of;
+use crate::parts::peek;
+
+// How many bytes of a word stand at the front.
+fn word_length(part: &[u8]) -> usize
+    ensures { λ r. ⌜ r ≡ length (takeWhile isWord (now (part .entry))) ⌝ }
+{
+    let mut i = 0;
+    while i < part.len() {
+        if !is_word(part[i]) {
+            return i;
+        }
+        i += 1;
+    }
+    i
+}
+
+pub fn parse_id(part: &[u8], base: usize) -> Step
+    requires { ⌜ base + length (now part) ≤ u64-max ⌝ }
+    ensures { λ r. ⌜ wordReply r base (now (part .entry)) ≡ parse-id base (now (part .entry)) ⌝ }
+{
+    if is_letter(peek(part, 0)) {
+        let n = word_length(part);
+        return Step::Next(base + n);
+    }
+    Step::Not(Lost::Fail(base))
+}
+
+// A whole word that is the keyword; the comparison ends at the first difference.
+pub fn keyword(part: &[u8], base: usize, key: &[u8]) -> Step
+    requires { ⌜ base + length (now part) ≤ u64-max ⌝ }
+    ensures { λ r. ⌜ wordReply r base (now (part .entry)) ≡ keyword (now (key .entry)) base (now (part .entry)) ⌝ }
+{
+    if !is_letter(peek(part, 0)) {
+        return Step::Not(Lost::Fail(base));
+    }
+    let mut i = 0;
+    while i < key.len() {
+        let x = peek(part, i);
+        if lower_of(x) != key[i] {
+            return Step::Not(Lost::Fail(base));
+        }
+        if !is_word(x) {
+            return Step::Not(Lost::Fail(base));
+        }
+        i += 1;
+    }
+    if is_word(peek(part, i)) {
+        return Step::Not(Lost::Fail(base));
+    }
+    Step::Next(base + i)
+}
+
+// One given byte.
+pub fn tag(part: &[u8], base: usize, t: u8) -> Step
+    requires { ⌜ base + length (now part) ≤ u64-max ⌝ }
+    ensures { λ r. ⌜ tagReply r base (now (part .entry)) ≡ tag t base (now (part .entry)) ⌝ }
+{
+    if part.len() == 0 {
+        return Step::Not(Lost::Fail(base));
+    }
+    if part[0] == t {
+        return Step::Next(base + 1);
+    }
+    Step::Not(Lost::Fail(base))
+}
