@@ -7,5 +7,6 @@ pub mod Shift
 pub mod Chain
 pub mod Locality
 pub mod TokenLocality
+pub mod Scans
 pub mod Slicing
 pub mod Repetition

@@ -1,0 +1,90 @@
+-- Scans: a loop over the bytes of a part that ends at the first byte that fails a test.
+use mathlib.Core.Path.{_≡_, refl, sym, ap, _∙_}
+use mathlib.Core.List.{List, [], _∷_}
+use mathlib.Core.Bool.{Bool, true, false, false≢true}
+use Prim.Native.Nat.{ℕ, zero, suc, _+_, _-_, _≤_, _<_, zero-le}
+use native.Mathlib.Omega.{arith}
+use native.Mathlib.Numerals.{add-one}
+use native.Mathlib.Nat.{add-zero}
+use lib.Dec.{ltb}
+use lib.ListN.{length, drop, take, getD, drop-of-length-le, List·getD-eq-default}
+use lib.Seq.{drop-cons, getD-drop}
+use borrow.Author.Tests.{ltb-true, ltb-false}
+use Rattle.lexing.specs.bytes.{takeWhile, dropWhile}
+use Rattle.lexing.proofs.Runs.{run-length}
+
+-- the first byte of a rest
+pub first-of : (i : ℕ) (u : List ℕ) → getD (drop i u) 0 0 ≡ getD u i 0
+first-of i u = rw (getD-drop i u 0 0, add-zero)
+
+-- a test that 0 fails is passed inside the text only
+pub passed-inside : (f : ℕ → Bool) → f 0 ≡ false → (i : ℕ) (u : List ℕ) → f (getD u i 0) ≡ true → i < length u
+passed-inside f fails i u e = go (ltb i (length u)) refl
+  where
+    go : (t : Bool) → ltb i (length u) ≡ t → i < length u
+    go true q = ltb-true i (length u) q
+    go false q = absurd (false≢true (sym fails ∙ (ap f (sym (List·getD-eq-default u 0 (ltb-false i (length u) q))) ∙ e)))
+
+-- the run, by its length
+pub take-run : (f : ℕ → Bool) (u : List ℕ) → take (length (takeWhile f u)) u ≡ takeWhile f u
+unfolding takeWhile
+take-run f [] = refl
+take-run f (x ∷ u) = go (f x) refl (take-run f u)
+  where
+    go : (t : Bool) → f x ≡ t → take (length (takeWhile f u)) u ≡ takeWhile f u → take (length (takeWhile f (x ∷ u))) (x ∷ u) ≡ takeWhile f (x ∷ u)
+    go true e ih = rw (e, takeWhile) (ap (λ l. x ∷ l) ih)
+    go false e ih = rw (e, takeWhile)
+
+pub drop-run : (f : ℕ → Bool) (u : List ℕ) → drop (length (takeWhile f u)) u ≡ dropWhile f u
+unfolding takeWhile dropWhile
+drop-run f [] = refl
+drop-run f (x ∷ u) = go (f x) refl (drop-run f u)
+  where
+    go : (t : Bool) → f x ≡ t → drop (length (takeWhile f u)) u ≡ dropWhile f u → drop (length (takeWhile f (x ∷ u))) (x ∷ u) ≡ dropWhile f (x ∷ u)
+    go true e ih = rw (e, takeWhile, dropWhile) ih
+    go false e ih = rw (e, takeWhile, dropWhile)
+
+pub run-le : (f : ℕ → Bool) (u : List ℕ) → length (takeWhile f u) ≤ length u
+run-le f u = omega (arith, run-length f u)
+
+-- the run at a byte that passes, and at one that fails
+pub run-cons : (f : ℕ → Bool) (x : ℕ) (u : List ℕ) → f x ≡ true → takeWhile f (x ∷ u) ≡ x ∷ takeWhile f u
+unfolding takeWhile
+run-cons f x u e = rw (e, takeWhile)
+
+pub run-none : (f : ℕ → Bool) (x : ℕ) (u : List ℕ) → f x ≡ false → takeWhile f (x ∷ u) ≡ []
+unfolding takeWhile
+run-none f x u e = rw (e, takeWhile)
+
+run-nil : (f : ℕ → Bool) → takeWhile f [] ≡ []
+unfolding takeWhile
+run-nil f = refl
+
+-- no byte passes where the first one fails
+pub run-empty : (f : ℕ → Bool) (u : List ℕ) → f (getD u 0 0) ≡ false → takeWhile f u ≡ []
+run-empty f [] e = run-nil f
+run-empty f (x ∷ u) e = run-none f x u e
+
+-- the invariant of a scan: the first i bytes pass, and the rest of the run is that of what is left
+pub record RunAt (f : ℕ → Bool) (u : List ℕ) (i : ℕ) : Type 0 where
+  pub inside : i ≤ length u
+  pub left : length (takeWhile f u) ≡ i + length (takeWhile f (drop i u))
+
+pub runs-start : (f : ℕ → Bool) (u : List ℕ) → RunAt f u 0
+runs-start f u = record { inside = zero-le; left = omega arith }
+
+module _ (f : ℕ → Bool) (u : List ℕ) (i : ℕ) (h : RunAt f u i) where
+  pub runs-more : i < length u → f (getD u i 0) ≡ true → RunAt f u (i + 1)
+  runs-more lt t =
+      let e : length (takeWhile f (drop i u)) ≡ suc (length (takeWhile f (drop (i + 1) u))) = rw (add-one, drop-cons u i 0) (ap length (run-cons f (getD u i 0) (drop (suc i) u) t)) in
+      record { inside = omega arith; left = omega (arith, e, h .left) }
+
+  pub runs-stop : i < length u → f (getD u i 0) ≡ false → i ≡ length (takeWhile f u)
+  runs-stop lt t =
+      let e : length (takeWhile f (drop i u)) ≡ 0 = rw (drop-cons u i 0) (ap length (run-none f (getD u i 0) (drop (suc i) u) t)) in
+      omega (arith, e, h .left)
+
+  pub runs-out : length u ≤ i → i ≡ length (takeWhile f u)
+  runs-out le =
+      let e : length (takeWhile f (drop i u)) ≡ 0 = rw (drop-of-length-le u le) (ap length (run-nil f)) in
+      omega (arith, e, h .left)

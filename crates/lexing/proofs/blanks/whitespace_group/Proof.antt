@@ -1,0 +1,43 @@
+use borrow.Author.Needs.{needs}
+use Rattle.lexing.proofs.blanks.whitespace_group.Statement.{statement}
+use Rattle.lexing.proofs.blanks.whitespace_group.Tie as tie
+use Rattle.lexing.proofs.blanks.whitespace_group.Reads as reads
+use Rattle.lexing.proofs.blanks.whitespace_group.Lts as lts
+use Rattle.lexing.proofs.blanks.comment_group.Reads as comment-group-reads
+use Rattle.lexing.proofs.blanks.white_length.Reads as white-length-reads
+use Rattle.lexing.proofs.parts.peek.Reads as peek-reads
+
+-- src/blanks.rt:133:8
+peek-requires : tie.Need-peek-requires
+peek-requires c κs = search needs
+
+-- src/blanks.rt:134:9
+comment-group-requires : tie.Need-comment-group-requires
+comment-group-requires c κs = search needs
+
+-- src/blanks.rt:134:9
+returns : tie.Need-returns
+returns c = search needs
+
+-- src/blanks.rt:136:9
+white-length-requires : tie.Need-white-length-requires
+white-length-requires c κs = search needs
+
+-- src/blanks.rt:138:9
+returns-2 : tie.Need-returns-2
+returns-2 c = ?
+
+-- src/blanks.rt:129:1
+returns-3 : tie.Need-returns-3
+returns-3 c = ?
+
+pub whitespace-group-spec : {M : Type 1} → statement M
+whitespace-group-spec =
+    tie.close
+    (tie.spec
+    peek-requires
+    comment-group-requires
+    returns
+    white-length-requires
+    returns-2
+    returns-3)

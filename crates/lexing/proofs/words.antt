@@ -1,0 +1,2 @@
+-- Laws of the readers of words, keywords and tags.
+pub mod Laws
