@@ -405,7 +405,7 @@ pub signed-local : Local signed-integer
 signed-local = record { on-chain = signed-chain; local = λ k b u s c d. signed-ext b u s d }
 
 -- line comments: in a cut text they end before the last line feed
-no-line : (b x : ℕ) (u : List ℕ) → eqb x slash ≡ false → line-comment b (x ∷ u) ≡ fail b
+pub no-line : (b x : ℕ) (u : List ℕ) → eqb x slash ≡ false → line-comment b (x ∷ u) ≡ fail b
 unfolding line-comment
 no-line b x [] e = refl
 no-line b x (y ∷ []) e = refl
@@ -562,7 +562,7 @@ blank-no-digit : (x : ℕ) → (eqb x slash || isSpace x) ≡ true → isDigit x
 unfolding isDigit within
 blank-no-digit x e = blank-fails isDigit refl refl refl refl refl x e
 
-no-block : (b x : ℕ) (u : List ℕ) → eqb x slash ≡ false → block-comment b (x ∷ u) ≡ fail b
+pub no-block : (b x : ℕ) (u : List ℕ) → eqb x slash ≡ false → block-comment b (x ∷ u) ≡ fail b
 unfolding block-comment
 no-block b x [] e = refl
 no-block b x (y ∷ u) e = rw (e, block-comment)
@@ -586,7 +586,7 @@ group-steps b (x ∷ u) = go (eqb x slash || isSpace x) refl
     go false e = rw (no-group b x u e) tt
 
 -- an unclosed block comment ends the chain
-open-line : (b : ℕ) (v : List ℕ) → line-comment b (slash ∷ star ∷ v) ≡ fail b
+pub open-line : (b : ℕ) (v : List ℕ) → line-comment b (slash ∷ star ∷ v) ≡ fail b
 unfolding line-comment
 open-line b [] = refl
 open-line b (z ∷ v) = refl

@@ -5,7 +5,7 @@ use mathlib.Core.Bool.{Bool, true, false, _&&_, _||_}
 use mathlib.Core.List.{List, [], _∷_}
 use lib.Dec.{eqb}
 use lib.ListN.{length, take, drop, getD}
-use Rattle.lexing.specs.bytes.{isDigit, isHex, takeWhile, number}
+use Rattle.lexing.specs.bytes.{star, slash, isDigit, isHex, takeWhile, number}
 use Rattle.lexing.specs.reply.{Reply, ok, fail, stop}
 use Rattle.lexing.specs.words.{Word, word}
 use Rattle.lexing.specs.integers.{u64-max, Signed, signed}
@@ -118,6 +118,9 @@ isHexAhead u = eqb (getD u 0 0) 0x30 && ((eqb (getD u 1 0) 0x78 || eqb (getD u 1
 abbrev pub docOf : DocSpan → Doc
 docOf Absent = no-doc
 docOf (At o n) = doc-at o n
+
+abbrev pub isClose : ℕ → ℕ → Bool
+isClose x y = eqb x star && eqb y slash
 
 abbrev pub endUntil : End → List ℕ → Until
 endUntil (Closed n) u = found n (drop (n + 2) u)

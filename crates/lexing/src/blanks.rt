@@ -1,11 +1,11 @@
 // Blanks: white space and comments.
 ghost use mathlib.Core.Path.{_≡_};
-ghost use Prim.Native.Nat.{_+_, _-_, _≤_};
+ghost use Prim.Native.Nat.{_+_, _-_, _≤_, _<_};
 ghost use lib.ListN.{length, drop, getD};
 ghost use Rattle.lexing.specs.bytes.{slash, isSpace, inLine, takeWhile};
 ghost use Rattle.lexing.specs.integers.{u64-max};
 ghost use Rattle.lexing.specs.blanks.{until-close, whitespace-group, one-blank, whitespace1};
-ghost use Rattle.lexing.specs.answers.{endUntil, groupReply, docOf, turnReply, BlankTo, gapReply};
+ghost use Rattle.lexing.specs.answers.{isClose, endUntil, groupReply, docOf, turnReply, BlankTo, gapReply};
 use crate::answers::Lost;
 use crate::bytes::is_in_line;
 use crate::bytes::is_space;
@@ -79,16 +79,25 @@ fn line_length(part: &[u8]) -> usize
     i
 }
 
+// Whether `*/` stands at a place.
+fn is_close_at(part: &[u8], i: usize) -> bool
+    requires { ⌜ i < length (now part) ⌝ }
+    ensures { λ r. ⌜ r ≡ isClose (getD (now (part .entry)) i 0) (getD (now (part .entry)) (i + 1) 0) ⌝ }
+{
+    if part[i] != b'*' {
+        return false;
+    }
+    peek(part, i + 1) == b'/'
+}
+
 // How many bytes stand before the first `*/`.
 fn comment_end(part: &[u8]) -> End
     ensures { λ r. ⌜ endUntil r (now (part .entry)) ≡ until-close (now (part .entry)) ⌝ }
 {
     let mut i = 0;
     while i < part.len() {
-        if part[i] == b'*' {
-            if peek(part, i + 1) == b'/' {
-                return End::Closed(i);
-            }
+        if is_close_at(part, i) {
+            return End::Closed(i);
         }
         i += 1;
     }
