@@ -6,4 +6,7 @@ pub mod words
 pub mod integers
 pub mod strings
 pub mod word_sets
+pub mod utf8
+pub mod outcomes
+pub mod unescaping
 pub mod answers

@@ -6,4 +6,6 @@ pub mod bytes;
 pub mod integers;
 pub mod parts;
 pub mod strings;
+pub mod unescaping;
+pub mod utf8;
 pub mod words;

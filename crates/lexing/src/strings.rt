@@ -3,7 +3,7 @@ ghost use mathlib.Core.Path.{_≡_};
 ghost use Prim.Native.Nat.{_+_, _≤_};
 ghost use lib.ListN.{length};
 ghost use Rattle.lexing.specs.integers.{u64-max};
-ghost use Rattle.lexing.specs.strings.{string-with, quoted-string, default-string};
+ghost use Rattle.lexing.specs.strings.{annotation-escape, default-escape, string-with, quoted-string, default-string};
 ghost use Rattle.lexing.specs.answers.{escapesOf, escapeOf, pieceIs, pieceEnd, stringReply};
 use crate::answers::Lost;
 use crate::answers::Step;
@@ -22,9 +22,9 @@ enum Piece {
     Last(Step),
 }
 
-// Annotations allow two escapes, defaults four.
-fn escape_of(default: bool, x: u8) -> Escaped
-    ensures { λ r. ⌜ escapeOf r ≡ escapesOf default x ⌝ }
+// Annotations allow two escapes.
+fn annotation_escape(x: u8) -> Escaped
+    ensures { λ r. ⌜ escapeOf r ≡ annotation-escape x ⌝ }
 {
     if x == b'"' {
         return Escaped::Allowed;
@@ -32,8 +32,18 @@ fn escape_of(default: bool, x: u8) -> Escaped
     if x == b'\\' {
         return Escaped::Allowed;
     }
-    if !default {
-        return Escaped::Forbidden;
+    Escaped::Forbidden
+}
+
+// Defaults allow four.
+fn default_escape(x: u8) -> Escaped
+    ensures { λ r. ⌜ escapeOf r ≡ default-escape x ⌝ }
+{
+    if x == b'"' {
+        return Escaped::Allowed;
+    }
+    if x == b'\\' {
+        return Escaped::Allowed;
     }
     if x == b'n' {
         return Escaped::Allowed;
@@ -47,6 +57,15 @@ fn escape_of(default: bool, x: u8) -> Escaped
     Escaped::Forbidden
 }
 
+fn escape_of(default: bool, x: u8) -> Escaped
+    ensures { λ r. ⌜ escapeOf r ≡ escapesOf default x ⌝ }
+{
+    if default {
+        return default_escape(x);
+    }
+    annotation_escape(x)
+}
+
 // One byte of a string, one escape, or its end.
 fn string_piece(part: &[u8], base: usize, default: bool) -> Piece
     requires { ⌜ base + length (now part) ≤ u64-max ⌝ }
@@ -56,11 +75,12 @@ fn string_piece(part: &[u8], base: usize, default: bool) -> Piece
         return Piece::Last(Step::Not(Lost::Fail(base)));
     }
     let x = part[0];
+    let next = base + 1;
     if x == b'"' {
-        return Piece::Last(Step::Next(base + 1));
+        return Piece::Last(Step::Next(next));
     }
     if x != b'\\' {
-        return Piece::More(base + 1);
+        return Piece::More(next);
     }
     if part.len() == 1 {
         return Piece::Last(Step::Not(Lost::Fail(base)));

@@ -1,17 +1,14 @@
 use borrow.Author.Needs.{needs}
 use Rattle.lexing.proofs.strings.default_string.Statement.{statement}
 use Rattle.lexing.proofs.strings.default_string.Tie as tie
-use Rattle.lexing.proofs.strings.default_string.Reads as reads
-use Rattle.lexing.proofs.strings.default_string.Lts as lts
-use Rattle.lexing.proofs.strings.string_with.Reads as string-with-reads
+use Rattle.lexing.specs.strings.{default-string}
 
--- src/strings.rt:119:5
 string-with-requires : tie.Need-string-with-requires
 string-with-requires c κs = search needs
 
--- src/strings.rt:115:1
 returns : tie.Need-returns
-returns c = ?
+unfolding default-string
+returns c = c .string-with .ensures
 
 pub default-string-spec : {M : Type 1} → statement M
 default-string-spec = tie.close (tie.spec string-with-requires returns)

@@ -1,24 +1,20 @@
 use borrow.Author.Needs.{needs}
 use Rattle.lexing.proofs.strings.piece_end.Statement.{statement}
 use Rattle.lexing.proofs.strings.piece_end.Tie as tie
-use Rattle.lexing.proofs.strings.piece_end.Reads as reads
-use Rattle.lexing.proofs.strings.piece_end.Lts as lts
+use mathlib.Core.Path.{sym, ap}
+use Rattle.lexing.specs.answers.{pieceEnd}
 
--- src/strings.rt:79:21
 enum-known-p : tie.Need-enum-known-p
 enum-known-p c = search needs
 
--- src/strings.rt:80:21
 enum-known-p-2 : tie.Need-enum-known-p-2
 enum-known-p-2 c = search needs
 
--- src/strings.rt:75:1
 returns : tie.Need-returns
-returns c = ?
+returns c = sym (ap pieceEnd (c .before .p .given .1))
 
--- src/strings.rt:75:1
 returns-2 : tie.Need-returns-2
-returns-2 c = search needs
+returns-2 c = sym (ap pieceEnd (c .before .p2 .given .1))
 
 pub piece-end-spec : {M : Type 1} → statement M
 piece-end-spec = tie.close (tie.spec enum-known-p enum-known-p-2 returns returns-2)

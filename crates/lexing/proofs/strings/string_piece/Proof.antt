@@ -1,73 +1,55 @@
 use borrow.Author.Needs.{needs}
 use Rattle.lexing.proofs.strings.string_piece.Statement.{statement}
 use Rattle.lexing.proofs.strings.string_piece.Tie as tie
-use Rattle.lexing.proofs.strings.string_piece.Reads as reads
-use Rattle.lexing.proofs.strings.string_piece.Lts as lts
-use Rattle.lexing.proofs.strings.escape_of.Reads as escape-of-reads
+use native.Mathlib.Omega.{arith}
+use Rattle.lexing.specs.answers.{escapesOf}
+use Rattle.lexing.specs.declared.strings.Escaped.the-variants.{Allowed, Forbidden, Panics}
+use Rattle.lexing.proofs.strings.Laws.{piece-out, piece-quote, piece-byte, piece-escape}
 
--- src/strings.rt:55:9
 returns : tie.Need-returns
-returns c = ?
+returns c = piece-out (escapesOf (c .before .before .args .default)) _ _ (omega arith) λ h. absurd (omega arith)
 
--- src/strings.rt:57:13
 shared-slice-read-x : tie.Need-shared-slice-read-x
 shared-slice-read-x c = search needs
 
--- src/strings.rt:59:39
-add-t12 : tie.Need-add-t12
-add-t12 c = search needs
+add-next : tie.Need-add-next
+add-next c = search needs
 
--- src/strings.rt:59:9
 returns-2 : tie.Need-returns-2
-returns-2 c = ?
+returns-2 c = piece-quote (escapesOf (c .before .before .before .before .args .default)) _ _ (c .if2 .taken)
 
--- src/strings.rt:62:28
-add-t14 : tie.Need-add-t14
-add-t14 c = search needs
-
--- src/strings.rt:62:9
 returns-3 : tie.Need-returns-3
-returns-3 c = ?
+returns-3 c = piece-byte (escapesOf (c .before .before .before .before .before .args .default)) _ _ (omega arith) (c .before .if2 .left) (c .if3 .taken)
 
--- src/strings.rt:65:9
 returns-4 : tie.Need-returns-4
-returns-4 c = ?
+returns-4 c = piece-out (escapesOf (c .before .before .before .before .before .before .args .default)) _ _ (omega arith) λ h. c .before .if3 .left
 
--- src/strings.rt:67:32
 shared-slice-read-escape-of : tie.Need-shared-slice-read-escape-of
 shared-slice-read-escape-of c = search needs
 
--- src/strings.rt:67:9
 escape-of-requires : tie.Need-escape-of-requires
 escape-of-requires c κs = search needs
 
--- src/strings.rt:69:41
 enum-told : tie.Need-enum-told
 enum-told c = search needs
 
--- src/strings.rt:69:41
-add-t19 : tie.Need-add-t19
-add-t19 c = search needs
+add-t18 : tie.Need-add-t18
+add-t18 c = search needs
 
--- src/strings.rt:70:53
 enum-told-2 : tie.Need-enum-told-2
 enum-told-2 c = search needs
 
--- src/strings.rt:71:50
 enum-told-3 : tie.Need-enum-told-3
 enum-told-3 c = search needs
 
--- src/strings.rt:50:1
 returns-5 : tie.Need-returns-5
-returns-5 c = ?
+returns-5 c = piece-escape (escapesOf (c .before .before .before .before .before .before .before .before .before .before .args .default)) _ _ (omega arith) (c .before .before .before .before .before .if3 .left) Allowed (c .enum-told .given .1) (c .before .before .escape-of .ensures)
 
--- src/strings.rt:50:1
 returns-6 : tie.Need-returns-6
-returns-6 c = ?
+returns-6 c = piece-escape (escapesOf (c .before .before .before .before .before .before .before .before .before .before .args .default)) _ _ (omega arith) (c .before .before .before .before .before .if3 .left) Forbidden (c .enum-told2 .given .1) (c .before .before .escape-of .ensures)
 
--- src/strings.rt:50:1
 returns-7 : tie.Need-returns-7
-returns-7 c = ?
+returns-7 c = piece-escape (escapesOf (c .before .before .before .before .before .before .before .before .before .before .args .default)) _ _ (omega arith) (c .before .before .before .before .before .if3 .left) Panics (c .enum-told3 .given .1) (c .before .before .escape-of .ensures)
 
 pub string-piece-spec : {M : Type 1} → statement M
 string-piece-spec =
@@ -75,15 +57,14 @@ string-piece-spec =
     (tie.spec
     returns
     shared-slice-read-x
-    add-t12
+    add-next
     returns-2
-    add-t14
     returns-3
     returns-4
     shared-slice-read-escape-of
     escape-of-requires
     enum-told
-    add-t19
+    add-t18
     enum-told-2
     enum-told-3
     returns-5

@@ -1,0 +1,2 @@
+-- The laws of strings.
+pub mod Laws

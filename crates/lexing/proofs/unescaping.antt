@@ -1,0 +1,3 @@
+-- Laws of unescaping, and its known answers.
+pub mod Laws
+pub mod KnownAnswers
