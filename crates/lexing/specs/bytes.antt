@@ -2,6 +2,8 @@
 use Prim.Native.Nat.{ℕ, _+_, _*_, _-_}
 use mathlib.Core.Bool.{Bool, true, false, _&&_, _||_, not}
 use mathlib.Core.List.{List, [], _∷_}
+use Prim.Native.Char.{code}
+use Prim.Native.String.{String, [] as nil, _∷_ as _then_}
 use lib.Dec.{leb, eqb}
 
 -- ASCII
@@ -85,3 +87,8 @@ digit x = elim (isDigit x) [ true ↦ x - 0x30 | false ↦ elim (within 0x61 0x6
 unfoldable pub number : ℕ → ℕ → List ℕ → ℕ
 number radix v [] = v
 number radix v (x ∷ u) = number radix (v * radix + digit x) u
+
+-- the bytes of an ASCII text
+abbrev pub ascii : String → List ℕ
+ascii nil = []
+ascii (_then_ c s) = code c ∷ ascii s

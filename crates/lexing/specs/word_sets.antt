@@ -1,8 +1,10 @@
 -- Word sets: `keywords_set!`, parser.rs line 621.
-use Prim.Native.Nat.{ℕ}
+use Prim.Native.Nat.{ℕ, _+_, _*_, _^_}
 use mathlib.Core.Bool.{Bool, true, false, _&&_, _||_}
-use mathlib.Core.List.{List, [], _∷_, map}
+use mathlib.Core.List.{List, [], _∷_}
 use lib.Dec.{eqb}
+use lib.ListN.{length, getD}
+use Rattle.lexing.specs.bytes.{ascii}
 use Rattle.lexing.specs.reply.{Parser, ret, _>>=_, _>>_, iter, keep}
 use Rattle.lexing.specs.words.{Word, bytesOf, any-keyword}
 use Rattle.lexing.specs.blanks.{whitespace1}
@@ -32,3 +34,31 @@ same-bytes (x ∷ u) (y ∷ v) = eqb x y && same-bytes u v
 unfoldable pub contains : List Word → List ℕ → Bool
 contains [] k = false
 contains (w ∷ ws) k = same-bytes (bytesOf w) k || contains ws k
+
+-- one bit a keyword, that of the first keyword the highest
+unfoldable pub bit : Bool → ℕ
+bit true = 1
+bit false = 0
+
+unfoldable pub flags : List (List ℕ) → List Word → ℕ
+flags [] ws = 0
+flags (k ∷ ks) ws = bit (contains ws k) * 2 ^ length ks + flags ks ws
+
+-- the sets that the Rust reads, by number: of a struct's field, a struct, an event, a command, an attribute
+unfoldable pub sets : List (List (List ℕ))
+sets =
+    (ascii "optional" ∷ ascii "nullable" ∷ ascii "fabric_sensitive" ∷ []) ∷
+    (ascii "fabric_scoped" ∷ []) ∷
+    (ascii "fabric_sensitive" ∷ []) ∷
+    (ascii "timed" ∷ ascii "fabric" ∷ []) ∷
+    (ascii "readonly" ∷ ascii "writeonly" ∷ ascii "nosubscribe" ∷ ascii "timedwrite" ∷ []) ∷
+    []
+
+unfoldable pub set-of : ℕ → List (List ℕ)
+set-of n = getD sets n []
+
+-- the flags of a set
+unfoldable pub set-flags : ℕ → Parser ℕ
+set-flags n = do
+  ws ← keywords-set (set-of n)
+  ret (flags (set-of n) ws)

@@ -322,8 +322,7 @@ module _ (b : ℕ) (u : List ℕ) (t : Blank) (i : BlanksAt b u t) (r : Turn) (h
       let w = rw (sym h') at (one-blank-chain (docOf (t .doc)) .chain 0 (t .next) v) in
       let l : length (drop (t' .next - t .next) v) < length v = rw (sym h') at (one-blank-consumes (docOf (t .doc)) .consumes (t .next) v) in
       let m = iter-more one-blank keep one-blank-consumes (docOf (t .doc)) (t .next) v (docOf (t' .doc)) (t' .next) (drop (t' .next - t .next) v) (sym h') in
-      let up : t .next < t' .next = omega (arith, w .1, l) in
-      (
+      let up : t .next < t' .next = omega (arith, w .1, l) in (
         record {
           from = omega (arith, i .from, up);
           inside = omega (arith, w .1, length-drop (t .next - b) u, i .from, i .inside);

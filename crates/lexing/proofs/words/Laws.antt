@@ -115,7 +115,7 @@ module _ (k : List ℕ) (b : ℕ) (u : List ℕ) (letter : isLetter (getD u 0 0)
     key-more e w =
         let l : i < length u = passed-inside isWord no-word i u w in
         let s : isKeyword (takeWhile isWord (drop i u)) (drop i k) ≡ isKeyword (takeWhile isWord (drop (suc i) u)) (drop (suc i) k) =
-          rw (drop-cons k i 0, drop-cons u i 0) (rw (run-cons isWord (getD u i 0) (drop (suc i) u) w) (rw (eq-eqb _ _ e))) in
+        rw (drop-cons k i 0, drop-cons u i 0) (rw (run-cons isWord (getD u i 0) (drop (suc i) u) w) (rw (eq-eqb _ _ e))) in
         record { inside = omega arith; run = runs-more isWord u i (h .run) l w; left = rw add-one (sym s ∙ h .left) }
 
   module _ (le : length k ≤ i) where
