@@ -1,7 +1,8 @@
 // Integers.
 ghost use mathlib.Core.Path.{_≡_};
-ghost use mathlib.Core.Bool.{true};
-ghost use Prim.Native.Nat.{_+_, _≤_, _<_};
+ghost use mathlib.Core.Bool.{true, _||_};
+ghost use Prim.Native.Nat.{_+_, _*_, _/_, _≤_, _<_};
+ghost use lib.Dec.{eqb, leb};
 ghost use lib.ListN.{length, drop};
 ghost use Rattle.lexing.specs.bytes.{isDigit, digit};
 ghost use Rattle.lexing.specs.integers.{u64-max, hex-integer, decimal-integer, positive-integer, signed-integer, largest, after-sign};
@@ -62,6 +63,26 @@ fn radix_of(hex: bool) -> u64
     10
 }
 
+// The largest value to which one more digit can be put.
+fn most_of(hex: bool) -> u64
+    ensures { λ r. ⌜ r ≡ u64-max / radix hex ⌝ }
+{
+    if hex {
+        return 0x0fff_ffff_ffff_ffff;
+    }
+    0x1999_9999_9999_9999
+}
+
+// Whether a value stays below 2^64 with one more digit.
+fn fits_with(hex: bool, v: u64, d: u64) -> bool
+    ensures { λ r. ⌜ r ≡ leb (v * radix hex + d) u64-max ⌝ }
+{
+    if most_of(hex) < v {
+        return false;
+    }
+    v * radix_of(hex) <= 0xffff_ffff_ffff_ffff - d
+}
+
 // The digits at the front; it ends at the first digit with which the value is too large.
 fn read_digits(part: &[u8], hex: bool) -> Digits
     ensures { λ r. ⌜ digitsAre hex (now (part .entry)) r ⌝ }
@@ -75,13 +96,22 @@ fn read_digits(part: &[u8], hex: bool) -> Digits
             return Digits::Count(v, i);
         }
         let d = digit_of(hex, x);
-        if (0xffff_ffff_ffff_ffff - d) / base < v {
+        if !fits_with(hex, v, d) {
             return Digits::Over;
         }
         v = v * base + d;
         i += 1;
     }
     Digits::Count(v, i)
+}
+
+fn is_x(x: u8) -> bool
+    ensures { λ r. ⌜ r ≡ (eqb x 0x78 || eqb x 0x58) ⌝ }
+{
+    if x == b'x' {
+        return true;
+    }
+    x == b'X'
 }
 
 // Whether `0x` or `0X` and a hexadecimal digit stand at the front.
@@ -91,14 +121,10 @@ fn is_hex_ahead(part: &[u8]) -> bool
     if peek(part, 0) != b'0' {
         return false;
     }
-    let x = peek(part, 1);
-    if x == b'x' {
-        return is_hex(peek(part, 2));
+    if !is_x(peek(part, 1)) {
+        return false;
     }
-    if x == b'X' {
-        return is_hex(peek(part, 2));
-    }
-    false
+    is_hex(peek(part, 2))
 }
 
 fn hex_integer(part: &[u8], base: usize) -> Number

@@ -1,65 +1,52 @@
 use borrow.Author.Needs.{needs}
 use Rattle.lexing.proofs.integers.after_sign.Statement.{statement}
 use Rattle.lexing.proofs.integers.after_sign.Tie as tie
-use Rattle.lexing.proofs.integers.after_sign.Reads as reads
-use Rattle.lexing.proofs.integers.after_sign.Lts as lts
-use Rattle.lexing.proofs.bytes.is_digit.Reads as is-digit-reads
-use Rattle.lexing.proofs.integers.largest_of.Reads as largest-of-reads
-use Rattle.lexing.proofs.integers.read_digits.Reads as read-digits-reads
-use Rattle.lexing.proofs.parts.after.Reads as after-reads
-use Rattle.lexing.proofs.parts.peek.Reads as peek-reads
+use mathlib.Core.Path.{sym, _∙_, ap}
+use mathlib.Core.Bool.{false}
+use native.Mathlib.Omega.{arith}
+use denote.Ref.{now}
+use borrow.Author.Tests.{not-true, not-false}
+use Rattle.lexing.specs.bytes.{isDigit}
+use Rattle.lexing.proofs.integers.Laws.{digits-inside, sign-alone, signed-over, signed-beyond, signed-value}
 
--- src/integers.rt:156:9
 after-requires : tie.Need-after-requires
 after-requires c κs = search needs
 
--- src/integers.rt:157:18
 peek-requires : tie.Need-peek-requires
 peek-requires c κs = search needs
 
--- src/integers.rt:157:9
 is-digit-requires : tie.Need-is-digit-requires
 is-digit-requires c κs = search needs
 
--- src/integers.rt:158:9
 returns : tie.Need-returns
-returns c = ?
+returns c = sign-alone _ _ (now (c .before .before .before .before .before .args .part)) _ (c .before .before .before .after .ensures) (ap isDigit (sym (c .before .before .peek .ensures)) ∙ (sym (c .before .is-digit .ensures) ∙ not-true _ (c .if1 .taken)))
 
--- src/integers.rt:160:9
 read-digits-requires : tie.Need-read-digits-requires
 read-digits-requires c κs = search needs
 
--- src/integers.rt:161:23
 enum-known-d : tie.Need-enum-known-d
 enum-known-d c = search needs
 
--- src/integers.rt:162:39
 enum-told : tie.Need-enum-told
 enum-told c = search needs
 
--- src/integers.rt:162:9
 returns-2 : tie.Need-returns-2
-returns-2 c = ?
+returns-2 c = signed-over _ _ (now (c .before .before .before .before .before .before .before .before .args .part)) _ (c .before .before .before .before .before .before .after .ensures) (ap isDigit (sym (c .before .before .before .before .before .peek .ensures)) ∙ (sym (c .before .before .before .before .is-digit .ensures) ∙ not-false _ (c .before .before .before .if1 .left))) _ (c .before .before .read-digits .ensures) (c .enum-told .given .1)
 
--- src/integers.rt:164:8
 largest-of-requires : tie.Need-largest-of-requires
 largest-of-requires c κs = search needs
 
--- src/integers.rt:165:9
 returns-3 : tie.Need-returns-3
-returns-3 c = ?
+returns-3 c = signed-beyond _ _ (now (c .before .before .before .before .before .before .before .before .before .before .before .args .part)) _ (c .before .before .before .before .before .before .before .before .before .after .ensures) (ap isDigit (sym (c .before .before .before .before .before .before .before .before .peek .ensures)) ∙ (sym (c .before .before .before .before .before .before .before .is-digit .ensures) ∙ not-false _ (c .before .before .before .before .before .before .if1 .left))) _ (c .before .before .before .before .before .read-digits .ensures) (c .before .before .before .d .given .1) _ (c .before .largest-of .ensures) (c .if2 .taken)
 
--- src/integers.rt:167:46
 add-t15 : tie.Need-add-t15
-add-t15 c = search needs
+add-t15 c = omega (arith, digits-inside false _ _ (c .before .before .before .before .before .read-digits .ensures) (c .before .before .before .d .given .1) 1 (now (c .before .before .before .before .before .before .before .before .before .before .before .args .part)) (c .before .before .before .before .before .before .before .before .before .before .before .pre .1) (c .before .before .before .before .before .before .before .before .before .after .ensures), c .before .before .before .before .before .before .before .before .before .before .before .pre .0)
 
--- src/integers.rt:167:38
 add-t16 : tie.Need-add-t16
-add-t16 c = search needs
+add-t16 c = omega (arith, digits-inside false _ _ (c .before .before .before .before .before .read-digits .ensures) (c .before .before .before .d .given .1) 1 (now (c .before .before .before .before .before .before .before .before .before .before .before .args .part)) (c .before .before .before .before .before .before .before .before .before .before .before .pre .1) (c .before .before .before .before .before .before .before .before .before .after .ensures), c .before .before .before .before .before .before .before .before .before .before .before .pre .0)
 
--- src/integers.rt:151:1
 returns-4 : tie.Need-returns-4
-returns-4 c = ?
+returns-4 c = signed-value _ _ (now (c .before .before .before .before .before .before .before .before .before .before .before .args .part)) _ (c .before .before .before .before .before .before .before .before .before .after .ensures) (ap isDigit (sym (c .before .before .before .before .before .before .before .before .peek .ensures)) ∙ (sym (c .before .before .before .before .before .before .before .is-digit .ensures) ∙ not-false _ (c .before .before .before .before .before .before .if1 .left))) _ (c .before .before .before .before .before .read-digits .ensures) (c .before .before .before .d .given .1) _ (c .before .largest-of .ensures) (c .if2 .left)
 
 pub after-sign-spec : {M : Type 1} → statement M
 after-sign-spec =

@@ -1,47 +1,41 @@
 use borrow.Author.Needs.{needs}
 use Rattle.lexing.proofs.integers.decimal_integer.Statement.{statement}
 use Rattle.lexing.proofs.integers.decimal_integer.Tie as tie
-use Rattle.lexing.proofs.integers.decimal_integer.Reads as reads
-use Rattle.lexing.proofs.integers.decimal_integer.Lts as lts
-use Rattle.lexing.proofs.bytes.is_digit.Reads as is-digit-reads
-use Rattle.lexing.proofs.integers.read_digits.Reads as read-digits-reads
-use Rattle.lexing.proofs.parts.peek.Reads as peek-reads
+use mathlib.Core.Path.{refl, sym, _∙_, ap}
+use mathlib.Core.Bool.{false}
+use Prim.Native.Nat.{zero-le}
+use native.Mathlib.Omega.{arith}
+use denote.Ref.{now}
+use borrow.Author.Tests.{not-true, not-false}
+use Rattle.lexing.specs.bytes.{isDigit}
+use Rattle.lexing.proofs.integers.Laws.{digits-inside, decimal-no, integer-over, integer-value}
 
--- src/integers.rt:120:18
 peek-requires : tie.Need-peek-requires
 peek-requires c κs = search needs
 
--- src/integers.rt:120:9
 is-digit-requires : tie.Need-is-digit-requires
 is-digit-requires c κs = search needs
 
--- src/integers.rt:121:9
 returns : tie.Need-returns
-returns c = ?
+returns c = decimal-no _ _ (ap isDigit (sym (c .before .before .peek .ensures)) ∙ (sym (c .before .is-digit .ensures) ∙ not-true _ (c .if1 .taken)))
 
--- src/integers.rt:123:9
 read-digits-requires : tie.Need-read-digits-requires
 read-digits-requires c κs = search needs
 
--- src/integers.rt:124:23
 enum-known-d : tie.Need-enum-known-d
 enum-known-d c = search needs
 
--- src/integers.rt:125:33
 enum-told : tie.Need-enum-told
 enum-told c = search needs
 
--- src/integers.rt:125:9
 returns-2 : tie.Need-returns-2
-returns-2 c = ?
+returns-2 c = integer-over false _ (now (c .before .before .before .before .before .before .before .args .part)) _ (ap isDigit (sym (c .before .before .before .before .before .peek .ensures)) ∙ (sym (c .before .before .before .before .is-digit .ensures) ∙ not-false _ (c .before .before .before .if1 .left))) refl _ (c .before .before .read-digits .ensures) (c .enum-told .given .1)
 
--- src/integers.rt:127:22
 add-t11 : tie.Need-add-t11
-add-t11 c = search needs
+add-t11 c = omega (arith, digits-inside false _ _ (c .before .before .before .read-digits .ensures) (c .before .d .given .1) 0 (now (c .before .before .before .before .before .before .before .before .args .part)) zero-le refl)
 
--- src/integers.rt:116:1
 returns-3 : tie.Need-returns-3
-returns-3 c = ?
+returns-3 c = integer-value false _ (now (c .before .before .before .before .before .before .before .before .args .part)) _ (ap isDigit (sym (c .before .before .before .before .before .before .peek .ensures)) ∙ (sym (c .before .before .before .before .before .is-digit .ensures) ∙ not-false _ (c .before .before .before .before .if1 .left))) refl _ (c .before .before .before .read-digits .ensures) (c .before .d .given .1) _ (omega arith)
 
 pub decimal-integer-spec : {M : Type 1} → statement M
 decimal-integer-spec =

@@ -1,62 +1,49 @@
 use borrow.Author.Needs.{needs}
 use Rattle.lexing.proofs.integers.digit_of.Statement.{statement}
 use Rattle.lexing.proofs.integers.digit_of.Tie as tie
-use Rattle.lexing.proofs.integers.digit_of.Reads as reads
-use Rattle.lexing.proofs.integers.digit_of.Lts as lts
-use Rattle.lexing.proofs.bytes.is_between.Reads as is-between-reads
-use Rattle.lexing.proofs.bytes.is_digit.Reads as is-digit-reads
+use mathlib.Core.Path.{sym, _∙_}
+use native.Mathlib.Omega.{arith}
+use Rattle.lexing.proofs.Tests.{within-of}
+use Rattle.lexing.proofs.integers.Laws.{digit-low, digit-decimal, digit-small, digit-capital, capital-low}
 
--- src/integers.rt:44:8
 is-digit-requires : tie.Need-is-digit-requires
 is-digit-requires c κs = search needs
 
--- src/integers.rt:45:17
 sub-result : tie.Need-sub-result
-sub-result c = search needs
+sub-result c = omega (arith, digit-low (c .before .before .args .x) (sym (c .before .is-digit .ensures) ∙ c .if1 .taken))
 
--- src/integers.rt:45:16
 cast-result : tie.Need-cast-result
 cast-result c = search needs
 
--- src/integers.rt:45:9
 returns : tie.Need-returns
-returns c = ?
+returns c = digit-decimal (c .before .before .args .x) (sym (c .before .is-digit .ensures) ∙ c .if1 .taken)
 
--- src/integers.rt:47:8
 is-between-requires : tie.Need-is-between-requires
 is-between-requires c κs = search needs
 
--- src/integers.rt:48:17
 sub-result-2 : tie.Need-sub-result-2
-sub-result-2 c = search needs
+sub-result-2 c = omega (arith, within-of 0x61 0x66 (c .before .before .before .before .args .x) (sym (c .before .is-between .ensures) ∙ c .if2 .taken))
 
--- src/integers.rt:48:17
 add-result : tie.Need-add-result
-add-result c = search needs
+add-result c = omega (arith, within-of 0x61 0x66 (c .before .before .before .before .args .x) (sym (c .before .is-between .ensures) ∙ c .if2 .taken))
 
--- src/integers.rt:48:16
 cast-result-2 : tie.Need-cast-result-2
 cast-result-2 c = search needs
 
--- src/integers.rt:48:9
 returns-2 : tie.Need-returns-2
-returns-2 c = ?
+returns-2 c = digit-small (c .before .before .before .before .args .x) (sym (c .before .before .before .is-digit .ensures) ∙ c .before .before .if1 .left) (sym (c .before .is-between .ensures) ∙ c .if2 .taken)
 
--- src/integers.rt:50:6
 sub-result-3 : tie.Need-sub-result-3
-sub-result-3 c = search needs
+sub-result-3 c = omega (arith, capital-low (c .before .before .before .before .args .x) (sym (c .before .before .before .is-digit .ensures) ∙ c .before .before .if1 .left) (sym (c .before .is-between .ensures) ∙ c .if2 .left) (c .before .before .before .before .args .hex) (c .before .before .before .before .pre))
 
--- src/integers.rt:50:6
 add-result-2 : tie.Need-add-result-2
-add-result-2 c = search needs
+add-result-2 c = omega (arith, capital-low (c .before .before .before .before .args .x) (sym (c .before .before .before .is-digit .ensures) ∙ c .before .before .if1 .left) (sym (c .before .is-between .ensures) ∙ c .if2 .left) (c .before .before .before .before .args .hex) (c .before .before .before .before .pre))
 
--- src/integers.rt:50:5
 cast-result-3 : tie.Need-cast-result-3
 cast-result-3 c = search needs
 
--- src/integers.rt:40:1
 returns-3 : tie.Need-returns-3
-returns-3 c = ?
+returns-3 c = digit-capital (c .before .before .before .before .args .x) (sym (c .before .before .before .is-digit .ensures) ∙ c .before .before .if1 .left) (sym (c .before .is-between .ensures) ∙ c .if2 .left)
 
 pub digit-of-spec : {M : Type 1} → statement M
 digit-of-spec =

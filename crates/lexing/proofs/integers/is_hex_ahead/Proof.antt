@@ -1,50 +1,32 @@
 use borrow.Author.Needs.{needs}
 use Rattle.lexing.proofs.integers.is_hex_ahead.Statement.{statement}
 use Rattle.lexing.proofs.integers.is_hex_ahead.Tie as tie
-use Rattle.lexing.proofs.integers.is_hex_ahead.Reads as reads
-use Rattle.lexing.proofs.integers.is_hex_ahead.Lts as lts
-use Rattle.lexing.proofs.bytes.is_hex.Reads as is-hex-reads
-use Rattle.lexing.proofs.parts.peek.Reads as peek-reads
+use borrow.Author.Tests.{not-true, not-false}
+use Rattle.lexing.proofs.integers.Laws.{no-zero, no-x, by-third}
 
--- src/integers.rt:88:8
 peek-requires : tie.Need-peek-requires
 peek-requires c κs = search needs
 
--- src/integers.rt:89:9
 returns : tie.Need-returns
-returns c = ?
+returns c = no-zero _ _ (c .before .peek .ensures) (c .if1 .taken)
 
--- src/integers.rt:91:9
 peek-requires-2 : tie.Need-peek-requires-2
 peek-requires-2 c κs = search needs
 
--- src/integers.rt:93:23
+is-x-requires : tie.Need-is-x-requires
+is-x-requires c κs = search needs
+
+returns-2 : tie.Need-returns-2
+returns-2 c = no-x _ _ (c .before .before .before .before .peek .ensures) (c .before .before .before .if1 .left) _ (c .before .before .peek2 .ensures) _ (c .before .is-x .ensures) (not-true _ (c .if2 .taken))
+
 peek-requires-3 : tie.Need-peek-requires-3
 peek-requires-3 c κs = search needs
 
--- src/integers.rt:93:9
 is-hex-requires : tie.Need-is-hex-requires
 is-hex-requires c κs = search needs
 
--- src/integers.rt:93:9
-returns-2 : tie.Need-returns-2
-returns-2 c = ?
-
--- src/integers.rt:96:23
-peek-requires-4 : tie.Need-peek-requires-4
-peek-requires-4 c κs = search needs
-
--- src/integers.rt:96:9
-is-hex-requires-2 : tie.Need-is-hex-requires-2
-is-hex-requires-2 c κs = search needs
-
--- src/integers.rt:96:9
 returns-3 : tie.Need-returns-3
-returns-3 c = ?
-
--- src/integers.rt:85:1
-returns-4 : tie.Need-returns-4
-returns-4 c = ?
+returns-3 c = by-third _ _ (c .before .before .before .before .before .before .peek .ensures) (c .before .before .before .before .before .if1 .left) _ (c .before .before .before .before .peek2 .ensures) _ (c .before .before .before .is-x .ensures) (not-false _ (c .before .before .if2 .left)) _ (c .before .peek3 .ensures) _ (c .is-hex .ensures)
 
 pub is-hex-ahead-spec : {M : Type 1} → statement M
 is-hex-ahead-spec =
@@ -53,10 +35,8 @@ is-hex-ahead-spec =
     peek-requires
     returns
     peek-requires-2
+    is-x-requires
+    returns-2
     peek-requires-3
     is-hex-requires
-    returns-2
-    peek-requires-4
-    is-hex-requires-2
-    returns-3
-    returns-4)
+    returns-3)

@@ -1,22 +1,18 @@
 use borrow.Author.Needs.{needs}
 use Rattle.lexing.proofs.integers.number_lost.Statement.{statement}
 use Rattle.lexing.proofs.integers.number_lost.Tie as tie
-use Rattle.lexing.proofs.integers.number_lost.Reads as reads
-use Rattle.lexing.proofs.integers.number_lost.Lts as lts
+use mathlib.Core.Path.{sym, ap}
+use Rattle.lexing.specs.answers.{numberLost}
 
--- src/integers.rt:185:26
 enum-known-r : tie.Need-enum-known-r
 enum-known-r c = search needs
 
--- src/integers.rt:186:26
 enum-known-r-2 : tie.Need-enum-known-r-2
 enum-known-r-2 c = search needs
 
--- src/integers.rt:181:1
 returns : tie.Need-returns
-returns c = ?
+returns c = sym (ap numberLost (c .before .r .given .1))
 
--- src/integers.rt:181:1
 returns-2 : tie.Need-returns-2
 returns-2 c = search needs
 

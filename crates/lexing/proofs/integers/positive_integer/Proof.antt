@@ -1,31 +1,23 @@
 use borrow.Author.Needs.{needs}
 use Rattle.lexing.proofs.integers.positive_integer.Statement.{statement}
 use Rattle.lexing.proofs.integers.positive_integer.Tie as tie
-use Rattle.lexing.proofs.integers.positive_integer.Reads as reads
-use Rattle.lexing.proofs.integers.positive_integer.Lts as lts
-use Rattle.lexing.proofs.integers.decimal_integer.Reads as decimal-integer-reads
-use Rattle.lexing.proofs.integers.hex_integer.Reads as hex-integer-reads
-use Rattle.lexing.proofs.integers.is_hex_ahead.Reads as is-hex-ahead-reads
+use mathlib.Core.Path.{sym, _∙_}
+use Rattle.lexing.proofs.integers.Laws.{hex-first, then-decimal}
 
--- src/integers.rt:134:8
 is-hex-ahead-requires : tie.Need-is-hex-ahead-requires
 is-hex-ahead-requires c κs = search needs
 
--- src/integers.rt:135:9
 hex-integer-requires : tie.Need-hex-integer-requires
-hex-integer-requires c κs = search needs
+hex-integer-requires c κs = (c .before .before .before .pre, sym (c .before .is-hex-ahead .ensures) ∙ c .if1 .taken)
 
--- src/integers.rt:135:9
 returns : tie.Need-returns
-returns c = ?
+returns c = c .hex-integer .ensures ∙ hex-first _ _ (sym (c .before .before .is-hex-ahead .ensures) ∙ c .before .if1 .taken)
 
--- src/integers.rt:137:5
 decimal-integer-requires : tie.Need-decimal-integer-requires
 decimal-integer-requires c κs = search needs
 
--- src/integers.rt:130:1
 returns-2 : tie.Need-returns-2
-returns-2 c = ?
+returns-2 c = c .decimal-integer .ensures ∙ then-decimal _ _ (sym (c .before .before .is-hex-ahead .ensures) ∙ c .before .if1 .left)
 
 pub positive-integer-spec : {M : Type 1} → statement M
 positive-integer-spec =

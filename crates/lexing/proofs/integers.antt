@@ -1,0 +1,2 @@
+-- The laws of integers.
+pub mod Laws
