@@ -1,5 +1,8 @@
 // Known answers of the tokens: each line of standard input is the letter of a reader, a space and a text; the line comes back with the
 // reader's answer. In a text `\n`, `\t`, `\\` and `\"` stand for LF, TAB, backslash and quote.
+ghost use Prim.Native.Nat.{_+_, _≤_};
+ghost use lib.ListN.{length};
+ghost use Rattle.lexing.specs.integers.{u64-max};
 use lexing::answers::Lost;
 use lexing::answers::Step;
 use lexing::blanks::Blank;
@@ -9,7 +12,6 @@ use lexing::integers::Number;
 use lexing::integers::SignedNumber;
 use lexing::unescaping::Unescaping;
 use lexing::utf8::Utf8;
-use lexing::word_sets::WordSet;
 
 const OUT: i32 = 1;
 
@@ -89,11 +91,6 @@ fn print_utf8(r: Utf8) {
     }
 }
 
-fn print_set(r: WordSet) {
-    print_number(b" flags ", r.flags as usize);
-    print_number(b" next ", r.next);
-}
-
 // Into eight bytes of output.
 fn print_unescaped(text: &[u8]) {
     let mut output = [b'.'; 8];
@@ -123,7 +120,6 @@ fn print_answer(reader: u8, part: &[u8], base: usize)
         b'a' => print_step(lexing::strings::quoted_string(part, base)),
         b'd' => print_step(lexing::strings::default_string(part, base)),
         b'u' => print_utf8(lexing::utf8::utf8_error(part, base)),
-        b'0'..=b'4' => print_set(lexing::word_sets::keywords_set(part, base, reader - b'0')),
         _ => {
             io::write_all(OUT, b" no such reader");
         }
@@ -134,15 +130,24 @@ fn print_answer(reader: u8, part: &[u8], base: usize)
 fn print_part(letter: u8, text: &[u8]) {
     if lexing::bytes::is_between(b'A', b'Z', letter) {
         if 3 <= text.len() {
-            print_answer(letter + 32, &text[3..], 3);
+            print_answer(lexing::bytes::lower_of(letter), &text[3..], 3);
             return;
         }
     }
     print_answer(letter, text, 0);
 }
 
+// The first n bytes, or all where there are fewer.
+fn front(text: &[u8], n: usize) -> &[u8] {
+    if n < text.len() {
+        return &text[..n];
+    }
+    text
+}
+
 // A line without its line feed.
-fn print_line(line: &[u8], text: &mut [u8]) {
+fn print_line(line: &[u8]) {
+    let mut text = [0u8; 256];
     io::write_all(OUT, line);
     io::write_all(OUT, b" ->");
     let letter = lexing::parts::peek(line, 0);
@@ -152,14 +157,12 @@ fn print_line(line: &[u8], text: &mut [u8]) {
         io::write_all(OUT, b"\n");
         return;
     }
-    let r = lexing::unescaping::unescape(raw, text);
+    let r = lexing::unescaping::unescape(raw, &mut text);
     let Unescaping::Written(n) = r else {
         io::write_all(OUT, b" no text\n");
         return;
     };
-    if n <= text.len() {
-        print_part(letter, &text[..n]);
-    }
+    print_part(letter, front(&text, n));
     io::write_all(OUT, b"\n");
 }
 
@@ -177,17 +180,22 @@ fn line_length(part: &[u8]) -> usize
     i
 }
 
-fn main() {
-    let mut input = [0u8; 16384];
-    let mut space = [0u8; 256];
-    let text: &mut [u8] = &mut space;
-    let size = io::read_full(0, &mut input);
-    let lines = &input[..size];
+fn print_lines(lines: &[u8]) {
     let mut at = 0;
     while at < lines.len() {
-        let rest = &lines[at..];
+        let rest = lexing::parts::rest_at(lines, 0, at);
         let n = line_length(rest);
-        print_line(&rest[..n], text);
-        at += n + 1;
+        print_line(&rest[..n]);
+        at += n;
+        if at == lines.len() {
+            return;
+        }
+        at += 1;
     }
+}
+
+fn main() {
+    let mut input = [0u8; 16384];
+    let n = io::read_full(0, &mut input);
+    print_lines(&input[..n]);
 }
