@@ -1,24 +1,18 @@
 use borrow.Author.Needs.{needs}
 use Rattle.lexing.proofs.answers.step_lost.Statement.{statement}
 use Rattle.lexing.proofs.answers.step_lost.Tie as tie
-use Rattle.lexing.proofs.answers.step_lost.Reads as reads
-use Rattle.lexing.proofs.answers.step_lost.Lts as lts
 use mathlib.Core.Path.{sym, ap}
 use Rattle.lexing.specs.answers.{lostOf}
 
--- src/answers.rt:21:20
 enum-known-r : tie.Need-enum-known-r
 enum-known-r c = search needs
 
--- src/answers.rt:22:19
 enum-known-r-2 : tie.Need-enum-known-r-2
 enum-known-r-2 c = search needs
 
--- src/answers.rt:17:1
 returns : tie.Need-returns
 returns c = sym (ap lostOf (c .before .r .given .1))
 
--- src/answers.rt:17:1
 returns-2 : tie.Need-returns-2
 returns-2 c = search needs
 

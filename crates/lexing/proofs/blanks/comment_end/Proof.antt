@@ -1,10 +1,6 @@
 use borrow.Author.Needs.{needs}
 use Rattle.lexing.proofs.blanks.comment_end.Statement.{statement}
 use Rattle.lexing.proofs.blanks.comment_end.Tie as tie
-use Rattle.lexing.proofs.blanks.comment_end.Reads as reads
-use Rattle.lexing.proofs.blanks.comment_end.Lts as lts
-use Rattle.lexing.proofs.blanks.is_close_at.Reads as is-close-at-reads
-use mathlib.Core.Path.{sym, _∙_}
 use Prim.Native.Nat.{_-_}
 use lib.ListN.{length}
 use Rattle.lexing.proofs.blanks.Laws.{UntilAt, until-start, until-more, until-found, until-end}
@@ -15,31 +11,24 @@ Inv-loop part i₀ i = UntilAt part i
 abbrev μ-loop : tie.MeasureT-loop
 μ-loop part i₀ i = length part - i
 
--- src/blanks.rt:98:5
 loop-holds : tie.Need-loop-holds Inv-loop μ-loop
 loop-holds c = until-start _
 
--- src/blanks.rt:99:12
 is-close-at-requires : tie.Need-is-close-at-requires Inv-loop μ-loop
 is-close-at-requires c κs = search needs
 
--- src/blanks.rt:100:13
 returns : tie.Need-returns Inv-loop μ-loop
 returns c = until-found _ _ (c .before .before .before .loop .inv) (c .before .before .loop-test .taken) _ (c .before .is-close-at .ensures) (c .if1 .taken)
 
--- src/blanks.rt:102:9
 add-i : tie.Need-add-i Inv-loop μ-loop
 add-i c = search needs
 
--- src/blanks.rt:98:5
 loop-less : tie.Need-loop-less Inv-loop μ-loop
 loop-less c = search needs
 
--- src/blanks.rt:98:5
 loop-again : tie.Need-loop-again Inv-loop μ-loop
 loop-again c = until-more _ _ (c .before .before .before .loop .inv) (c .before .before .loop-test .taken) _ (c .before .is-close-at .ensures) (c .if1 .left)
 
--- src/blanks.rt:94:1
 returns-2 : tie.Need-returns-2 Inv-loop μ-loop
 returns-2 c = until-end _ _ (c .before .loop .inv) (c .loop-test .left)
 

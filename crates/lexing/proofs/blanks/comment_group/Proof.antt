@@ -1,86 +1,62 @@
 use borrow.Author.Needs.{needs}
 use Rattle.lexing.proofs.blanks.comment_group.Statement.{statement}
 use Rattle.lexing.proofs.blanks.comment_group.Tie as tie
-use Rattle.lexing.proofs.blanks.comment_group.Reads as reads
-use Rattle.lexing.proofs.blanks.comment_group.Lts as lts
-use Rattle.lexing.proofs.blanks.comment_end.Reads as comment-end-reads
-use Rattle.lexing.proofs.blanks.line_length.Reads as line-length-reads
-use Rattle.lexing.proofs.parts.after.Reads as after-reads
-use Rattle.lexing.proofs.parts.peek.Reads as peek-reads
 use mathlib.Core.Path.{sym, _∙_}
 use native.Mathlib.Omega.{arith}
 use denote.Ref.{now}
 use Rattle.lexing.proofs.blanks.Laws.{group-line, group-bare, line-fits, group-other, group-open, group-short, group-doc, group-plain, closed-fits}
 
--- src/blanks.rt:113:9
 peek-requires : tie.Need-peek-requires
 peek-requires c κs = search needs
 
--- src/blanks.rt:115:29
 after-requires : tie.Need-after-requires
 after-requires c κs = search needs
 
--- src/blanks.rt:115:13
 line-length-requires : tie.Need-line-length-requires
 line-length-requires c κs = search needs
 
--- src/blanks.rt:117:33
 add-t10 : tie.Need-add-t10
 add-t10 c = omega (arith, line-fits (c .before .before .before .before .before .before .args .base) (now (c .before .before .before .before .before .before .args .part)) (c .before .before .before .before .before .before .pre .1) _ (c .before .before .after .ensures) (sym (c .before .before .before .before .peek .ensures) ∙ c .before .before .before .if1 .taken) _ (c .before .line-length .ensures))
 
--- src/blanks.rt:117:13
 returns : tie.Need-returns
 returns c = group-line _ _ (c .before .before .before .before .before .before .pre .1) _ (c .before .before .after .ensures) (sym (c .before .before .before .before .peek .ensures) ∙ c .before .before .before .if1 .taken) _ (c .before .line-length .ensures) (c .if2 .taken)
 
--- src/blanks.rt:119:9
 returns-2 : tie.Need-returns-2
 returns-2 c = group-bare _ _ (c .before .before .before .before .before .before .pre .1) _ (c .before .before .after .ensures) (sym (c .before .before .before .before .peek .ensures) ∙ c .before .before .before .if1 .taken) _ (c .before .line-length .ensures) (c .if2 .left)
 
--- src/blanks.rt:122:9
 returns-3 : tie.Need-returns-3
 returns-3 c = group-other _ _ (c .before .before .before .before .pre .1) _ (c .before .before .peek .ensures) (c .before .if1 .left) (c .if3 .taken)
 
--- src/blanks.rt:124:25
 after-requires-2 : tie.Need-after-requires-2
 after-requires-2 c κs = search needs
 
--- src/blanks.rt:124:9
 comment-end-requires : tie.Need-comment-end-requires
 comment-end-requires c κs = search needs
 
--- src/blanks.rt:125:21
 enum-known-e : tie.Need-enum-known-e
 enum-known-e c = search needs
 
--- src/blanks.rt:126:9
 enum-told : tie.Need-enum-told
 enum-told c = search needs
 
--- src/blanks.rt:126:9
 returns-4 : tie.Need-returns-4
 returns-4 c = group-open _ _ (c .before .before .before .before .before .before .before .before .pre .1) _ (c .before .before .before .after2 .ensures) (sym (c .before .before .before .before .before .before .peek .ensures) ∙ c .before .before .before .before .if3 .left) _ (c .before .before .comment-end .ensures) (c .enum-told .given .1)
 
--- src/blanks.rt:129:9
 returns-5 : tie.Need-returns-5
 returns-5 c = group-short _ _ (c .before .before .before .before .before .before .before .before .before .before .pre .1) _ (c .before .before .before .before .before .after2 .ensures) (sym (c .before .before .before .before .before .before .before .before .peek .ensures) ∙ c .before .before .before .before .before .before .if3 .left) _ (c .before .before .before .before .comment-end .ensures) _ (c .before .before .e .given .1) (c .if4 .taken)
 
--- src/blanks.rt:131:8
 peek-requires-2 : tie.Need-peek-requires-2
 peek-requires-2 c κs = search needs
 
--- src/blanks.rt:132:34
 sub-t13 : tie.Need-sub-t13
 sub-t13 c = search needs
 
--- src/blanks.rt:132:9
 returns-6 : tie.Need-returns-6
 returns-6 c = group-doc _ _ (c .before .before .before .before .before .before .before .before .before .before .before .before .pre .1) _ (c .before .before .before .before .before .before .before .after2 .ensures) (sym (c .before .before .before .before .before .before .before .before .before .before .peek .ensures) ∙ c .before .before .before .before .before .before .before .before .if3 .left) _ (c .before .before .before .before .before .before .comment-end .ensures) _ (c .before .before .before .before .e .given .1) _ (c .before .peek2 .ensures) (c .before .before .if4 .left) (c .if5 .taken)
 
--- src/blanks.rt:134:18
 add-t14 : tie.Need-add-t14
 add-t14 c = omega (arith, closed-fits (c .before .before .before .before .before .before .before .before .before .before .before .before .args .base) (now (c .before .before .before .before .before .before .before .before .before .before .before .before .args .part)) (c .before .before .before .before .before .before .before .before .before .before .before .before .pre .1) _ (c .before .before .before .before .before .before .before .after2 .ensures) (sym (c .before .before .before .before .before .before .before .before .before .before .peek .ensures) ∙ c .before .before .before .before .before .before .before .before .if3 .left) _ (c .before .before .before .before .before .before .comment-end .ensures) _ (c .before .before .before .before .e .given .1))
 
--- src/blanks.rt:108:1
 returns-7 : tie.Need-returns-7
 returns-7 c = group-plain _ _ (c .before .before .before .before .before .before .before .before .before .before .before .before .pre .1) _ (c .before .before .before .before .before .before .before .after2 .ensures) (sym (c .before .before .before .before .before .before .before .before .before .before .peek .ensures) ∙ c .before .before .before .before .before .before .before .before .if3 .left) _ (c .before .before .before .before .before .before .comment-end .ensures) _ (c .before .before .before .before .e .given .1) _ (c .before .peek2 .ensures) (c .if5 .left)
 

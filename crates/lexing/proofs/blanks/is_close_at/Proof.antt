@@ -1,30 +1,21 @@
 use borrow.Author.Needs.{needs}
 use Rattle.lexing.proofs.blanks.is_close_at.Statement.{statement}
 use Rattle.lexing.proofs.blanks.is_close_at.Tie as tie
-use Rattle.lexing.proofs.blanks.is_close_at.Reads as reads
-use Rattle.lexing.proofs.blanks.is_close_at.Lts as lts
-use Rattle.lexing.proofs.parts.peek.Reads as peek-reads
-use borrow.Author.Tests.{ne-eqb, eq-eqb}
 use borrow.Author.Tests.{ne-eqb}
 use Rattle.lexing.proofs.blanks.Laws.{close-second}
 
--- src/blanks.rt:87:8
 shared-slice-read-if1 : tie.Need-shared-slice-read-if1
 shared-slice-read-if1 c = search needs
 
--- src/blanks.rt:88:9
 returns : tie.Need-returns
 returns c = simp (ne-eqb _ _ (c .if1 .taken))
 
--- src/blanks.rt:90:16
 add-peek : tie.Need-add-peek
 add-peek c = search needs
 
--- src/blanks.rt:90:5
 peek-requires : tie.Need-peek-requires
 peek-requires c κs = search needs
 
--- src/blanks.rt:83:1
 returns-2 : tie.Need-returns-2
 returns-2 c = close-second _ _ _ (c .before .if1 .left) (c .peek .ensures)
 

@@ -1,9 +1,6 @@
 use borrow.Author.Needs.{needs}
 use Rattle.lexing.proofs.blanks.line_length.Statement.{statement}
 use Rattle.lexing.proofs.blanks.line_length.Tie as tie
-use Rattle.lexing.proofs.blanks.line_length.Reads as reads
-use Rattle.lexing.proofs.blanks.line_length.Lts as lts
-use Rattle.lexing.proofs.bytes.is_in_line.Reads as is-in-line-reads
 use mathlib.Core.Path.{sym, _∙_}
 use Prim.Native.Nat.{_-_}
 use lib.ListN.{length}
@@ -17,35 +14,27 @@ Inv-loop part i₀ i = RunAt inLine part i
 abbrev μ-loop : tie.MeasureT-loop
 μ-loop part i₀ i = length part - i
 
--- src/blanks.rt:70:5
 loop-holds : tie.Need-loop-holds Inv-loop μ-loop
 loop-holds c = runs-start _ _
 
--- src/blanks.rt:71:24
 shared-slice-read-is-in-line : tie.Need-shared-slice-read-is-in-line Inv-loop μ-loop
 shared-slice-read-is-in-line c = search needs
 
--- src/blanks.rt:71:13
 is-in-line-requires : tie.Need-is-in-line-requires Inv-loop μ-loop
 is-in-line-requires c κs = search needs
 
--- src/blanks.rt:72:13
 returns : tie.Need-returns Inv-loop μ-loop
 returns c = runs-stop _ _ _ (c .before .before .before .before .loop .inv) (c .before .before .before .loop-test .taken) (sym (c .before .is-in-line .ensures) ∙ not-true _ (c .if1 .taken))
 
--- src/blanks.rt:74:9
 add-i : tie.Need-add-i Inv-loop μ-loop
 add-i c = search needs
 
--- src/blanks.rt:70:5
 loop-less : tie.Need-loop-less Inv-loop μ-loop
 loop-less c = search needs
 
--- src/blanks.rt:70:5
 loop-again : tie.Need-loop-again Inv-loop μ-loop
 loop-again c = runs-more _ _ _ (c .before .before .before .before .loop .inv) (c .before .before .before .loop-test .taken) (sym (c .before .is-in-line .ensures) ∙ not-false _ (c .if1 .left))
 
--- src/blanks.rt:66:1
 returns-2 : tie.Need-returns-2 Inv-loop μ-loop
 returns-2 c = runs-out _ _ _ (c .before .loop .inv) (c .loop-test .left)
 

@@ -1,72 +1,53 @@
 use borrow.Author.Needs.{needs}
 use Rattle.lexing.proofs.blanks.one_blank.Statement.{statement}
 use Rattle.lexing.proofs.blanks.one_blank.Tie as tie
-use Rattle.lexing.proofs.blanks.one_blank.Reads as reads
-use Rattle.lexing.proofs.blanks.one_blank.Lts as lts
-use Rattle.lexing.proofs.blanks.whitespace_group.Reads as whitespace-group-reads
-use Rattle.lexing.proofs.parts.rest_at.Reads as rest-at-reads
 use native.Mathlib.Omega.{arith}
 use denote.Ref.{now}
 use Rattle.lexing.specs.answers.{docOf}
 use Rattle.lexing.proofs.blanks.Laws.{turn-done, turn-white, turn-plain, turn-doc, white-fits, plain-fits, doc-fits}
 
--- src/blanks.rt:161:30
 rest-at-requires : tie.Need-rest-at-requires
 rest-at-requires c κs = search needs
 
--- src/blanks.rt:161:9
 whitespace-group-requires : tie.Need-whitespace-group-requires
 whitespace-group-requires c κs = search needs
 
--- src/blanks.rt:163:27
 enum-told : tie.Need-enum-told
 enum-told c = search needs
 
--- src/blanks.rt:164:22
 enum-known-g : tie.Need-enum-known-g
 enum-known-g c = search needs
 
--- src/blanks.rt:164:54
 add-t12 : tie.Need-add-t12
 add-t12 c = omega (arith, white-fits (c .before .before .before .before .before .before .args .base) (now (c .before .before .before .before .before .before .args .part)) _ _ (c .before .before .before .before .rest-at .ensures) _ (c .before .before .before .whitespace-group .ensures) _ (c .before .g .given .1))
 
--- src/blanks.rt:165:22
 enum-known-g-2 : tie.Need-enum-known-g-2
 enum-known-g-2 c = search needs
 
--- src/blanks.rt:166:19
 add-t14 : tie.Need-add-t14
 add-t14 c = omega (arith, plain-fits (c .before .before .before .before .before .before .args .base) (now (c .before .before .before .before .before .before .args .part)) _ _ (c .before .before .before .before .rest-at .ensures) _ (c .before .before .before .whitespace-group .ensures) _ (c .before .g2 .given .1))
 
--- src/blanks.rt:169:27
 enum-known-g-3 : tie.Need-enum-known-g-3
 enum-known-g-3 c = search needs
 
--- src/blanks.rt:170:25
 add-t17 : tie.Need-add-t17
 add-t17 c = omega (arith, doc-fits (c .before .before .before .before .before .before .args .base) (now (c .before .before .before .before .before .before .args .part)) _ _ (c .before .before .before .before .rest-at .ensures) _ (c .before .before .before .whitespace-group .ensures) _ (c .before .g3 .given .1))
 
--- src/blanks.rt:170:19
 add-t18 : tie.Need-add-t18
 add-t18 c = omega (arith, doc-fits (c .before .before .before .before .before .before .args .base) (now (c .before .before .before .before .before .before .args .part)) _ _ (c .before .before .before .before .rest-at .ensures) _ (c .before .before .before .whitespace-group .ensures) _ (c .before .g3 .given .1))
 
--- src/blanks.rt:171:30
 add-t19 : tie.Need-add-t19
 add-t19 c = omega (arith, doc-fits (c .before .before .before .before .before .before .args .base) (now (c .before .before .before .before .before .before .args .part)) _ _ (c .before .before .before .before .rest-at .ensures) _ (c .before .before .before .whitespace-group .ensures) _ (c .before .g3 .given .1))
 
--- src/blanks.rt:153:1
 returns : tie.Need-returns
 returns c = turn-done _ _ _ _ (c .before .before .before .rest-at .ensures) _ (c .before .before .whitespace-group .ensures) (docOf (c .before .before .before .before .before .args .b .doc)) (c .enum-told .given .1)
 
--- src/blanks.rt:153:1
 returns-2 : tie.Need-returns-2
 returns-2 c = turn-white _ _ _ _ (c .before .before .before .before .rest-at .ensures) _ (c .before .before .before .whitespace-group .ensures) (docOf (c .before .before .before .before .before .before .args .b .doc)) _ (c .before .g .given .1)
 
--- src/blanks.rt:153:1
 returns-3 : tie.Need-returns-3
 returns-3 c = turn-plain _ _ _ _ (c .before .before .before .before .rest-at .ensures) _ (c .before .before .before .whitespace-group .ensures) (docOf (c .before .before .before .before .before .before .args .b .doc)) _ (c .before .g2 .given .1)
 
--- src/blanks.rt:153:1
 returns-4 : tie.Need-returns-4
 returns-4 c = turn-doc _ _ _ _ (c .before .before .before .before .rest-at .ensures) _ (c .before .before .before .whitespace-group .ensures) (docOf (c .before .before .before .before .before .before .args .b .doc)) _ (c .before .g3 .given .1)
 

@@ -1,9 +1,6 @@
 use borrow.Author.Needs.{needs}
 use Rattle.lexing.proofs.blanks.whitespace0.Statement.{statement}
 use Rattle.lexing.proofs.blanks.whitespace0.Tie as tie
-use Rattle.lexing.proofs.blanks.whitespace0.Reads as reads
-use Rattle.lexing.proofs.blanks.whitespace0.Lts as lts
-use Rattle.lexing.proofs.blanks.one_blank.Reads as one-blank-reads
 use native.Mathlib.Omega.{arith}
 use denote.Ref.{now}
 use Prim.Native.Nat.{_-_, _+_}
@@ -16,31 +13,24 @@ Inv-loop part base b₀ b = BlanksAt base part b
 abbrev μ-loop : tie.MeasureT-loop
 μ-loop part base b₀ b = base + length part - b .next
 
--- src/blanks.rt:185:5
 loop-holds : tie.Need-loop-holds Inv-loop μ-loop
 loop-holds c = blanks-start _ _
 
--- src/blanks.rt:186:13
 one-blank-requires : tie.Need-one-blank-requires Inv-loop μ-loop
 one-blank-requires c κs = search needs
 
--- src/blanks.rt:187:25
 enum-known-t : tie.Need-enum-known-t Inv-loop μ-loop
 enum-known-t c = search needs
 
--- src/blanks.rt:188:13
 enum-told : tie.Need-enum-told Inv-loop μ-loop
 enum-told c = search needs
 
--- src/blanks.rt:188:13
 returns : tie.Need-returns Inv-loop μ-loop
 returns c = blanks-end _ _ _ (c .before .before .before .loop .inv) _ (c .before .before .one-blank .ensures) (c .enum-told .given .1)
 
--- src/blanks.rt:185:5
 loop-less : tie.Need-loop-less Inv-loop μ-loop
 loop-less c = let h = blanks-again (c .before .before .before .before .before .before .args .base) (now (c .before .before .before .before .before .before .args .part)) _ (c .before .before .before .before .loop .inv) _ (c .before .before .before .one-blank .ensures) _ (c .before .t .given .1) in omega (arith, h .1, h .0 .inside)
 
--- src/blanks.rt:185:5
 loop-again : tie.Need-loop-again Inv-loop μ-loop
 loop-again c = blanks-again (c .before .before .before .before .before .before .args .base) (now (c .before .before .before .before .before .before .args .part)) _ (c .before .before .before .before .loop .inv) _ (c .before .before .before .one-blank .ensures) _ (c .before .t .given .1) .0
 

@@ -1,20 +1,14 @@
 use borrow.Author.Needs.{needs}
 use Rattle.lexing.proofs.blanks.whitespace1.Statement.{statement}
 use Rattle.lexing.proofs.blanks.whitespace1.Tie as tie
-use Rattle.lexing.proofs.blanks.whitespace1.Reads as reads
-use Rattle.lexing.proofs.blanks.whitespace1.Lts as lts
-use Rattle.lexing.proofs.blanks.whitespace0.Reads as whitespace0-reads
 use Rattle.lexing.proofs.blanks.Laws.{gap-none, gap-some}
 
--- src/blanks.rt:199:9
 whitespace0-requires : tie.Need-whitespace0-requires
 whitespace0-requires c κs = search needs
 
--- src/blanks.rt:202:9
 returns : tie.Need-returns
 returns c = gap-none _ _ _ (c .before .whitespace0 .ensures) (c .if1 .taken)
 
--- src/blanks.rt:195:1
 returns-2 : tie.Need-returns-2
 returns-2 c = gap-some _ _ _ (c .before .whitespace0 .ensures) (c .if1 .left)
 

@@ -1,17 +1,12 @@
-use borrow.Author.Needs.{needs}
 use Rattle.lexing.proofs.bytes.is_in_line.Statement.{statement}
 use Rattle.lexing.proofs.bytes.is_in_line.Tie as tie
-use Rattle.lexing.proofs.bytes.is_in_line.Reads as reads
-use Rattle.lexing.proofs.bytes.is_in_line.Lts as lts
 use borrow.Author.Tests.{eq-eqb, ne-eqb}
 use Rattle.lexing.specs.bytes.{inLine}
 
--- src/bytes.rt:73:9
 returns : tie.Need-returns
 unfolding inLine
 returns c = cc (eq-eqb _ _ (c .if1 .taken))
 
--- src/bytes.rt:69:1
 returns-2 : tie.Need-returns-2
 unfolding inLine
 returns-2 c = cc (ne-eqb _ _ (c .if1 .left))

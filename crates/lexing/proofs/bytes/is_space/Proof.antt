@@ -1,27 +1,20 @@
-use borrow.Author.Needs.{needs}
 use Rattle.lexing.proofs.bytes.is_space.Statement.{statement}
 use Rattle.lexing.proofs.bytes.is_space.Tie as tie
-use Rattle.lexing.proofs.bytes.is_space.Reads as reads
-use Rattle.lexing.proofs.bytes.is_space.Lts as lts
 use borrow.Author.Tests.{eq-eqb, ne-eqb}
 use Rattle.lexing.specs.bytes.{isSpace}
 
--- src/bytes.rt:18:9
 returns : tie.Need-returns
 unfolding isSpace
 returns c = simp (eq-eqb _ _ (c .if1 .taken))
 
--- src/bytes.rt:21:9
 returns-2 : tie.Need-returns-2
 unfolding isSpace
 returns-2 c = simp (ne-eqb _ _ (c .before .if1 .left), eq-eqb _ _ (c .if2 .taken))
 
--- src/bytes.rt:24:9
 returns-3 : tie.Need-returns-3
 unfolding isSpace
 returns-3 c = simp (ne-eqb _ _ (c .before .before .if1 .left), ne-eqb _ _ (c .before .if2 .left), eq-eqb _ _ (c .if3 .taken))
 
--- src/bytes.rt:14:1
 returns-4 : tie.Need-returns-4
 unfolding isSpace
 returns-4 c = cc (ne-eqb _ _ (c .before .before .if1 .left), ne-eqb _ _ (c .before .if2 .left), ne-eqb _ _ (c .if3 .left))

@@ -1,28 +1,21 @@
 use borrow.Author.Needs.{needs}
 use Rattle.lexing.proofs.bytes.lower_of.Statement.{statement}
 use Rattle.lexing.proofs.bytes.lower_of.Tie as tie
-use Rattle.lexing.proofs.bytes.lower_of.Reads as reads
-use Rattle.lexing.proofs.bytes.lower_of.Lts as lts
-use Rattle.lexing.proofs.bytes.is_between.Reads as is-between-reads
 use mathlib.Core.Path.{sym, _∙_}
 use native.Mathlib.Omega.{arith}
 use Rattle.lexing.specs.bytes.{lower}
 use Rattle.lexing.proofs.Tests.{within-of}
 
--- src/bytes.rt:81:8
 is-between-requires : tie.Need-is-between-requires
 is-between-requires c κs = search needs
 
--- src/bytes.rt:82:16
 add-result : tie.Need-add-result
 add-result c = omega (arith, within-of 65 90 (c .before .before .args .x) (sym (c .before .is-between .ensures) ∙ c .if1 .taken))
 
--- src/bytes.rt:82:9
 returns : tie.Need-returns
 unfolding lower
 returns c = cc
 
--- src/bytes.rt:78:1
 returns-2 : tie.Need-returns-2
 unfolding lower
 returns-2 c = cc

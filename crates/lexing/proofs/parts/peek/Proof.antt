@@ -1,21 +1,16 @@
 use borrow.Author.Needs.{needs}
 use Rattle.lexing.proofs.parts.peek.Statement.{statement}
 use Rattle.lexing.proofs.parts.peek.Tie as tie
-use Rattle.lexing.proofs.parts.peek.Reads as reads
-use Rattle.lexing.proofs.parts.peek.Lts as lts
 use mathlib.Core.Path.{sym}
 use lib.ListN.{List·getD-eq-default}
 use denote.Ref.{now}
 
--- src/parts.rt:21:16
 shared-slice-read-result : tie.Need-shared-slice-read-result
 shared-slice-read-result c = search needs
 
--- src/parts.rt:21:9
 returns : tie.Need-returns
 returns c = search needs
 
--- src/parts.rt:17:1
 returns-2 : tie.Need-returns-2
 returns-2 c = sym (List·getD-eq-default (now (c .before .args .part)) 0 (c .if1 .left))
 

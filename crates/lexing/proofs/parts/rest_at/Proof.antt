@@ -1,28 +1,21 @@
 use borrow.Author.Needs.{needs}
 use Rattle.lexing.proofs.parts.rest_at.Statement.{statement}
 use Rattle.lexing.proofs.parts.rest_at.Tie as tie
-use Rattle.lexing.proofs.parts.rest_at.Reads as reads
-use Rattle.lexing.proofs.parts.rest_at.Lts as lts
 use Rattle.lexing.proofs.Slicing.{rest-of}
 use denote.Ref.{now}
 
--- src/parts.rt:12:13
 sub-n : tie.Need-sub-n
 sub-n c = search needs
 
--- src/parts.rt:13:5
 sub-result : tie.Need-sub-result
 sub-result c = search needs
 
--- src/parts.rt:13:5
 part-result-start : tie.Need-part-result-start
 part-result-start c = search needs
 
--- src/parts.rt:13:5
 part-result-end : tie.Need-part-result-end
 part-result-end c = search needs
 
--- src/parts.rt:8:1
 returns : tie.Need-returns
 returns c = rest-of (c .before .args .base) (c .before .args .c) (now (c .before .args .part)) (c .before .pre .0) (c .before .pre .1)
 

@@ -1,12 +1,6 @@
 use borrow.Author.Needs.{needs}
 use Rattle.lexing.proofs.words.keyword.Statement.{statement}
 use Rattle.lexing.proofs.words.keyword.Tie as tie
-use Rattle.lexing.proofs.words.keyword.Reads as reads
-use Rattle.lexing.proofs.words.keyword.Lts as lts
-use Rattle.lexing.proofs.bytes.is_letter.Reads as is-letter-reads
-use Rattle.lexing.proofs.bytes.is_word.Reads as is-word-reads
-use Rattle.lexing.proofs.bytes.lower_of.Reads as lower-of-reads
-use Rattle.lexing.proofs.parts.peek.Reads as peek-reads
 use mathlib.Core.Path.{sym, _∙_, ap}
 use mathlib.Core.Bool.{false≢true}
 use native.Mathlib.Omega.{arith}
@@ -22,75 +16,57 @@ Inv-loop part base key i₀ i = KeyAt key part i
 abbrev μ-loop : tie.MeasureT-loop
 μ-loop part base key i₀ i = length key - i
 
--- src/words.rt:43:19
 peek-requires : tie.Need-peek-requires Inv-loop μ-loop
 peek-requires c κs = search needs
 
--- src/words.rt:43:9
 is-letter-requires : tie.Need-is-letter-requires Inv-loop μ-loop
 is-letter-requires c κs = search needs
 
--- src/words.rt:44:9
 returns : tie.Need-returns Inv-loop μ-loop
 returns c = keyword-no-word _ _ _ (ap isLetter (sym (c .before .before .peek .ensures)) ∙ (sym (c .before .is-letter .ensures) ∙ not-true _ (c .if1 .taken)))
 
--- src/words.rt:47:5
 loop-holds : tie.Need-loop-holds Inv-loop μ-loop
 loop-holds c = key-start _ _
 
--- src/words.rt:48:13
 peek-requires-2 : tie.Need-peek-requires-2 Inv-loop μ-loop
 peek-requires-2 c κs = search needs
 
--- src/words.rt:49:12
 lower-of-requires : tie.Need-lower-of-requires Inv-loop μ-loop
 lower-of-requires c κs = search needs
 
--- src/words.rt:49:27
 shared-slice-read-if2 : tie.Need-shared-slice-read-if2 Inv-loop μ-loop
 shared-slice-read-if2 c = search needs
 
--- src/words.rt:50:13
 returns-2 : tie.Need-returns-2 Inv-loop μ-loop
 returns-2 c = key-differs _ _ _ (ap isLetter (sym (c .before .before .before .before .before .before .before .before .peek .ensures)) ∙ (sym (c .before .before .before .before .before .before .before .is-letter .ensures) ∙ not-false _ (c .before .before .before .before .before .before .if1 .left))) _ (c .before .before .before .before .before .loop .inv) (c .before .before .before .before .loop-test .taken) (λ w e. c .if2 .taken ((c .before .before .lower-of .ensures ∙ ap lower (c .before .before .before .peek2 .ensures)) ∙ e))
 
--- src/words.rt:52:13
 is-word-requires : tie.Need-is-word-requires Inv-loop μ-loop
 is-word-requires c κs = search needs
 
--- src/words.rt:53:13
 returns-3 : tie.Need-returns-3 Inv-loop μ-loop
 returns-3 c = key-differs _ _ _ (ap isLetter (sym (c .before .before .before .before .before .before .before .before .before .before .peek .ensures)) ∙ (sym (c .before .before .before .before .before .before .before .before .before .is-letter .ensures) ∙ not-false _ (c .before .before .before .before .before .before .before .before .if1 .left))) _ (c .before .before .before .before .before .before .before .loop .inv) (c .before .before .before .before .before .before .loop-test .taken) (λ w e. false≢true (sym (ap isWord (sym (c .before .before .before .before .before .peek2 .ensures)) ∙ (sym (c .before .is-word .ensures) ∙ not-true _ (c .if3 .taken))) ∙ w))
 
--- src/words.rt:55:9
 add-i : tie.Need-add-i Inv-loop μ-loop
 add-i c = search needs
 
--- src/words.rt:47:5
 loop-less : tie.Need-loop-less Inv-loop μ-loop
 loop-less c = search needs
 
--- src/words.rt:47:5
 loop-again : tie.Need-loop-again Inv-loop μ-loop
 loop-again c = key-more _ 0 _ (ap isLetter (sym (c .before .before .before .before .before .before .before .before .before .before .peek .ensures)) ∙ (sym (c .before .before .before .before .before .before .before .before .before .is-letter .ensures) ∙ not-false _ (c .before .before .before .before .before .before .before .before .if1 .left))) _ (c .before .before .before .before .before .before .before .loop .inv) (c .before .before .before .before .before .before .loop-test .taken) (sym (c .before .before .before .before .lower-of .ensures ∙ ap lower (c .before .before .before .before .before .peek2 .ensures)) ∙ c .before .before .if2 .left) (ap isWord (sym (c .before .before .before .before .before .peek2 .ensures)) ∙ (sym (c .before .is-word .ensures) ∙ not-false _ (c .if3 .left)))
 
--- src/words.rt:57:16
 peek-requires-3 : tie.Need-peek-requires-3 Inv-loop μ-loop
 peek-requires-3 c κs = search needs
 
--- src/words.rt:57:8
 is-word-requires-2 : tie.Need-is-word-requires-2 Inv-loop μ-loop
 is-word-requires-2 c κs = search needs
 
--- src/words.rt:58:9
 returns-4 : tie.Need-returns-4 Inv-loop μ-loop
 returns-4 c = key-longer _ _ _ (ap isLetter (sym (c .before .before .before .before .before .before .before .peek .ensures)) ∙ (sym (c .before .before .before .before .before .before .is-letter .ensures) ∙ not-false _ (c .before .before .before .before .before .if1 .left))) _ (c .before .before .before .before .loop .inv) (c .before .before .before .loop-test .left) (ap isWord (sym (c .before .before .peek3 .ensures)) ∙ (sym (c .before .is-word2 .ensures) ∙ c .if4 .taken))
 
--- src/words.rt:60:16
 add-t20 : tie.Need-add-t20 Inv-loop μ-loop
 add-t20 c = omega (arith, c .before .before .before .before .loop .inv .run .inside)
 
--- src/words.rt:39:1
 returns-5 : tie.Need-returns-5 Inv-loop μ-loop
 returns-5 c = key-is _ _ _ (ap isLetter (sym (c .before .before .before .before .before .before .before .peek .ensures)) ∙ (sym (c .before .before .before .before .before .before .is-letter .ensures) ∙ not-false _ (c .before .before .before .before .before .if1 .left))) _ (c .before .before .before .before .loop .inv) (c .before .before .before .loop-test .left) (ap isWord (sym (c .before .before .peek3 .ensures)) ∙ (sym (c .before .is-word2 .ensures) ∙ c .if4 .left))
 
