@@ -35,8 +35,11 @@ use Rattle.lexing.proofs.TokenLocality.{whitespace0-chain, whitespace1-
 pub rest-all : (n : ℕ) (u : List ℕ) → take (length u - n) (drop n u) ≡ drop n u
 rest-all n u = take-all (length u - n) (drop n u) (rw length-drop (omega arith))
 
+pub rest-from : (b c : ℕ) (u : List ℕ) → b ≤ c → c ≤ b + length u → Rest b u c (drop (c - b) u)
+rest-from b c u h k = record { from = h; same = refl; size = rw length-drop (omega arith) }
+
 pub rest-of : (b c : ℕ) (u : List ℕ) → b ≤ c → c ≤ b + length u → Rest b u c (take (length u - (c - b)) (drop (c - b) u))
-rest-of b c u h k = record { from = h; same = rest-all (c - b) u; size = rw (rest-all (c - b) u, length-drop) (omega arith) }
+rest-of b c u h k = rw (rest-all (c - b) u) (rest-from b c u h k)
 
 pub rest-self : (b : ℕ) (u : List ℕ) → Rest b u b u
 rest-self b u = let z : b - b ≡ 0 = omega arith in record { from = omega arith; same = rw z; size = refl }
