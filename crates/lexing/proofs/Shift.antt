@@ -13,7 +13,7 @@ use Rattle.lexing.specs.words.{Word, word, bytesOf, parse-id, isKeyword,
 use Rattle.lexing.specs.integers.{u64-max, fitting, hex-integer, decimal-integer, positive-integer, Signed, largest, in-range, after-sign, signed-integer}
 use Rattle.lexing.specs.blanks.{Whitespace, white, plain, doc-comment, line-comment, Until, found, never, until-close, comment-kind, closed, block-comment, multispace1, whitespace-group, Doc, no-doc, doc-at, after, one-blank, whitespace0, whitespace1}
 use Rattle.lexing.specs.strings.{Span, span, Escape, allowed, forbidden, panics, string-rest, span-from, string-with}
-use Rattle.lexing.specs.word_sets.{next-word, set-step, keywords-set, contains, bit, flags, same-bytes, set-of, set-flags}
+use Rattle.lexing.specs.word_sets.{next-word, set-step, keywords-set, contains, flags, set-of, set-flags}
 
 -- values, with their offsets moved
 unfoldable pub shiftReply : {A : Type 0} → ℕ → (A → A) → Reply A → Reply A

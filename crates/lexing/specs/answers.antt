@@ -187,7 +187,7 @@ pub record WordSetTo (r : WordSet) (set b : ℕ) (u : List ℕ) : Type 0 where
   pub inside : r .next ≤ b + length u
   pub small : r .flags < 16
 
--- What only the private functions of word sets are held to: a blank before each word but the first,
+-- for the contracts of private functions only: a blank before each word but the first
 unfoldable pub set-gap : Bool → Parser (Unit {0})
 set-gap true = ret tt
 set-gap false = whitespace1 >> ret tt
@@ -196,11 +196,11 @@ abbrev pub startReply : Start → ℕ → List ℕ → Reply (Unit {0})
 startReply (Here c) b u = ok tt c (drop (c - b) u)
 startReply Nowhere b u = fail b
 
--- a word in lower case, which is the keyword that it is written like,
+-- a word in lower case, without a byte from A to Z, is a keyword of itself
 abbrev pub isLower : List ℕ → Bool
 isLower w = isKeyword w w
 
--- and flags with the bit p, where it counts
+-- flags with the bit p, where the word counts
 unfoldable pub with-flag : Bool → ℕ → ℕ → ℕ
 with-flag false p f = f
 with-flag true p f = elim (eqb (f / p % 2) 1) [ true ↦ f | false ↦ f + p ]

@@ -47,6 +47,7 @@ fn keyword_count(set: u8) -> usize
     0
 }
 
+// The k-th keyword of a struct's field.
 fn field_keyword(part: &[u8], base: usize, k: usize) -> Step
     requires { ⌜ base + length (now part) ≤ u64-max ⌝ }
     requires { ⌜ k < 3 ⌝ }
@@ -61,6 +62,7 @@ fn field_keyword(part: &[u8], base: usize, k: usize) -> Step
     keyword(part, base, b"fabric_sensitive")
 }
 
+// The k-th keyword of a command.
 fn command_keyword(part: &[u8], base: usize, k: usize) -> Step
     requires { ⌜ base + length (now part) ≤ u64-max ⌝ }
     requires { ⌜ k < 2 ⌝ }
@@ -72,6 +74,7 @@ fn command_keyword(part: &[u8], base: usize, k: usize) -> Step
     keyword(part, base, b"fabric")
 }
 
+// The k-th keyword of an attribute.
 fn attribute_keyword(part: &[u8], base: usize, k: usize) -> Step
     requires { ⌜ base + length (now part) ≤ u64-max ⌝ }
     requires { ⌜ k < 4 ⌝ }

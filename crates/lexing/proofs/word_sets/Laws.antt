@@ -2,7 +2,7 @@
 use mathlib.Core.Path.{_≡_, refl, sym, ap, _∙_, subst}
 use mathlib.Core.List.{List, [], _∷_}
 use mathlib.Core.Bool.{Bool, true, false, _&&_, _||_, not, false≢true}
-use Prim.Native.Nat.{ℕ, zero, suc, _+_, _*_, _-_, _/_, _%_, _^_, _≤_, _<_, zero-le, max}
+use Prim.Native.Nat.{ℕ, zero, suc, _+_, _*_, _-_, _/_, _%_, _^_, _≤_, _<_, zero-le}
 use native.Mathlib.Omega.{arith}
 use native.Mathlib.Numerals.{add-one}
 use native.Mathlib.Nat.{mul-assoc, mul-comm, pow-suc, one-le-pow, pow-le-pow-right, mul-add-div-right, div-eq-of-lt, mul-add-mod-self-right, max-eq-left}
@@ -10,12 +10,12 @@ use lib.Dec.{eqb, leb, ltb}
 use lib.ListN.{length, drop, take, getD, drop-of-length-le, List·getD-eq-default}
 use lib.Seq.{drop-cons, getD-take, length-take-le}
 use borrow.Author.Tests.{eq-eqb, ne-eqb, eqb-true, eqb-false, leb-true, ltb-true, ltb-false, not-true, not-false}
-use Rattle.lexing.specs.bytes.{lower}
-use Rattle.lexing.specs.reply.{Reply, ok, fail, stop, Parser, ret, _>>=_, _>>_, _or_, further, iter, keep}
+use Rattle.lexing.specs.bytes.{within, lower}
+use Rattle.lexing.specs.reply.{Reply, ok, fail, stop, ret, _>>=_, _>>_, _or_, further, keep}
 use Rattle.lexing.specs.words.{Word, word, bytesOf, isKeyword, keyword, any-keyword}
 use Rattle.lexing.specs.blanks.{Doc, whitespace1}
 use Rattle.lexing.specs.word_sets.{next-word, set-step, keywords-set, same-bytes, contains, bit, flags, sets, set-of, set-flags}
-use Rattle.lexing.specs.answers.{Rest, lostReply, wordAt, wordReply, docOf, blankReply, BlankTo, WordSetTo, set-gap, startReply, isLower, with-flag}
+use Rattle.lexing.specs.answers.{Rest, lostReply, wordAt, wordReply, docOf, BlankTo, WordSetTo, set-gap, startReply, isLower, with-flag}
 use Rattle.lexing.specs.declared.answers.Lost.{Lost}
 use Rattle.lexing.specs.declared.answers.Lost.the-variants.{Fail, Stop}
 use Rattle.lexing.specs.declared.answers.Step.{Step}
@@ -52,7 +52,7 @@ eqb-turn x y = go (eqb x y) refl
     go false e = e ∙ sym (ne-eqb y x (λ z. eqb-false x y e (sym z)))
 
 -- a word that is the keyword, whatever its case, is written like it where it is in lower case
-like-keyword : (w k : List ℕ) → isKeyword w k ≡ true → same-bytes w k ≡ isLower w
+pub like-keyword : (w k : List ℕ) → isKeyword w k ≡ true → same-bytes w k ≡ isLower w
 unfolding isKeyword same-bytes
 like-keyword [] [] e = refl
 like-keyword [] (y ∷ k) e = absurd (false≢true e)
@@ -63,20 +63,26 @@ like-keyword (x ∷ w) (y ∷ k) e =
     rw (← h, i, eqb-turn x (lower x))
 
 -- the table: at most four keywords in a set, each in lower case and unlike the others
-unfoldable pub among : List ℕ → List (List ℕ) → Bool
+unfoldable among : List ℕ → List (List ℕ) → Bool
 among w [] = false
 among w (k ∷ ks) = same-bytes w k || among w ks
 
-unfoldable pub apart : List (List ℕ) → Bool
+unfoldable apart : List (List ℕ) → Bool
 apart [] = true
 apart (k ∷ ks) = (isLower k && not (among k ks)) && apart ks
 
-unfoldable pub all-apart : List (List (List ℕ)) → Bool
+apart-of : (k : List ℕ) (ks : List (List ℕ)) → apart (k ∷ ks) ≡ true → (isLower k ≡ true) × ((among k ks ≡ false) × (apart ks ≡ true))
+unfolding apart
+apart-of k ks e =
+    let h = and-left (isLower k && not (among k ks)) (apart ks) e in
+    (and-left (isLower k) (not (among k ks)) h, (not-true (among k ks) (and-right (isLower k) (not (among k ks)) h), and-right (isLower k && not (among k ks)) (apart ks) e))
+
+unfoldable all-apart : List (List (List ℕ)) → Bool
 all-apart [] = true
 all-apart (s ∷ l) = (apart s && leb (length s) 4) && all-apart l
 
 table-apart : all-apart sets ≡ true
-unfolding all-apart apart among sets isKeyword same-bytes lower Rattle.lexing.specs.bytes.within
+unfolding all-apart apart among sets isKeyword same-bytes lower within
 table-apart = refl
 
 one-apart : (l : List (List (List ℕ))) (n : ℕ) → all-apart l ≡ true → (apart (getD l n []) && leb (length (getD l n [])) 4) ≡ true
@@ -111,12 +117,12 @@ flags-kept [] w ws e = refl
 flags-kept (k ∷ ks) w ws e = let o = or-false (same-bytes (bytesOf w) k) (among (bytesOf w) ks) e in rw (o .0, flags-kept ks w ws (o .1))
 
 not-among : (ks : List (List ℕ)) (w : List ℕ) → apart ks ≡ true → isLower w ≡ false → among w ks ≡ false
-unfolding among apart
+unfolding among
 not-among [] w e h = refl
 not-among (k ∷ ks) w e h =
-    let a = and-left (isLower k) (not (among k ks)) (and-left (isLower k && not (among k ks)) (apart ks) e) in
-    let o : same-bytes w k ≡ false = false-if (same-bytes w k) (λ q. false≢true (sym h ∙ (ap (λ v. isLower v) (same-eq w k q) ∙ a))) in
-    rw (o, not-among ks w (and-right (isLower k && not (among k ks)) (apart ks) e) h)
+    let a = apart-of k ks e in
+    let o : same-bytes w k ≡ false = false-if (same-bytes w k) (λ q. false≢true (sym h ∙ (ap (λ v. isLower v) (same-eq w k q) ∙ a .0))) in
+    rw (o, not-among ks w (a .1 .1) h)
 
 among-at : (ks : List (List ℕ)) (k : ℕ) (w : List ℕ) → k < length ks → among w ks ≡ false → same-bytes w (getD ks k []) ≡ false
 unfolding among
@@ -176,20 +182,18 @@ low-flag y p f h = go (eqb (f / p % 2) 1) refl
 
 -- the flags of one more word that is written like the k-th keyword, which j others stand behind
 flag-more : (ks : List (List ℕ)) (k j : ℕ) (w : Word) (ws : List Word) → apart ks ≡ true → bytesOf w ≡ getD ks k [] → suc (k + j) ≡ length ks → with-flag true (2 ^ j) (flags ks ws) ≡ flags ks (w ∷ ws)
-unfolding flags contains apart
+unfolding flags contains
 flag-more [] k j w ws a e h = absurd (omega arith)
 flag-more (x ∷ ks) zero j w ws a e h =
     let z : j ≡ length ks = omega arith in
-    let o = not-true (among x ks) (and-right (isLower x) (not (among x ks)) (and-left (isLower x && not (among x ks)) (apart ks) a)) in
     let s : same-bytes (bytesOf w) x ≡ true = rw e (same-self x) in
-    rw (z, s, flags-kept ks w ws (rw e o)) (high-flag (contains ws x) (2 ^ length ks) (flags ks ws) (flags-less ks ws))
+    rw (z, s, flags-kept ks w ws (rw e (apart-of x ks a .1 .0))) (high-flag (contains ws x) (2 ^ length ks) (flags ks ws) (flags-less ks ws))
 flag-more (x ∷ ks) (suc k) j w ws a e h =
     let z : length ks ≡ k + suc j = omega arith in
-    let o = not-true (among x ks) (and-right (isLower x) (not (among x ks)) (and-left (isLower x && not (among x ks)) (apart ks) a)) in
-    let s : same-bytes (bytesOf w) x ≡ false = false-if (same-bytes (bytesOf w) x) (λ q. false≢true (sym (among-at ks k x (omega arith) o) ∙ (ap (same-bytes x) (sym e ∙ same-eq (bytesOf w) x q) ∙ same-self x))) in
+    let s : same-bytes (bytesOf w) x ≡ false = false-if (same-bytes (bytesOf w) x) (λ q. false≢true (sym (among-at ks k x (omega arith) (apart-of x ks a .1 .0)) ∙ (ap (same-bytes x) (sym e ∙ same-eq (bytesOf w) x q) ∙ same-self x))) in
     let p : bit (contains ws x) * 2 ^ length ks ≡ bit (contains ws x) * 2 ^ k * 2 * 2 ^ j =
     rw (z, pow-even k j) (sym (mul-assoc (bit (contains ws x)) (2 ^ k * 2) (2 ^ j)) ∙ ap (λ (n : ℕ). n * 2 ^ j) (sym (mul-assoc (bit (contains ws x)) (2 ^ k) 2))) in
-    rw (s, p) (low-flag (bit (contains ws x) * 2 ^ k) (2 ^ j) (flags ks ws) (pow-up j) ∙ ap (λ (n : ℕ). bit (contains ws x) * 2 ^ k * 2 * 2 ^ j + n) (flag-more ks k j w ws (and-right (isLower x && not (among x ks)) (apart ks) a) e (omega arith)))
+    rw (s, p) (low-flag (bit (contains ws x) * 2 ^ k) (2 ^ j) (flags ks ws) (pow-up j) ∙ ap (λ (n : ℕ). bit (contains ws x) * 2 ^ k * 2 * 2 ^ j + n) (flag-more ks k j w ws (apart-of x ks a .1 .1) e (omega arith)))
 
 -- the flags of one more word that is the k-th keyword, whatever its case
 word-flag : (ks : List (List ℕ)) (k j : ℕ) (w : Word) (ws : List Word) → apart ks ≡ true → isKeyword (bytesOf w) (getD ks k []) ≡ true → suc (k + j) ≡ length ks
@@ -299,10 +303,7 @@ Calm b (stop n p) = ⊥
 calm-further : (b : ℕ) (x : Reply Word) → Calm b x → further b x ≡ x
 unfolding further
 calm-further b (ok w c r) h = refl
-calm-further b (fail p) h = rw (h, max-eq-left (le-self b))
-  where
-    le-self : (n : ℕ) → n ≤ n
-    le-self n = omega arith
+calm-further b (fail p) h = let l : b ≤ b = omega arith in rw (h, max-eq-left l)
 calm-further b (stop n p) h = absurd h
 
 or-fails : (k : List ℕ) (ks : List (List ℕ)) (b : ℕ) (u : List ℕ) → keyword k b u ≡ fail b → any-keyword (k ∷ ks) b u ≡ further b (any-keyword ks b u)
@@ -337,23 +338,23 @@ pub record Found (ks : List (List ℕ)) (b : ℕ) (u : List ℕ) (k c : ℕ) : T
   pub up : b ≤ c
   pub inside : c ≤ b + length u
 
-pub keys-start : (ks : List (List ℕ)) (b : ℕ) (u : List ℕ) → KeysAt ks b u 0
+keys-start : (ks : List (List ℕ)) (b : ℕ) (u : List ℕ) → KeysAt ks b u 0
 keys-start ks b u = record { inside = zero-le; left = refl }
 
 module _ (ks : List (List ℕ)) (b : ℕ) (u : List ℕ) (k : ℕ) (i : KeysAt ks b u k) where
-  pub keys-end : length ks ≤ k → any-keyword ks b u ≡ fail b
+  keys-end : length ks ≤ k → any-keyword ks b u ≡ fail b
   keys-end le = sym (i .left) ∙ rw (drop-of-length-le ks le) (no-keyword b u)
 
   module _ (lt : k < length ks) (a : Step) (h : wordReply a b u ≡ keyword (getD ks k []) b u) where
     here : any-keyword (getD ks k [] ∷ drop (suc k) ks) b u ≡ any-keyword ks b u
     here = rw (← drop-cons ks k [] lt) (i .left)
 
-    pub keys-more : (l : Lost) → a ≡ Not l → KeysAt ks b u (k + 1)
+    keys-more : (l : Lost) → a ≡ Not l → KeysAt ks b u (k + 1)
     keys-more l e =
         let f = lost-here (getD ks k []) b u l (told-not (wordAt b u) a l b u (keyword (getD ks k []) b u) e h) in
         record { inside = omega arith; left = rw add-one (sym (or-fails (getD ks k []) (drop (suc k) ks) b u f ∙ calm-further b (any-keyword (drop (suc k) ks) b u) (any-calm (drop (suc k) ks) b u)) ∙ here) }
 
-    pub keys-found : (c : ℕ) → a ≡ Next c → Found ks b u k c
+    keys-found : (c : ℕ) → a ≡ Next c → Found ks b u k c
     unfolding bytesOf
     keys-found c e =
         let f = told-next (wordAt b u) a c b u (keyword (getD ks k []) b u) e h in
