@@ -117,3 +117,27 @@ ends-at m w (Stop n p) l c r e = ap (before l) (many0-stop m w c r n p (sym e))
 
 pub many0-ends : {A : Type 0} {m : Parser A} (w : Consumes m) {b c : ℕ} {u r : List ℕ} {l : List A} (x : Lost) → ManyAt m b u c l → Rest b u c r → lostReply x ≡ m c r → many0 m b u ≡ manyEnd x l c (drop (c - b) u)
 many0-ends {A} {m} w {b} {c} {u} {r} {l} x i q e = i .left ∙ ends-at m w x l c (drop (c - b) u) (e ∙ ap (m c) (q .same))
+
+-- A loop of the code against `iter`: the state so far, and the same loop on what is left.
+pub record IterAt {S : Type 0} (f : S → Parser S) (g : ℕ → S → S) (s₀ : S) (b : ℕ) (u : List ℕ) (c : ℕ) (s : S) : Type 0 where
+  pub from : b ≤ c
+  pub inside : c ≤ b + length u
+  pub left : iter f g s c (drop (c - b) u) ≡ iter f g s₀ b u
+
+pub iter-start : {S : Type 0} (f : S → Parser S) (g : ℕ → S → S) (s₀ : S) (b : ℕ) (u : List ℕ) → IterAt f g s₀ b u b s₀
+iter-start f g s₀ b u = let z : b - b ≡ 0 = omega arith in record { from = omega arith; inside = omega arith; left = rw z }
+
+module _ {S : Type 0} {f : S → Parser S} {g : ℕ → S → S} (w : (s : S) → Consumes (f s)) {s₀ s : S} {b c : ℕ} {u : List ℕ} (i : IterAt f g s₀ b u c s) where
+  pub iter-step : {n : ℕ} {t : S} → Took (f s) b u c t n → IterAt f g s₀ b u n t × (c < n)
+  iter-step {n} {t} k =
+      let l = shorter f g w s c (drop (c - b) u) t n (drop (n - b) u) (k .goes) in (
+        record {
+          from = omega (arith, i .from, k .up);
+          inside = k .inside;
+          left = sym (iter-more f g w s c (drop (c - b) u) t n (drop (n - b) u) (k .goes)) ∙ i .left;
+        },
+        omega (arith, l, length-drop (c - b) u, length-drop (n - b) u, i .from, k .up, k .inside),
+      )
+
+  pub iter-ends : (p : ℕ) → f s c (drop (c - b) u) ≡ fail p → ok (g p s) c (drop (c - b) u) ≡ iter f g s₀ b u
+  iter-ends p e = sym (iter-fail f g w s c (drop (c - b) u) p e) ∙ i .left

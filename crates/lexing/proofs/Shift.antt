@@ -13,7 +13,7 @@ use Rattle.lexing.specs.words.{Word, word, bytesOf, parse-id, isKeyword,
 use Rattle.lexing.specs.integers.{u64-max, fitting, hex-integer, decimal-integer, positive-integer, Signed, largest, in-range, after-sign, signed-integer}
 use Rattle.lexing.specs.blanks.{Whitespace, white, plain, doc-comment, line-comment, Until, found, never, until-close, comment-kind, closed, block-comment, multispace1, whitespace-group, Doc, no-doc, doc-at, after, one-blank, whitespace0, whitespace1}
 use Rattle.lexing.specs.strings.{Span, span, Escape, allowed, forbidden, panics, string-rest, span-from, string-with}
-use Rattle.lexing.specs.word_sets.{next-word, set-step, keywords-set}
+use Rattle.lexing.specs.word_sets.{next-word, set-step, keywords-set, contains, flags, set-of, set-flags}
 
 -- values, with their offsets moved
 unfoldable pub shiftReply : {A : Type 0} → ℕ → (A → A) → Reply A → Reply A
@@ -400,3 +400,17 @@ module _ (d : ℕ) where
   pub shift-keywords-set : (ks : List (List ℕ)) → Shifts d (map (shiftWord d)) (keywords-set ks) (keywords-set ks)
   unfolding keywords-set keep
   shift-keywords-set ks = shift-iter (map (shiftWord d)) (set-step ks) keep (shift-set-step ks) (λ p s. refl) [] [] refl
+
+  contains-shift : (ws : List Word) (k : List ℕ) → contains (map (shiftWord d) ws) k ≡ contains ws k
+  unfolding contains
+  contains-shift [] k = refl
+  contains-shift (w ∷ ws) k = rw (bytes-shift w, contains-shift ws k)
+
+  flags-shift : (ks : List (List ℕ)) (ws : List Word) → flags ks (map (shiftWord d) ws) ≡ flags ks ws
+  unfolding flags
+  flags-shift [] ws = refl
+  flags-shift (k ∷ ks) ws = rw (contains-shift ws k, flags-shift ks ws)
+
+  pub shift-set-flags : (n : ℕ) → Shifts d still (set-flags n) (set-flags n)
+  unfolding set-flags still
+  shift-set-flags n = shift-bind (shift-keywords-set (set-of n)) λ ws' ws e. shift-ret _ _ (rw e (flags-shift (set-of n) ws))

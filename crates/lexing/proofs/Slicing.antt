@@ -11,7 +11,8 @@ use Rattle.lexing.specs.words.{Word, parse-id, keyword, tag}
 use Rattle.lexing.specs.integers.{Signed, signed, positive-integer, signed-integer}
 use Rattle.lexing.specs.blanks.{Doc, whitespace0, whitespace1}
 use Rattle.lexing.specs.strings.{Span, Escape, string-with}
-use Rattle.lexing.specs.answers.{Answer, got, lost, lostReply, reply, stepAnswer, Rest, docOf, lostOf, numberLost, signedLost, gapAnswer, wordAt, spanTo, tagReply, wordReply, numberReply, signedReply, gapReply, stringReply, BlankTo}
+use Rattle.lexing.specs.word_sets.{set-flags}
+use Rattle.lexing.specs.answers.{Answer, got, lost, lostReply, reply, stepAnswer, Rest, docOf, lostOf, numberLost, signedLost, gapAnswer, wordAt, spanTo, tagReply, wordReply, numberReply, signedReply, gapReply, stringReply, BlankTo, WordSetTo}
 use Rattle.lexing.specs.declared.answers.Lost.{Lost}
 use Rattle.lexing.specs.declared.answers.Lost.the-variants.{Fail, Stop}
 use Rattle.lexing.specs.declared.answers.Step.{Step}
@@ -23,18 +24,22 @@ use Rattle.lexing.specs.declared.integers.Number.{Number}
 use Rattle.lexing.specs.declared.integers.Number.the-variants.{Value, NoNumber}
 use Rattle.lexing.specs.declared.integers.SignedNumber.{SignedNumber}
 use Rattle.lexing.specs.declared.integers.SignedNumber.the-variants.{Sized, NoSigned}
+use Rattle.lexing.specs.declared.word_sets.WordSet.{WordSet}
 use Rattle.lexing.proofs.Runs.{Suf, same, skip, suf-length}
 use Rattle.lexing.proofs.Onward.{Ends, Onward, advances-onward, parse-id-advances, tag-advances, integer-advances, signed-advances, string-advances}
 use Rattle.lexing.proofs.Chain.{Moves, to-suf}
 use Rattle.lexing.proofs.Locality.{OnChain}
-use Rattle.lexing.proofs.TokenLocality.{whitespace0-chain, whitespace1-chain, keyword-chain}
+use Rattle.lexing.proofs.TokenLocality.{whitespace0-chain, whitespace1-chain, keyword-chain, set-flags-chain}
 
 -- parts
 pub rest-all : (n : ℕ) (u : List ℕ) → take (length u - n) (drop n u) ≡ drop n u
 rest-all n u = take-all (length u - n) (drop n u) (rw length-drop (omega arith))
 
+pub rest-from : (b c : ℕ) (u : List ℕ) → b ≤ c → c ≤ b + length u → Rest b u c (drop (c - b) u)
+rest-from b c u h k = record { from = h; same = refl; size = rw length-drop (omega arith) }
+
 pub rest-of : (b c : ℕ) (u : List ℕ) → b ≤ c → c ≤ b + length u → Rest b u c (take (length u - (c - b)) (drop (c - b) u))
-rest-of b c u h k = record { from = h; same = rest-all (c - b) u; size = rw (rest-all (c - b) u, length-drop) (omega arith) }
+rest-of b c u h k = rw (rest-all (c - b) u) (rest-from b c u h k)
 
 pub rest-self : (b : ℕ) (u : List ℕ) → Rest b u b u
 rest-self b u = let z : b - b ≡ 0 = omega arith in record { from = omega arith; same = rw z; size = refl }
@@ -120,6 +125,9 @@ module _ {b n : ℕ} {u r : List ℕ} (q : Rest b u n r) where
 
   pub gap-took : {a : Gap} {t : Blank} → a ≡ Passed t → gapReply a n r ≡ whitespace1 n r → Took whitespace1 b u n (docOf (t .doc)) (t .next)
   gap-took {a} {t} e h = took (walks whitespace1-chain) q (subst (λ (x : Gap). gapReply x n r ≡ whitespace1 n r) e h)
+
+  pub set-took : {k : ℕ} {t : WordSet} → WordSetTo t k n r → Took (set-flags k) b u n (t .flags) (t .next)
+  set-took {k} h = took (walks (set-flags-chain k)) q (h .reads)
 
   module _ {a : Step} {c : ℕ} (e : a ≡ Next c) where
     -- a Step whose value is computed from the offsets

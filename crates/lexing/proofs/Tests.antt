@@ -25,6 +25,10 @@ pub or-true : (a b : Bool) → (a || b) ≡ true → (a ≡ true) ⊎ (b ≡ tru
 or-true true b e = inl refl
 or-true false b e = inr e
 
+pub or-false : (a b : Bool) → (a || b) ≡ false → (a ≡ false) × (b ≡ false)
+or-false true b e = absurd (true≢false e)
+or-false false b e = (refl, e)
+
 pub within-of : (a z x : ℕ) → within a z x ≡ true → (a ≤ x) × (x ≤ z)
 unfolding within
 within-of a z x e = (le-of a x (and-left (leb a x) (leb x z) e), le-of x z (and-right (leb a x) (leb x z) e))

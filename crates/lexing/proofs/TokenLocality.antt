@@ -13,7 +13,7 @@ use Rattle.lexing.specs.words.{Word, bytesOf, parse-id, isKeyword, keywo
 use Rattle.lexing.specs.integers.{u64-max, fitting, hex-integer, decimal-integer, positive-integer, Signed, largest, in-range, after-sign, signed-integer}
 use Rattle.lexing.specs.blanks.{Whitespace, line-comment, Until, found, never, one-more, until-close, comment-kind, closed, block-comment, multispace1, whitespace-group, Doc, no-doc, after, one-blank, whitespace0, whitespace1}
 use Rattle.lexing.specs.strings.{Escape, allowed, forbidden, panics, string-rest, span-from, string-with}
-use Rattle.lexing.specs.word_sets.{next-word, set-step, keywords-set}
+use Rattle.lexing.specs.word_sets.{next-word, set-step, keywords-set, set-of, set-flags}
 use Rattle.lexing.proofs.Tests.{eq-of, and-left, and-right, or-true, blank-fails, digit-no-letter}
 use Rattle.lexing.proofs.Runs.{Cut, cut-tail, Suf, skip, suf-length, suf-cut, Has, cut-has, cut-has-lf, has-tail, takeWhile-app, dropWhile-app, dropWhile-suf, dropWhile-cut, tail-cut, dropWhile-has}
 use Rattle.lexing.proofs.Onward.{Ends, Reads, Advances, parse-id-advances, tag-advances, integer-advances, signed-advances, group-advances, string-advances}
@@ -874,3 +874,16 @@ module _ (ks : List (List ℕ)) where
   pub keywords-set-local : Local (keywords-set ks)
   unfolding keywords-set
   keywords-set-local = local-iter keep set-step-local set-step-keeps set-step-consumes []
+
+module _ (n : ℕ) where
+  pub set-flags-chain : OnChain (set-flags n)
+  unfolding set-flags
+  set-flags-chain = chain-bind (keywords-set-chain (set-of n)) λ ws. chain-ret _
+
+  pub set-flags-keeps : KeepsCut (set-flags n)
+  unfolding set-flags
+  set-flags-keeps = keeps-bind (keywords-set-keeps (set-of n)) λ ws. keeps-ret _
+
+  pub set-flags-local : Local (set-flags n)
+  unfolding set-flags
+  set-flags-local = local-bind (keywords-set-local (set-of n)) (keywords-set-keeps (set-of n)) λ ws. local-ret _

@@ -1,16 +1,17 @@
 -- What the answers of the code say, as replies of the definitions. An answer is taken with the offset b and the text u that its reader was handed.
-use Prim.Native.Nat.{ℕ, suc, _+_, _-_, _≤_, _<_}
+use Prim.Native.Nat.{ℕ, suc, _+_, _-_, _/_, _%_, _≤_, _<_}
 use mathlib.Core.Path.{_≡_}
 use mathlib.Core.Bool.{Bool, true, false, _&&_, _||_}
 use mathlib.Core.List.{List, [], _∷_}
 use lib.Dec.{eqb}
 use lib.ListN.{length, take, drop, getD}
 use Rattle.lexing.specs.bytes.{star, slash, isDigit, isHex, takeWhile, number}
-use Rattle.lexing.specs.reply.{Reply, ok, fail, stop}
-use Rattle.lexing.specs.words.{Word, word}
+use Rattle.lexing.specs.reply.{Reply, ok, fail, stop, Parser, ret, _>>_}
+use Rattle.lexing.specs.words.{Word, word, isKeyword}
 use Rattle.lexing.specs.integers.{u64-max, Signed, signed}
-use Rattle.lexing.specs.blanks.{Whitespace, white, plain, doc-comment, Until, found, never, Doc, no-doc, doc-at, whitespace0}
+use Rattle.lexing.specs.blanks.{Whitespace, white, plain, doc-comment, Until, found, never, Doc, no-doc, doc-at, whitespace0, whitespace1}
 use Rattle.lexing.specs.strings.{Span, span, Escape, allowed, forbidden, panics, annotation-escape, default-escape, string-rest}
+use Rattle.lexing.specs.word_sets.{set-flags}
 use Rattle.lexing.specs.declared.answers.Lost.{Lost}
 use Rattle.lexing.specs.declared.answers.Lost.the-variants.{Fail, Stop}
 use Rattle.lexing.specs.declared.answers.Step.{Step}
@@ -36,6 +37,9 @@ use Rattle.lexing.specs.declared.strings.Escaped.{Escaped}
 use Rattle.lexing.specs.declared.strings.Escaped.the-variants.{Allowed, Forbidden, Panics}
 use Rattle.lexing.specs.declared.strings.Piece.{Piece}
 use Rattle.lexing.specs.declared.strings.Piece.the-variants.{More, Last}
+use Rattle.lexing.specs.declared.word_sets.WordSet.{WordSet}
+use Rattle.lexing.specs.declared.word_sets.Start.{Start}
+use Rattle.lexing.specs.declared.word_sets.Start.the-variants.{Here, Nowhere}
 
 -- the rest of a part from offset c on
 pub record Rest (b : ℕ) (u : List ℕ) (c : ℕ) (r : List ℕ) : Type 0 where
@@ -175,3 +179,28 @@ spanTo b c = span (suc b) (c - 1 - suc b)
 
 abbrev pub stringReply : Step → ℕ → List ℕ → Reply Span
 stringReply r b u = reply (stepAnswer (spanTo b) r) b u
+
+-- word sets
+pub record WordSetTo (r : WordSet) (set b : ℕ) (u : List ℕ) : Type 0 where
+  pub reads : reply (got (r .flags) (r .next)) b u ≡ set-flags set b u
+  pub up : b ≤ r .next
+  pub inside : r .next ≤ b + length u
+  pub small : r .flags < 16
+
+-- for the contracts of private functions only: a blank before each word but the first
+unfoldable pub set-gap : Bool → Parser (Unit {0})
+set-gap true = ret tt
+set-gap false = whitespace1 >> ret tt
+
+abbrev pub startReply : Start → ℕ → List ℕ → Reply (Unit {0})
+startReply (Here c) b u = ok tt c (drop (c - b) u)
+startReply Nowhere b u = fail b
+
+-- a word in lower case, without a byte from A to Z, is a keyword of itself
+abbrev pub isLower : List ℕ → Bool
+isLower w = isKeyword w w
+
+-- flags with the bit p, where the word counts
+unfoldable pub with-flag : Bool → ℕ → ℕ → ℕ
+with-flag false p f = f
+with-flag true p f = elim (eqb (f / p % 2) 1) [ true ↦ f | false ↦ f + p ]

@@ -8,4 +8,5 @@ pub mod parts;
 pub mod strings;
 pub mod unescaping;
 pub mod utf8;
+pub mod word_sets;
 pub mod words;

@@ -10,7 +10,7 @@ use lib.ListN.{length, drop, getD, drop-of-length-le, length-drop}
 use lib.Seq.{drop-cons, drop-drop, getD-drop}
 use borrow.Author.Tests.{eq-eqb, ne-eqb, eqb-true}
 use Rattle.lexing.specs.bytes.{slash, star, isSpace, inLine, takeWhile, dropWhile}
-use Rattle.lexing.specs.reply.{Reply, ok, fail, stop, Parser, ret, _>>=_, catch, keep, iter, position, failAt, pick}
+use Rattle.lexing.specs.reply.{Reply, ok, fail, stop, Parser, ret, _>>=_, catch, keep, position, failAt, pick}
 use Rattle.lexing.specs.blanks.{Whitespace, white, plain, doc-comment, line-comment, Until, found, never, one-more, until-close, comment-kind, closed, block-comment, multispace1, whitespace-group, Doc, no-doc, doc-at, after, one-blank, whitespace0, whitespace1}
 use Rattle.lexing.specs.answers.{Rest, isClose, endUntil, groupReply, blankReply, turnReply, BlankTo, docOf}
 use Rattle.lexing.specs.declared.blanks.End.{End}
@@ -24,8 +24,8 @@ use Rattle.lexing.specs.declared.blanks.Turn.the-variants.{Again, Done}
 use Rattle.lexing.proofs.Onward.{group-advances}
 use Rattle.lexing.proofs.TokenLocality.{no-line, no-block, open-line, no-group, one-blank-chain, one-blank-consumes}
 use Rattle.lexing.proofs.Scans.{first-of, drop-run, run-cons, run-none, run-le}
-use Rattle.lexing.proofs.Slicing.{rebase}
-use Rattle.lexing.proofs.Repetition.{iter-more, iter-fail}
+use Rattle.lexing.proofs.Slicing.{took, walks, rest-from}
+use Rattle.lexing.proofs.Repetition.{IterAt, iter-start, iter-step, iter-ends}
 
 -- the first `*/`, i bytes further on
 unfoldable pub later : ℕ → Until → Until
@@ -301,15 +301,12 @@ module _ (b : ℕ) (u : List ℕ) (at : ℕ) (r : List ℕ) (q : Rest b u at r) 
   pub doc-fits : (n : ℕ) → g ≡ DocComment n → at + (n + 5) ≤ b + length u
   doc-fits n e = fits (doc-comment (at + 3) n) (n + 5) (told (DocComment n) e)
 
--- the invariant of a run: what is left of the run is the whole run
+-- the invariant of a run
 pub record BlanksAt (b : ℕ) (u : List ℕ) (t : Blank) : Type 0 where
-  pub from : b ≤ t .next
-  pub inside : t .next ≤ b + length u
-  pub left : iter one-blank keep (docOf (t .doc)) (t .next) (drop (t .next - b) u) ≡ whitespace0 b u
+  pub run : IterAt one-blank keep no-doc b u (t .next) (docOf (t .doc))
 
 pub blanks-start : (b : ℕ) (u : List ℕ) → BlanksAt b u (record { next = b; doc = Absent })
-unfolding whitespace0
-blanks-start b u = let z : b - b ≡ 0 = omega arith in record { from = omega arith; inside = omega arith; left = rw z }
+blanks-start b u = record { run = iter-start one-blank keep no-doc b u }
 
 module _ (b : ℕ) (u : List ℕ) (t : Blank) (i : BlanksAt b u t) (r : Turn) (h : turnReply r (t .next) (drop (t .next - b) u) ≡ one-blank (docOf (t .doc)) (t .next) (drop (t .next - b) u)) where
   turned : (k : Turn) → r ≡ k → turnReply k (t .next) (drop (t .next - b) u) ≡ one-blank (docOf (t .doc)) (t .next) (drop (t .next - b) u)
@@ -317,23 +314,13 @@ module _ (b : ℕ) (u : List ℕ) (t : Blank) (i : BlanksAt b u t) (r : Turn) (h
 
   pub blanks-again : (t' : Blank) → r ≡ Again t' → BlanksAt b u t' × (t .next < t' .next)
   blanks-again t' e =
-      let v = drop (t .next - b) u in
-      let h' = turned (Again t') e in
-      let w = rw (sym h') at (one-blank-chain (docOf (t .doc)) .chain 0 (t .next) v) in
-      let l : length (drop (t' .next - t .next) v) < length v = rw (sym h') at (one-blank-consumes (docOf (t .doc)) .consumes (t .next) v) in
-      let m = iter-more one-blank keep one-blank-consumes (docOf (t .doc)) (t .next) v (docOf (t' .doc)) (t' .next) (drop (t' .next - t .next) v) (sym h') in
-      let up : t .next < t' .next = omega (arith, w .1, l) in (
-        record {
-          from = omega (arith, i .from, up);
-          inside = omega (arith, w .1, length-drop (t .next - b) u, i .from, i .inside);
-          left = rw (rebase b (t .next) (t' .next) u (i .from) (omega (arith, up))) at (sym m ∙ i .left);
-        },
-        up,
-      )
+      let q = rest-from b (t .next) u (i .run .from) (i .run .inside) in
+      let x = iter-step one-blank-consumes (i .run) (took (walks (one-blank-chain (docOf (t .doc)))) q (turned (Again t') e)) in
+      (record { run = x .0 }, x .1)
 
   pub blanks-end : r ≡ Done → BlankTo t b u
-  unfolding keep
-  blanks-end e = record { reads = sym (iter-fail one-blank keep one-blank-consumes (docOf (t .doc)) (t .next) (drop (t .next - b) u) (t .next) (sym (turned Done e))) ∙ i .left; up = i .from; inside = i .inside }
+  unfolding keep whitespace0
+  blanks-end e = record { reads = iter-ends one-blank-consumes (i .run) (t .next) (sym (turned Done e)); up = i .run .from; inside = i .run .inside }
 
 -- at least one
 module _ (b : ℕ) (u : List ℕ) (t : Blank) (h : BlankTo t b u) where

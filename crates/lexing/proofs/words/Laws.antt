@@ -78,6 +78,21 @@ module _ (k : List ℕ) (b : ℕ) (u : List ℕ) (letter : isLetter (getD u 0 0)
   unfolding keyword _>>=_ position pick ret bytesOf
   keyword-same e = rw (parse-id-run b u letter, keyword, _>>=_) (rw (e, pick))
 
+-- what is read is the keyword; any other word fails at its first byte
+abbrev pub Says : List ℕ → ℕ → Reply Word → Type 0
+Says k b (ok w c r) = isKeyword (bytesOf w) k ≡ true
+Says k b (fail p) = p ≡ b
+Says k b (stop n p) = ⊥
+
+pub keyword-says : (k : List ℕ) (b : ℕ) (u : List ℕ) → Says k b (keyword k b u)
+unfolding bytesOf
+keyword-says k b u = go (isLetter (getD u 0 0)) refl (isKeyword (takeWhile isWord u) k) refl
+  where
+    go : (t : Bool) → isLetter (getD u 0 0) ≡ t → (t' : Bool) → isKeyword (takeWhile isWord u) k ≡ t' → Says k b (keyword k b u)
+    go false e t' e' = rw (← keyword-no-word k b u e) refl
+    go true e false e' = rw (← keyword-other k b u e e') refl
+    go true e true e' = rw (keyword-same k b u e e') e'
+
 -- the invariant of the comparison: the first i bytes agree, and what is left of the word is to be what is left of the keyword
 pub record KeyAt (k u : List ℕ) (i : ℕ) : Type 0 where
   pub inside : i ≤ length k

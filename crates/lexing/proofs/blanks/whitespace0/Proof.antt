@@ -29,7 +29,7 @@ returns : tie.Need-returns Inv-loop μ-loop
 returns c = blanks-end _ _ _ (c .before .before .before .loop .inv) _ (c .before .before .one-blank .ensures) (c .enum-told .given .1)
 
 loop-less : tie.Need-loop-less Inv-loop μ-loop
-loop-less c = let h = blanks-again (c .before .before .before .before .before .before .args .base) (now (c .before .before .before .before .before .before .args .part)) _ (c .before .before .before .before .loop .inv) _ (c .before .before .before .one-blank .ensures) _ (c .before .t .given .1) in omega (arith, h .1, h .0 .inside)
+loop-less c = let h = blanks-again (c .before .before .before .before .before .before .args .base) (now (c .before .before .before .before .before .before .args .part)) _ (c .before .before .before .before .loop .inv) _ (c .before .before .before .one-blank .ensures) _ (c .before .t .given .1) in omega (arith, h .1, h .0 .run .inside)
 
 loop-again : tie.Need-loop-again Inv-loop μ-loop
 loop-again c = blanks-again (c .before .before .before .before .before .before .args .base) (now (c .before .before .before .before .before .before .args .part)) _ (c .before .before .before .before .loop .inv) _ (c .before .before .before .one-blank .ensures) _ (c .before .t .given .1) .0

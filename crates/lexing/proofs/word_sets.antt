@@ -1,0 +1,2 @@
+-- Laws of the readers of word sets.
+pub mod Laws

@@ -1,0 +1,210 @@
+// Word sets: the keywords before a field, a struct, an event, a command or an attribute, in any order and with blanks between them.
+ghost use mathlib.Core.Path.{_≡_};
+ghost use Prim.Native.Nat.{_+_, _^_, _≤_, _<_};
+ghost use mathlib.Core.List.{[]};
+ghost use lib.ListN.{length, take, getD};
+ghost use Rattle.lexing.specs.integers.{u64-max};
+ghost use Rattle.lexing.specs.words.{keyword};
+ghost use Rattle.lexing.specs.word_sets.{set-of};
+ghost use Rattle.lexing.specs.answers.{wordReply, set-gap, startReply, isLower, with-flag, WordSetTo};
+use crate::answers::Step;
+use crate::blanks::whitespace0;
+use crate::bytes::lower_of;
+use crate::parts::rest_at;
+use crate::words::keyword;
+
+// The flags of the words that are written in lower case, the first keyword's bit the highest, and the offset behind the last word.
+pub struct WordSet {
+    pub flags: u8,
+    pub next: usize,
+}
+
+// Where the next word of a set may stand.
+enum Start {
+    Here(usize),
+    Nowhere,
+}
+
+// How many keywords a set has.
+fn keyword_count(set: u8) -> usize
+    ensures { λ r. ⌜ r ≡ length (set-of set) ⌝ }
+{
+    if set == 0 {
+        return 3;
+    }
+    if set == 1 {
+        return 1;
+    }
+    if set == 2 {
+        return 1;
+    }
+    if set == 3 {
+        return 2;
+    }
+    if set == 4 {
+        return 4;
+    }
+    0
+}
+
+// The k-th keyword of a struct's field.
+fn field_keyword(part: &[u8], base: usize, k: usize) -> Step
+    requires { ⌜ base + length (now part) ≤ u64-max ⌝ }
+    requires { ⌜ k < 3 ⌝ }
+    ensures { λ r. ⌜ wordReply r base (now (part .entry)) ≡ keyword (getD (set-of 0) k []) base (now (part .entry)) ⌝ }
+{
+    if k == 0 {
+        return keyword(part, base, b"optional");
+    }
+    if k == 1 {
+        return keyword(part, base, b"nullable");
+    }
+    keyword(part, base, b"fabric_sensitive")
+}
+
+// The k-th keyword of a command.
+fn command_keyword(part: &[u8], base: usize, k: usize) -> Step
+    requires { ⌜ base + length (now part) ≤ u64-max ⌝ }
+    requires { ⌜ k < 2 ⌝ }
+    ensures { λ r. ⌜ wordReply r base (now (part .entry)) ≡ keyword (getD (set-of 3) k []) base (now (part .entry)) ⌝ }
+{
+    if k == 0 {
+        return keyword(part, base, b"timed");
+    }
+    keyword(part, base, b"fabric")
+}
+
+// The k-th keyword of an attribute.
+fn attribute_keyword(part: &[u8], base: usize, k: usize) -> Step
+    requires { ⌜ base + length (now part) ≤ u64-max ⌝ }
+    requires { ⌜ k < 4 ⌝ }
+    ensures { λ r. ⌜ wordReply r base (now (part .entry)) ≡ keyword (getD (set-of 4) k []) base (now (part .entry)) ⌝ }
+{
+    if k == 0 {
+        return keyword(part, base, b"readonly");
+    }
+    if k == 1 {
+        return keyword(part, base, b"writeonly");
+    }
+    if k == 2 {
+        return keyword(part, base, b"nosubscribe");
+    }
+    keyword(part, base, b"timedwrite")
+}
+
+// The k-th keyword of a set.
+fn set_keyword(part: &[u8], base: usize, set: u8, k: usize) -> Step
+    requires { ⌜ base + length (now part) ≤ u64-max ⌝ }
+    requires { ⌜ k < length (set-of set) ⌝ }
+    ensures { λ r. ⌜ wordReply r base (now (part .entry)) ≡ keyword (getD (set-of set) k []) base (now (part .entry)) ⌝ }
+{
+    if set == 0 {
+        return field_keyword(part, base, k);
+    }
+    if set == 1 {
+        return keyword(part, base, b"fabric_scoped");
+    }
+    if set == 2 {
+        return keyword(part, base, b"fabric_sensitive");
+    }
+    if set == 3 {
+        return command_keyword(part, base, k);
+    }
+    attribute_keyword(part, base, k)
+}
+
+// Whether the first n bytes are in lower case.
+fn is_lower(part: &[u8], n: usize) -> bool
+    requires { ⌜ n ≤ length (now part) ⌝ }
+    ensures { λ r. ⌜ r ≡ isLower (take n (now (part .entry))) ⌝ }
+{
+    let mut i = 0;
+    while i < n {
+        let x = part[i];
+        if lower_of(x) != x {
+            return false;
+        }
+        i += 1;
+    }
+    true
+}
+
+// The bit of a keyword that others stand behind.
+fn bit_before(others: usize) -> u8
+    requires { ⌜ others < 4 ⌝ }
+    ensures { λ r. ⌜ r ≡ 2 ^ others ⌝ }
+{
+    if others == 0 {
+        return 1;
+    }
+    if others == 1 {
+        return 2;
+    }
+    if others == 2 {
+        return 4;
+    }
+    8
+}
+
+// The flags with that of a keyword, where the word counts.
+fn with_flag(flags: u8, others: usize, counts: bool) -> u8
+    requires { ⌜ flags < 16 ⌝ }
+    requires { ⌜ others < 4 ⌝ }
+    ensures { λ r. ⌜ r ≡ with-flag counts (2 ^ others) flags ⌝ }
+{
+    if !counts {
+        return flags;
+    }
+    let bit = bit_before(others);
+    if flags / bit % 2 == 1 {
+        return flags;
+    }
+    flags + bit
+}
+
+// A blank before each word but the first; without it the set has ended.
+fn word_start(part: &[u8], base: usize, first: bool) -> Start
+    requires { ⌜ base + length (now part) ≤ u64-max ⌝ }
+    ensures { λ r. ⌜ startReply r base (now (part .entry)) ≡ set-gap first base (now (part .entry)) ⌝ }
+{
+    if first {
+        return Start::Here(base);
+    }
+    let b = whitespace0(part, base);
+    let next = b.next;
+    if next == base {
+        return Start::Nowhere;
+    }
+    Start::Here(next)
+}
+
+// A set by its number: of a struct's field, a struct, an event, a command, an attribute; any other is empty.
+pub fn keywords_set(part: &[u8], base: usize, set: u8) -> WordSet
+    requires { ⌜ base + length (now part) ≤ u64-max ⌝ }
+    ensures { λ r. ⌜ WordSetTo r set base (now (part .entry)) ⌝ }
+{
+    let count = keyword_count(set);
+    let mut flags = 0;
+    let mut next = base;
+    let mut first = true;
+    'words: loop {
+        let s = word_start(rest_at(part, base, next), next, first);
+        let Start::Here(start) = s else {
+            break;
+        };
+        let rest = rest_at(part, base, start);
+        let mut k = 0;
+        while k < count {
+            let w = set_keyword(rest, start, set, k);
+            if let Step::Next(end) = w {
+                flags = with_flag(flags, count - 1 - k, is_lower(rest, end - start));
+                next = end;
+                first = false;
+                continue 'words;
+            }
+            k += 1;
+        }
+        break;
+    }
+    WordSet { flags, next }
+}
