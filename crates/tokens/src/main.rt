@@ -12,6 +12,7 @@ use lexing::integers::Number;
 use lexing::integers::SignedNumber;
 use lexing::unescaping::Unescaping;
 use lexing::utf8::Utf8;
+use lexing::word_sets::WordSet;
 
 const OUT: i32 = 1;
 
@@ -91,6 +92,11 @@ fn print_utf8(r: Utf8) {
     }
 }
 
+fn print_set(r: WordSet) {
+    print_number(b" flags ", r.flags as usize);
+    print_number(b" next ", r.next);
+}
+
 // Into eight bytes of output.
 fn print_unescaped(text: &[u8]) {
     let mut output = [b'.'; 8];
@@ -120,6 +126,7 @@ fn print_answer(reader: u8, part: &[u8], base: usize)
         b'a' => print_step(lexing::strings::quoted_string(part, base)),
         b'd' => print_step(lexing::strings::default_string(part, base)),
         b'u' => print_utf8(lexing::utf8::utf8_error(part, base)),
+        b'0'..=b'4' => print_set(lexing::word_sets::keywords_set(part, base, reader - b'0')),
         _ => {
             io::write_all(OUT, b" no such reader");
         }

@@ -1,24 +1,17 @@
-use borrow.Author.Needs.{needs}
 use Rattle.lexing.proofs.word_sets.bit_before.Statement.{statement}
 use Rattle.lexing.proofs.word_sets.bit_before.Tie as tie
-use Rattle.lexing.proofs.word_sets.bit_before.Reads as reads
-use Rattle.lexing.proofs.word_sets.bit_before.Lts as lts
 use native.Mathlib.Omega.{arith}
 use Rattle.lexing.proofs.word_sets.Laws.{bit-at}
 
--- src/word_sets.rt:138:9
 returns : tie.Need-returns
 returns c = bit-at (c .if1 .taken)
 
--- src/word_sets.rt:141:9
 returns-2 : tie.Need-returns-2
 returns-2 c = bit-at (c .if2 .taken)
 
--- src/word_sets.rt:144:9
 returns-3 : tie.Need-returns-3
 returns-3 c = bit-at (c .if3 .taken)
 
--- src/word_sets.rt:133:1
 returns-4 : tie.Need-returns-4
 returns-4 c = bit-at {m = 3} (omega arith)
 

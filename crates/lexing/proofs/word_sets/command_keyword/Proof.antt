@@ -1,36 +1,27 @@
 use borrow.Author.Needs.{needs}
 use Rattle.lexing.proofs.word_sets.command_keyword.Statement.{statement}
 use Rattle.lexing.proofs.word_sets.command_keyword.Tie as tie
-use Rattle.lexing.proofs.word_sets.command_keyword.Reads as reads
-use Rattle.lexing.proofs.word_sets.command_keyword.Lts as lts
-use Rattle.lexing.proofs.words.keyword.Reads as keyword-reads
 use mathlib.Core.Path.{refl}
 use native.Mathlib.Omega.{arith}
 use Rattle.lexing.specs.word_sets.{sets, set-of}
 use Rattle.lexing.proofs.word_sets.Laws.{keyword-at}
 
--- src/word_sets.rt:72:36
 slice-aggregate-keyword : tie.Need-slice-aggregate-keyword
 slice-aggregate-keyword c = search needs
 
--- src/word_sets.rt:72:9
 keyword-requires : tie.Need-keyword-requires
 keyword-requires c κs = search needs
 
--- src/word_sets.rt:72:9
 returns : tie.Need-returns
 unfolding set-of sets
 returns c = keyword-at {n = 3} _ _ refl (c .before .before .if1 .taken) (c .keyword .ensures)
 
--- src/word_sets.rt:74:25
 slice-aggregate-keyword-2 : tie.Need-slice-aggregate-keyword-2
 slice-aggregate-keyword-2 c = search needs
 
--- src/word_sets.rt:74:5
 keyword-requires-2 : tie.Need-keyword-requires-2
 keyword-requires-2 c κs = search needs
 
--- src/word_sets.rt:66:1
 returns-2 : tie.Need-returns-2
 unfolding set-of sets
 returns-2 c = keyword-at {n = 3} {k = c .before .before .before .before .args .k} {j = 1} _ _ refl (omega arith) (c .keyword2 .ensures)

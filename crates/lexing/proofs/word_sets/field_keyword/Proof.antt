@@ -1,49 +1,37 @@
 use borrow.Author.Needs.{needs}
 use Rattle.lexing.proofs.word_sets.field_keyword.Statement.{statement}
 use Rattle.lexing.proofs.word_sets.field_keyword.Tie as tie
-use Rattle.lexing.proofs.word_sets.field_keyword.Reads as reads
-use Rattle.lexing.proofs.word_sets.field_keyword.Lts as lts
-use Rattle.lexing.proofs.words.keyword.Reads as keyword-reads
 use mathlib.Core.Path.{refl}
 use native.Mathlib.Omega.{arith}
 use Rattle.lexing.specs.word_sets.{sets, set-of}
 use Rattle.lexing.proofs.word_sets.Laws.{keyword-at}
 
--- src/word_sets.rt:57:36
 slice-aggregate-keyword : tie.Need-slice-aggregate-keyword
 slice-aggregate-keyword c = search needs
 
--- src/word_sets.rt:57:9
 keyword-requires : tie.Need-keyword-requires
 keyword-requires c κs = search needs
 
--- src/word_sets.rt:57:9
 returns : tie.Need-returns
 unfolding set-of sets
 returns c = keyword-at {n = 0} _ _ refl (c .before .before .if1 .taken) (c .keyword .ensures)
 
--- src/word_sets.rt:60:36
 slice-aggregate-keyword-2 : tie.Need-slice-aggregate-keyword-2
 slice-aggregate-keyword-2 c = search needs
 
--- src/word_sets.rt:60:9
 keyword-requires-2 : tie.Need-keyword-requires-2
 keyword-requires-2 c κs = search needs
 
--- src/word_sets.rt:60:9
 returns-2 : tie.Need-returns-2
 unfolding set-of sets
 returns-2 c = keyword-at {n = 0} _ _ refl (c .before .before .if2 .taken) (c .keyword2 .ensures)
 
--- src/word_sets.rt:62:25
 slice-aggregate-keyword-3 : tie.Need-slice-aggregate-keyword-3
 slice-aggregate-keyword-3 c = search needs
 
--- src/word_sets.rt:62:5
 keyword-requires-3 : tie.Need-keyword-requires-3
 keyword-requires-3 c κs = search needs
 
--- src/word_sets.rt:51:1
 returns-3 : tie.Need-returns-3
 unfolding set-of sets
 returns-3 c = keyword-at {n = 0} {k = c .before .before .before .before .before .args .k} {j = 2} _ _ refl (omega arith) (c .keyword3 .ensures)

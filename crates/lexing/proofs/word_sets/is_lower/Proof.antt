@@ -1,9 +1,6 @@
 use borrow.Author.Needs.{needs}
 use Rattle.lexing.proofs.word_sets.is_lower.Statement.{statement}
 use Rattle.lexing.proofs.word_sets.is_lower.Tie as tie
-use Rattle.lexing.proofs.word_sets.is_lower.Reads as reads
-use Rattle.lexing.proofs.word_sets.is_lower.Lts as lts
-use Rattle.lexing.proofs.bytes.lower_of.Reads as lower-of-reads
 use mathlib.Core.Path.{sym, _∙_}
 use Prim.Native.Nat.{_-_}
 use Rattle.lexing.proofs.word_sets.Laws.{LowerAt, lower-start, lower-more, lower-not, lower-end}
@@ -14,35 +11,27 @@ Inv-loop part n i₀ i = LowerAt part n i
 abbrev μ-loop : tie.MeasureT-loop
 μ-loop part n i₀ i = n - i
 
--- src/word_sets.rt:122:5
 loop-holds : tie.Need-loop-holds Inv-loop μ-loop
 loop-holds c = lower-start _ _
 
--- src/word_sets.rt:123:17
 shared-slice-read-x : tie.Need-shared-slice-read-x Inv-loop μ-loop
 shared-slice-read-x c = search needs
 
--- src/word_sets.rt:124:12
 lower-of-requires : tie.Need-lower-of-requires Inv-loop μ-loop
 lower-of-requires c κs = search needs
 
--- src/word_sets.rt:125:13
 returns : tie.Need-returns Inv-loop μ-loop
 returns c = lower-not _ _ _ (c .before .before .before .before .loop .inv) (c .before .before .before .before .before .before .pre) (c .before .before .before .loop-test .taken) (λ e. c .if1 .taken (c .before .lower-of .ensures ∙ e))
 
--- src/word_sets.rt:127:9
 add-i : tie.Need-add-i Inv-loop μ-loop
 add-i c = search needs
 
--- src/word_sets.rt:122:5
 loop-less : tie.Need-loop-less Inv-loop μ-loop
 loop-less c = search needs
 
--- src/word_sets.rt:122:5
 loop-again : tie.Need-loop-again Inv-loop μ-loop
 loop-again c = lower-more _ _ _ (c .before .before .before .before .loop .inv) (c .before .before .before .before .before .before .pre) (c .before .before .before .loop-test .taken) (sym (c .before .lower-of .ensures) ∙ c .if1 .left)
 
--- src/word_sets.rt:117:1
 returns-2 : tie.Need-returns-2 Inv-loop μ-loop
 returns-2 c = lower-end _ _ _ (c .before .loop .inv) (c .before .before .before .pre) (c .loop-test .left)
 

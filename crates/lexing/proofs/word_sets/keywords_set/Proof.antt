@@ -1,15 +1,7 @@
 use borrow.Author.Needs.{needs}
 use Rattle.lexing.proofs.word_sets.keywords_set.Statement.{statement}
 use Rattle.lexing.proofs.word_sets.keywords_set.Tie as tie
-use Rattle.lexing.proofs.word_sets.keywords_set.Reads as reads
-use Rattle.lexing.proofs.word_sets.keywords_set.Lts as lts
-use Rattle.lexing.proofs.parts.rest_at.Reads as rest-at-reads
-use Rattle.lexing.proofs.word_sets.is_lower.Reads as is-lower-reads
-use Rattle.lexing.proofs.word_sets.keyword_count.Reads as keyword-count-reads
-use Rattle.lexing.proofs.word_sets.set_keyword.Reads as set-keyword-reads
-use Rattle.lexing.proofs.word_sets.with_flag.Reads as with-flag-reads
-use Rattle.lexing.proofs.word_sets.word_start.Reads as word-start-reads
-use mathlib.Core.Path.{_≡_, refl, sym, _∙_}
+use mathlib.Core.Path.{_≡_, refl}
 use native.Mathlib.Omega.{arith}
 use Prim.Native.Nat.{_+_, _-_}
 use lib.ListN.{length}
@@ -27,94 +19,72 @@ Inv-words part base set count flags₀ next₀ first₀ flags next first = SetAt
 abbrev μ-words : tie.MeasureT-words
 μ-words part base set count flags₀ next₀ first₀ flags next first = base + length part - next
 
--- src/word_sets.rt:186:9
 keyword-count-requires : tie.Need-keyword-count-requires Inv-loop μ-loop Inv-words μ-words
 keyword-count-requires c κs = search needs
 
--- src/word_sets.rt:190:5
 words-holds : tie.Need-words-holds Inv-loop μ-loop Inv-words μ-words
 words-holds c = set-start _ _ _
 
--- src/word_sets.rt:191:28
 rest-at-requires : tie.Need-rest-at-requires Inv-loop μ-loop Inv-words μ-words
 rest-at-requires c κs = search needs
 
--- src/word_sets.rt:191:13
 word-start-requires : tie.Need-word-start-requires Inv-loop μ-loop Inv-words μ-words
 word-start-requires c κs = search needs
 
--- src/word_sets.rt:192:25
 enum-known-s : tie.Need-enum-known-s Inv-loop μ-loop Inv-words μ-words
 enum-known-s c = search needs
 
--- src/word_sets.rt:193:13
 enum-told : tie.Need-enum-told Inv-loop μ-loop Inv-words μ-words
 enum-told c = search needs
 
--- src/word_sets.rt:195:13
 rest-at-requires-2 : tie.Need-rest-at-requires-2 Inv-loop μ-loop Inv-words μ-words
 rest-at-requires-2 c κs = omega (arith, (start-took _ (c .before .before .before .word-start .result) _ (c .before .before .before .before .rest-at .ensures) (c .before .before .before .word-start .ensures) (c .before .s .given .1)) .up, (start-took _ (c .before .before .before .word-start .result) _ (c .before .before .before .before .rest-at .ensures) (c .before .before .before .word-start .ensures) (c .before .s .given .1)) .inside, c .before .before .before .before .before .words .inv .at .from)
 
--- src/word_sets.rt:197:9
 loop-holds : tie.Need-loop-holds Inv-loop μ-loop Inv-words μ-words
 loop-holds c = (walk-start (c .before .before .before .before .before .before .words .inv) (start-took _ (c .before .before .before .before .word-start .result) _ (c .before .before .before .before .before .rest-at .ensures) (c .before .before .before .before .word-start .ensures) (c .before .before .s .given .1)) (c .rest-at2 .ensures), refl)
 
--- src/word_sets.rt:198:17
 set-keyword-requires : tie.Need-set-keyword-requires Inv-loop μ-loop Inv-words μ-words
 set-keyword-requires c κs = search needs
 
--- src/word_sets.rt:199:31
 enum-known-w : tie.Need-enum-known-w Inv-loop μ-loop Inv-words μ-words
 enum-known-w c = search needs
 
--- src/word_sets.rt:200:42
 sub-with-flag : tie.Need-sub-with-flag Inv-loop μ-loop Inv-words μ-words
 sub-with-flag c = search needs
 
--- src/word_sets.rt:200:42
 sub-with-flag-2 : tie.Need-sub-with-flag-2 Inv-loop μ-loop Inv-words μ-words
 sub-with-flag-2 c = search needs
 
--- src/word_sets.rt:200:72
 sub-is-lower : tie.Need-sub-is-lower Inv-loop μ-loop Inv-words μ-words
 sub-is-lower c = omega (arith, walk-found (c .before .before .before .before .before .loop .inv .0) (c .before .before .before .before .before .before .before .before .before .before .before .before .before .keyword-count .ensures) (c .before .before .before .before .loop-test .taken) (c .before .before .before .set-keyword .result) (c .before .before .before .set-keyword .ensures) _ (c .before .w .given .1) .up)
 
--- src/word_sets.rt:200:57
 is-lower-requires : tie.Need-is-lower-requires Inv-loop μ-loop Inv-words μ-words
 is-lower-requires c κs = omega (arith, walk-found (c .before .before .before .before .before .loop .inv .0) (c .before .before .before .before .before .before .before .before .before .before .before .before .before .keyword-count .ensures) (c .before .before .before .before .loop-test .taken) (c .before .before .before .set-keyword .result) (c .before .before .before .set-keyword .ensures) _ (c .before .w .given .1) .inside)
 
--- src/word_sets.rt:200:17
 with-flag-requires : tie.Need-with-flag-requires Inv-loop μ-loop Inv-words μ-words
 with-flag-requires c κs = omega (arith, c .before .before .before .before .before .before .loop .inv .0 .set .small, set-most (c .before .before .before .before .before .before .before .before .before .before .before .before .before .before .before .before .args .set), c .before .before .before .before .before .before .before .before .before .before .before .before .before .before .keyword-count .ensures)
 
--- src/word_sets.rt:190:5
 words-less : tie.Need-words-less Inv-loop μ-loop Inv-words μ-words
 words-less c = let h = (walk-again (c .before .before .before .before .before .before .before .loop .inv .0) (c .before .before .before .before .before .before .before .before .before .before .before .before .before .before .before .keyword-count .ensures) (c .before .before .before .before .before .before .loop-test .taken) (c .before .before .before .before .before .set-keyword .result) (c .before .before .before .before .before .set-keyword .ensures) _ (c .before .before .before .w .given .1) _ _ _ refl (c .before .is-lower .ensures) (c .with-flag .ensures)) in omega (arith, h .1, h .0 .at .inside, c .before .before .before .before .before .before .before .loop .inv .1)
 
--- src/word_sets.rt:190:5
 words-again : tie.Need-words-again Inv-loop μ-loop Inv-words μ-words
 words-again c = (walk-again (c .before .before .before .before .before .before .before .loop .inv .0) (c .before .before .before .before .before .before .before .before .before .before .before .before .before .before .before .keyword-count .ensures) (c .before .before .before .before .before .before .loop-test .taken) (c .before .before .before .before .before .set-keyword .result) (c .before .before .before .before .before .set-keyword .ensures) _ (c .before .before .before .w .given .1) _ _ _ refl (c .before .is-lower .ensures) (c .with-flag .ensures)) .0
 
 enum-told-2 : tie.Need-enum-told-2 Inv-loop μ-loop Inv-words μ-words
 enum-told-2 c = search needs
 
--- src/word_sets.rt:205:13
 add-k : tie.Need-add-k Inv-loop μ-loop Inv-words μ-words
 add-k c = search needs
 
--- src/word_sets.rt:197:9
 loop-less : tie.Need-loop-less Inv-loop μ-loop Inv-words μ-words
 loop-less c = search needs
 
--- src/word_sets.rt:197:9
 loop-again : tie.Need-loop-again Inv-loop μ-loop Inv-words μ-words
 loop-again c = (walk-more (c .before .before .before .before .loop .inv .0) (c .before .before .before .before .before .before .before .before .before .before .before .before .keyword-count .ensures) (c .before .before .before .loop-test .taken) (c .before .before .set-keyword .result) (c .before .before .set-keyword .ensures) _ (c .enum-told2 .given .1), c .before .before .before .before .loop .inv .1)
 
--- src/word_sets.rt:182:1
 returns : tie.Need-returns Inv-loop μ-loop Inv-words μ-words
 returns c = set-no-start (c .before .before .before .before .words .inv) (c .before .before .word-start .result) (c .before .before .before .rest-at .ensures) (c .before .before .word-start .ensures) (c .enum-told .given .1)
 
--- src/word_sets.rt:182:1
 returns-2 : tie.Need-returns-2 Inv-loop μ-loop Inv-words μ-words
 returns-2 c = walk-end (c .before .loop .inv .0) (c .before .before .before .before .before .before .before .before .before .keyword-count .ensures) (c .loop-test .left)
 

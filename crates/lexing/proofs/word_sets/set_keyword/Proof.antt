@@ -1,67 +1,49 @@
 use borrow.Author.Needs.{needs}
 use Rattle.lexing.proofs.word_sets.set_keyword.Statement.{statement}
 use Rattle.lexing.proofs.word_sets.set_keyword.Tie as tie
-use Rattle.lexing.proofs.word_sets.set_keyword.Reads as reads
-use Rattle.lexing.proofs.word_sets.set_keyword.Lts as lts
-use Rattle.lexing.proofs.word_sets.attribute_keyword.Reads as attribute-keyword-reads
-use Rattle.lexing.proofs.word_sets.command_keyword.Reads as command-keyword-reads
-use Rattle.lexing.proofs.word_sets.field_keyword.Reads as field-keyword-reads
-use Rattle.lexing.proofs.words.keyword.Reads as keyword-reads
 use mathlib.Core.Path.{refl}
 use native.Mathlib.Omega.{arith}
 use Rattle.lexing.specs.word_sets.{sets, set-of}
 use Rattle.lexing.proofs.word_sets.Laws.{keyword-at, below-count, set-below}
 
--- src/word_sets.rt:102:9
 field-keyword-requires : tie.Need-field-keyword-requires
 unfolding set-of sets
 field-keyword-requires c κs = (c .before .before .pre .0, below-count _ (c .if1 .taken) (c .before .before .pre .1))
 
--- src/word_sets.rt:102:9
 returns : tie.Need-returns
 returns c = keyword-at _ _ (c .before .if1 .taken) refl (c .field-keyword .ensures)
 
--- src/word_sets.rt:105:36
 slice-aggregate-keyword : tie.Need-slice-aggregate-keyword
 slice-aggregate-keyword c = search needs
 
--- src/word_sets.rt:105:9
 keyword-requires : tie.Need-keyword-requires
 keyword-requires c κs = search needs
 
--- src/word_sets.rt:105:9
 returns-2 : tie.Need-returns-2
 unfolding set-of sets
 returns-2 c = keyword-at {j = 0} _ _ (c .before .before .if2 .taken) (omega (arith, below-count (c .before .before .before .before .before .args .k) (c .before .before .if2 .taken) (c .before .before .before .before .before .pre .1))) (c .keyword .ensures)
 
--- src/word_sets.rt:108:36
 slice-aggregate-keyword-2 : tie.Need-slice-aggregate-keyword-2
 slice-aggregate-keyword-2 c = search needs
 
--- src/word_sets.rt:108:9
 keyword-requires-2 : tie.Need-keyword-requires-2
 keyword-requires-2 c κs = search needs
 
--- src/word_sets.rt:108:9
 returns-3 : tie.Need-returns-3
 unfolding set-of sets
 returns-3 c = keyword-at {j = 0} _ _ (c .before .before .if3 .taken) (omega (arith, below-count (c .before .before .before .before .before .before .args .k) (c .before .before .if3 .taken) (c .before .before .before .before .before .before .pre .1))) (c .keyword2 .ensures)
 
--- src/word_sets.rt:111:9
 command-keyword-requires : tie.Need-command-keyword-requires
 unfolding set-of sets
 command-keyword-requires c κs = (c .before .before .before .before .before .pre .0, below-count _ (c .if4 .taken) (c .before .before .before .before .before .pre .1))
 
--- src/word_sets.rt:111:9
 returns-4 : tie.Need-returns-4
 returns-4 c = keyword-at _ _ (c .before .if4 .taken) refl (c .command-keyword .ensures)
 
--- src/word_sets.rt:113:5
 attribute-keyword-requires : tie.Need-attribute-keyword-requires
 unfolding set-of sets
 attribute-keyword-requires c κs = (c .before .before .before .before .before .pre .0, below-count {n = c .before .before .before .before .before .args .set} {m = 4} _ (omega (arith, set-below (c .before .before .before .before .before .args .set) (c .before .before .before .before .before .args .k) (c .before .before .before .before .before .pre .1))) (c .before .before .before .before .before .pre .1))
 
--- src/word_sets.rt:96:1
 returns-5 : tie.Need-returns-5
 returns-5 c = keyword-at {m = 4} _ _ (omega (arith, set-below (c .before .before .before .before .before .before .args .set) (c .before .before .before .before .before .before .args .k) (c .before .before .before .before .before .before .pre .1))) refl (c .attribute-keyword .ensures)
 

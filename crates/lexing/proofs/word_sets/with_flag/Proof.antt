@@ -1,33 +1,24 @@
 use borrow.Author.Needs.{needs}
 use Rattle.lexing.proofs.word_sets.with_flag.Statement.{statement}
 use Rattle.lexing.proofs.word_sets.with_flag.Tie as tie
-use Rattle.lexing.proofs.word_sets.with_flag.Reads as reads
-use Rattle.lexing.proofs.word_sets.with_flag.Lts as lts
-use Rattle.lexing.proofs.word_sets.bit_before.Reads as bit-before-reads
 use native.Mathlib.Omega.{arith}
 use Rattle.lexing.proofs.word_sets.Laws.{flag-off, flag-there, flag-new, flag-bit}
 
--- src/word_sets.rt:156:9
 returns : tie.Need-returns
 returns c = flag-off _ _ _ (c .if1 .taken)
 
--- src/word_sets.rt:158:9
 bit-before-requires : tie.Need-bit-before-requires
 bit-before-requires c κs = search needs
 
--- src/word_sets.rt:159:8
 div-if2 : tie.Need-div-if2
 div-if2 c = omega (arith, (flag-bit (c .before .before .args .counts) (c .before .before .args .others) _ (c .before .before .args .flags) (c .before .if1 .left) (c .bit-before .ensures) (c .before .before .pre .1)) .0)
 
--- src/word_sets.rt:160:9
 returns-2 : tie.Need-returns-2
 returns-2 c = flag-there _ _ _ _ (c .before .before .if1 .left) (c .before .bit-before .ensures) (c .if2 .taken)
 
--- src/word_sets.rt:162:5
 add-result : tie.Need-add-result
 add-result c = omega (arith, (flag-bit (c .before .before .before .args .counts) (c .before .before .before .args .others) _ (c .before .before .before .args .flags) (c .before .before .if1 .left) (c .before .bit-before .ensures) (c .before .before .before .pre .1)) .1)
 
--- src/word_sets.rt:150:1
 returns-3 : tie.Need-returns-3
 returns-3 c = flag-new _ _ _ _ (c .before .before .if1 .left) (c .before .bit-before .ensures) (c .if2 .left)
 
