@@ -10,3 +10,4 @@ pub mod TokenLocality
 pub mod Scans
 pub mod Slicing
 pub mod Repetition
+pub mod KnownAnswers
