@@ -1,7 +1,7 @@
 -- The chain of a text: the places at which any parser can stand, one behind another, with the depth of braces.
 -- A parser that succeeds ends on the chain of its start. A chain that comes to the end of the text at depth 0 meets no unclosed comment or string.
-use Prim.Native.Nat.{ℕ, zero, suc, _+_, _≤_, _<_}
-use mathlib.Core.Path.{_≡_, refl, sym, _∙_, ap}
+use Prim.Native.Nat.{ℕ, suc, _+_, _<_}
+use mathlib.Core.Path.{_≡_, refl, sym}
 use mathlib.Core.Bool.{Bool, true, false, _||_}
 use mathlib.Core.List.{List, [], _∷_, _++_}
 use native.Mathlib.Omega.{arith}
@@ -14,7 +14,7 @@ use Rattle.lexing.specs.integers.{positive-integer, signed-integer}
 use Rattle.lexing.specs.blanks.{whitespace-group}
 use Rattle.lexing.specs.strings.{Escape, allowed, string-with}
 use Rattle.lexing.proofs.Runs.{Cut, Suf, same, skip, suf-trans, suf-cut}
-use Rattle.lexing.proofs.Onward.{Ends, Onward, Advances, advances-onward, parse-id-advances, integer-advances, signed-advances, group-advances, string-advances}
+use Rattle.lexing.proofs.Onward.{Ends, Advances, advances-onward, parse-id-advances, integer-advances, signed-advances, group-advances, string-advances}
 
 -- the one step from a place: behind a token, into braces or out of them; none at the end of the text or at a token that is not whole
 pub data Next : Type 0 where

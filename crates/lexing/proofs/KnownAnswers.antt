@@ -1,15 +1,15 @@
 -- Known answers of the tokens, from document 01, the doc comments of parser.rs and nom's documentation: one table a kind of token, each closed by computing.
-use Prim.Native.Nat.{ℕ, zero, suc, _+_, _-_, _^_}
+use Prim.Native.Nat.{_+_, _-_, _^_}
 use mathlib.Core.Path.{_≡_, refl}
-use mathlib.Core.Bool.{Bool, true, false}
+use mathlib.Core.Bool.{true, false}
 use mathlib.Core.List.{List, [], _∷_, map}
 use Prim.Native.String.{String}
 use Rattle.lexing.specs.bytes.{ascii, isLetter, isDigit, isHex, isWord, isSpace, inLine, within, lower, takeWhile, dropWhile, digit, number}
 use Rattle.lexing.specs.reply.{Reply, ok, fail, stop, Parser, ret, _>>=_, _>>_, _or_, further, catch, iter, iterWithin, keep, position, failAt, pick}
-use Rattle.lexing.specs.blanks.{Doc, no-doc, doc-at, after, line-comment, block-comment, multispace1, until-close, one-more, comment-kind, closed, whitespace-group, one-blank, whitespace0, whitespace1}
-use Rattle.lexing.specs.words.{Word, word, bytesOf, parse-id, isKeyword, keyword, any-keyword}
-use Rattle.lexing.specs.integers.{Signed, signed, fitting, hex-integer, decimal-integer, positive-integer, largest, in-range, after-sign, signed-integer}
-use Rattle.lexing.specs.strings.{Span, span, string-rest, span-from, string-with, annotation-escape, quoted-string, default-escape, default-string}
+use Rattle.lexing.specs.blanks.{no-doc, doc-at, after, line-comment, block-comment, multispace1, until-close, one-more, comment-kind, closed, whitespace-group, one-blank, whitespace0, whitespace1}
+use Rattle.lexing.specs.words.{word, bytesOf, parse-id, isKeyword, keyword, any-keyword}
+use Rattle.lexing.specs.integers.{signed, fitting, hex-integer, decimal-integer, positive-integer, largest, in-range, after-sign, signed-integer}
+use Rattle.lexing.specs.strings.{span, string-rest, span-from, string-with, annotation-escape, quoted-string, default-escape, default-string}
 use Rattle.lexing.specs.word_sets.{next-word, set-step, keywords-set, same-bytes, contains, bit, flags, sets, set-of, set-flags}
 
 -- a text and the reply to it, read from offset 0

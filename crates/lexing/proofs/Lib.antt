@@ -1,13 +1,18 @@
--- The laws of the definitions, and the proofs of the functions.
--- Tests, Runs: bytes, runs of bytes, texts that end at a cut.
+-- Laws of the definitions. A module's own laws, for the proofs of its functions, stand in MODULE/Laws.antt.
+
+-- bytes; runs of bytes and texts that end at a cut; loops that scan a run
 pub mod Tests
 pub mod Runs
+pub mod Scans
+-- a parser that succeeds ends inside its text
 pub mod Onward
+-- the place moves by the shift of the base
 pub mod Shift
+-- locality under appended text: the chain of a text, certificates of the combinators, certificates of the tokens
 pub mod Chain
 pub mod Locality
 pub mod TokenLocality
-pub mod Scans
+-- what a reader's answer gives its caller; loops of the code against `many0` and `iter`
 pub mod Slicing
 pub mod Repetition
 pub mod KnownAnswers

@@ -1,18 +1,18 @@
 -- A parser that succeeds ends inside its text: what it leaves is a tail of the text, and the offset has been counted on. Tokens read a byte or more.
-use Prim.Native.Nat.{ℕ, zero, suc, _+_, _≤_, _<_}
-use mathlib.Core.Path.{_≡_, refl, ap}
-use mathlib.Core.Bool.{Bool, true, false, _&&_, _||_, false≢true}
+use Prim.Native.Nat.{ℕ, suc, _+_, _<_}
+use mathlib.Core.Path.{_≡_, refl}
+use mathlib.Core.Bool.{Bool, true, false, _&&_, _||_}
 use mathlib.Core.List.{List, [], _∷_}
 use native.Mathlib.Omega.{arith}
 use lib.Dec.{eqb, leb}
 use lib.ListN.{length}
-use Rattle.lexing.specs.bytes.{quote, backslash, slash, star, plus, minus, isLetter, isDigit, isWord, isHex, isSpace, inLine, takeWhile, dropWhile, number}
+use Rattle.lexing.specs.bytes.{quote, backslash, slash, star, plus, minus, isLetter, isDigit, isWord, isHex, isSpace, inLine, takeWhile}
 use Rattle.lexing.specs.reply.{Reply, ok, fail, stop, Parser, catch}
 use Rattle.lexing.specs.words.{parse-id, tag}
-use Rattle.lexing.specs.integers.{u64-max, fitting, hex-integer, decimal-integer, positive-integer, Signed, largest, in-range, after-sign, signed-integer}
-use Rattle.lexing.specs.blanks.{Whitespace, line-comment, Until, found, never, one-more, until-close, closed, block-comment, multispace1, whitespace-group}
+use Rattle.lexing.specs.integers.{u64-max, fitting, hex-integer, decimal-integer, positive-integer, largest, in-range, after-sign, signed-integer}
+use Rattle.lexing.specs.blanks.{line-comment, Until, found, never, one-more, until-close, closed, block-comment, multispace1, whitespace-group}
 use Rattle.lexing.specs.strings.{Escape, allowed, forbidden, panics, string-rest, span-from, string-with}
-use Rattle.lexing.proofs.Runs.{Suf, same, skip, suf-trans, dropWhile-suf, run-length}
+use Rattle.lexing.proofs.Runs.{Suf, same, skip, dropWhile-suf, run-length}
 
 -- a tail, the offset counted on
 abbrev pub Ends : {A : Type 0} → ℕ → List ℕ → Reply A → Type 0

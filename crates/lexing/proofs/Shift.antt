@@ -1,16 +1,16 @@
 -- The place moves by the shift of the base: a parser that reads at an offset moved by d answers the same, with every offset moved by d.
-use Prim.Native.Nat.{ℕ, zero, suc, _+_, _-_, max}
-use mathlib.Core.Path.{_≡_, refl, sym, _∙_, ap}
+use Prim.Native.Nat.{ℕ, zero, suc, _+_, _-_}
+use mathlib.Core.Path.{_≡_, refl, _∙_, ap}
 use mathlib.Core.Bool.{Bool, true, false, _&&_, _||_}
 use mathlib.Core.Option.{Option, none, some}
 use mathlib.Core.List.{List, [], _∷_, map}
 use native.Mathlib.Omega.{arith}
 use lib.Dec.{eqb, leb, eqb·suc-suc}
 use lib.ListN.{length}
-use Rattle.lexing.specs.bytes.{quote, backslash, slash, star, plus, minus, isLetter, isDigit, isWord, isHex, isSpace, inLine, takeWhile, dropWhile, number}
+use Rattle.lexing.specs.bytes.{quote, backslash, slash, star, plus, minus, isLetter, isDigit, isWord, isHex, isSpace, inLine, takeWhile}
 use Rattle.lexing.specs.reply.{Reply, ok, fail, stop, Parser, ret, _>>=_, _>>_, opt, further, _or_, prepend, manyWithin, many0, failAt, stopAt, position, catch, pick, iterWithin, iter, keep}
 use Rattle.lexing.specs.words.{Word, word, bytesOf, parse-id, isKeyword, keyword, any-keyword, tag}
-use Rattle.lexing.specs.integers.{u64-max, fitting, hex-integer, decimal-integer, positive-integer, Signed, largest, in-range, after-sign, signed-integer}
+use Rattle.lexing.specs.integers.{u64-max, fitting, hex-integer, decimal-integer, positive-integer, largest, in-range, after-sign, signed-integer}
 use Rattle.lexing.specs.blanks.{Whitespace, white, plain, doc-comment, line-comment, Until, found, never, until-close, comment-kind, closed, block-comment, multispace1, whitespace-group, Doc, no-doc, doc-at, after, one-blank, whitespace0, whitespace1}
 use Rattle.lexing.specs.strings.{Span, span, Escape, allowed, forbidden, panics, string-rest, span-from, string-with}
 use Rattle.lexing.specs.word_sets.{next-word, set-step, keywords-set, contains, flags, set-of, set-flags}

@@ -1,18 +1,18 @@
 -- What a reader's answer gives its caller: the rest of the part to go on with, and one law for each step of a sequence of parsers.
 use mathlib.Core.Path.{_≡_, refl, sym, ap, _∙_, subst}
-use mathlib.Core.List.{List, [], _∷_}
+use mathlib.Core.List.{List}
 use mathlib.Core.Bool.{Bool}
-use Prim.Native.Nat.{ℕ, zero, suc, _+_, _-_, _≤_, _<_}
+use Prim.Native.Nat.{ℕ, suc, _+_, _-_, _≤_}
 use native.Mathlib.Omega.{arith}
 use lib.ListN.{length, drop, take, length-drop}
 use lib.Seq.{take-all, drop-drop}
 use Rattle.lexing.specs.reply.{Reply, ok, fail, stop, Parser, ret, _>>=_, _>>_, _or_, further}
-use Rattle.lexing.specs.words.{Word, parse-id, keyword, tag}
+use Rattle.lexing.specs.words.{parse-id, keyword, tag}
 use Rattle.lexing.specs.integers.{Signed, signed, positive-integer, signed-integer}
 use Rattle.lexing.specs.blanks.{Doc, whitespace0, whitespace1}
-use Rattle.lexing.specs.strings.{Span, Escape, string-with}
+use Rattle.lexing.specs.strings.{Escape, string-with}
 use Rattle.lexing.specs.word_sets.{set-flags}
-use Rattle.lexing.specs.answers.{Answer, got, lost, lostReply, reply, stepAnswer, Rest, docOf, lostOf, numberLost, signedLost, gapAnswer, wordAt, spanTo, tagReply, wordReply, numberReply, signedReply, gapReply, stringReply, BlankTo, WordSetTo}
+use Rattle.lexing.specs.answers.{lostReply, reply, stepAnswer, Rest, docOf, lostOf, numberLost, signedLost, wordAt, spanTo, tagReply, wordReply, numberReply, signedReply, gapReply, stringReply, BlankTo, WordSetTo}
 use Rattle.lexing.specs.declared.answers.Lost.{Lost}
 use Rattle.lexing.specs.declared.answers.Lost.the-variants.{Fail, Stop}
 use Rattle.lexing.specs.declared.answers.Step.{Step}

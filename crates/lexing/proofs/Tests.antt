@@ -1,11 +1,11 @@
 -- Facts about the tests on bytes.
-use Prim.Native.Nat.{ℕ, zero, suc, _+_, _≤_, _<_}
-use mathlib.Core.Path.{_≡_, refl, sym, _∙_, ap, subst}
+use Prim.Native.Nat.{ℕ, _≤_}
+use mathlib.Core.Path.{_≡_, refl, _∙_, ap}
 use mathlib.Core.Bool.{Bool, true, false, _||_, _&&_, true≢false, false≢true}
 use mathlib.Core.Logic.{_⊎_, inl, inr}
 use native.Mathlib.Omega.{arith}
-use lib.Dec.{eqb, leb, leb→le, eqb→eq, T}
-use Rattle.lexing.specs.bytes.{within, isLetter, isDigit, isWord, isSpace}
+use lib.Dec.{eqb, leb, leb→le, eqb→eq}
+use Rattle.lexing.specs.bytes.{within, isLetter, isDigit, isSpace}
 
 pub eq-of : (x y : ℕ) → eqb x y ≡ true → x ≡ y
 eq-of x y e = eqb→eq x y (rw e tt)

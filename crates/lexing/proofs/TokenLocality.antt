@@ -1,25 +1,24 @@
 -- The certificates of the tokens: each keeps to the chain and looks at nothing behind a cut.
-use Prim.Native.Nat.{ℕ, zero, suc, _+_, _≤_, _<_}
+use Prim.Native.Nat.{ℕ, zero, suc, _+_}
 use mathlib.Core.Path.{_≡_, refl, sym, _∙_, ap}
-use mathlib.Core.Bool.{Bool, true, false, _||_, _&&_, true≢false, false≢true}
+use mathlib.Core.Bool.{Bool, true, false, _||_, _&&_, true≢false}
 use mathlib.Core.Logic.{_≢_}
 use mathlib.Core.List.{List, [], _∷_, _++_}
 use native.Mathlib.Omega.{arith}
 use lib.Dec.{eqb, leb, eqb-refl, T}
-use lib.ListN.{length}
-use Rattle.lexing.specs.bytes.{quote, backslash, slash, star, plus, minus, within, isLetter, isDigit, isWord, isHex, isSpace, inLine, takeWhile, dropWhile, number}
-use Rattle.lexing.specs.reply.{Reply, ok, fail, stop, Parser, ret, _>>=_, _>>_, catch, keep, iter, position, pick, failAt}
-use Rattle.lexing.specs.words.{Word, bytesOf, parse-id, isKeyword, keyword, any-keyword, tag}
-use Rattle.lexing.specs.integers.{u64-max, fitting, hex-integer, decimal-integer, positive-integer, Signed, largest, in-range, after-sign, signed-integer}
-use Rattle.lexing.specs.blanks.{Whitespace, line-comment, Until, found, never, one-more, until-close, comment-kind, closed, block-comment, multispace1, whitespace-group, Doc, no-doc, after, one-blank, whitespace0, whitespace1}
+use Rattle.lexing.specs.bytes.{quote, backslash, slash, star, plus, minus, within, isLetter, isDigit, isWord, isHex, isSpace, inLine, dropWhile}
+use Rattle.lexing.specs.reply.{Reply, ok, fail, stop, Parser, ret, _>>=_, _>>_, catch, keep, position, pick, failAt}
+use Rattle.lexing.specs.words.{Word, parse-id, keyword, any-keyword, tag}
+use Rattle.lexing.specs.integers.{u64-max, fitting, hex-integer, decimal-integer, positive-integer, largest, in-range, after-sign, signed-integer}
+use Rattle.lexing.specs.blanks.{line-comment, Until, found, never, one-more, until-close, comment-kind, closed, block-comment, multispace1, whitespace-group, Doc, no-doc, after, one-blank, whitespace0, whitespace1}
 use Rattle.lexing.specs.strings.{Escape, allowed, forbidden, panics, string-rest, span-from, string-with}
 use Rattle.lexing.specs.word_sets.{next-word, set-step, keywords-set, set-of, set-flags}
-use Rattle.lexing.proofs.Tests.{eq-of, and-left, and-right, or-true, blank-fails, digit-no-letter}
-use Rattle.lexing.proofs.Runs.{Cut, cut-tail, Suf, skip, suf-length, suf-cut, Has, cut-has, cut-has-lf, has-tail, takeWhile-app, dropWhile-app, dropWhile-suf, dropWhile-cut, tail-cut, dropWhile-has}
-use Rattle.lexing.proofs.Onward.{Ends, Reads, Advances, parse-id-advances, tag-advances, integer-advances, signed-advances, group-advances, string-advances}
+use Rattle.lexing.proofs.Tests.{eq-of, and-left, and-right, blank-fails, digit-no-letter}
+use Rattle.lexing.proofs.Runs.{Cut, cut-tail, skip, suf-length, suf-cut, Has, cut-has, cut-has-lf, has-tail, takeWhile-app, dropWhile-app, dropWhile-suf, dropWhile-cut, tail-cut, dropWhile-has}
+use Rattle.lexing.proofs.Onward.{Reads, Advances, parse-id-advances, tag-advances, integer-advances, signed-advances, group-advances, string-advances}
 use Rattle.lexing.proofs.Shift.{shiftReply, Shifts, shift-parse-id, shift-integer, shift-signed, shift-group, shift-string}
-use Rattle.lexing.proofs.Chain.{Next, dead, goes, behind, any-escape, punctuation, token, next, here, goR, Clean, not-dead, Moves, CutRest, Shorter, ext, to-suf}
-use Rattle.lexing.proofs.Locality.{OnChain, KeepsCut, Consumes, Local, chain-ret, keeps-ret, local-ret, chain-bind, keeps-bind, local-bind, chain-then, keeps-then, local-then, consumes-left, consumes-right, consumes-then-right, chain-iter, keeps-iter, local-iter, chain-or, keeps-or, consumes-or, local-or, keeps-catch, chain-position, keeps-position, local-position, chain-pick, keeps-pick, consumes-pick, local-pick, chain-fail, keeps-fail, consumes-fail, local-fail, catch-ext}
+use Rattle.lexing.proofs.Chain.{dead, goes, behind, any-escape, token, next, here, goR, Clean, not-dead, Moves, CutRest, Shorter, ext, to-suf}
+use Rattle.lexing.proofs.Locality.{OnChain, KeepsCut, Consumes, Local, chain-ret, keeps-ret, local-ret, chain-bind, keeps-bind, local-bind, chain-then, keeps-then, local-then, consumes-left, consumes-right, consumes-then-right, chain-iter, keeps-iter, local-iter, chain-or, keeps-or, consumes-or, local-or, keeps-catch, chain-position, keeps-position, local-position, chain-pick, keeps-pick, local-pick, chain-fail, keeps-fail, local-fail, catch-ext}
 
 -- From a token's first byte on: it reads what the chain's step reads, at any offset.
 abbrev Steps : {A : Type 0} → List ℕ → Reply A → Type 0

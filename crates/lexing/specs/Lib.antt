@@ -10,3 +10,4 @@ pub mod utf8
 pub mod outcomes
 pub mod unescaping
 pub mod answers
+pub mod inner

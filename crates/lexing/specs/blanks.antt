@@ -1,11 +1,11 @@
 -- Blanks: white space and comments.
 use Prim.Native.Nat.{ℕ, zero, suc, _+_}
-use mathlib.Core.Bool.{Bool, true, false, _&&_}
+use mathlib.Core.Bool.{true, false, _&&_}
 use mathlib.Core.List.{List, [], _∷_}
 use lib.Dec.{eqb}
 use lib.ListN.{length}
 use Rattle.lexing.specs.bytes.{slash, star, isSpace, inLine, takeWhile, dropWhile}
-use Rattle.lexing.specs.reply.{Reply, ok, fail, Parser, ret, _>>=_, _>>_, catch, iter, keep, position, failAt, pick}
+use Rattle.lexing.specs.reply.{Reply, ok, fail, Parser, ret, _>>=_, catch, iter, keep, position, failAt, pick}
 
 -- one blank, as the Rust's `Whitespace`: white space, a comment that is no doc comment, or a doc comment's text, its offset and length
 pub data Whitespace : Type 0 where

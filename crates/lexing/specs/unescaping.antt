@@ -1,21 +1,13 @@
 -- Unescaping: what comes out of the bytes between a default string's quotes.
-use Prim.Native.Nat.{ℕ, _+_, _<_, _≤_}
-use mathlib.Core.Path.{_≡_}
-use mathlib.Core.Bool.{Bool, true, false}
+use Prim.Native.Nat.{ℕ, _+_}
+use mathlib.Core.Bool.{true, false}
 use mathlib.Core.Option.{Option, none, some}
 use mathlib.Core.List.{List, [], _∷_}
 use lib.Dec.{eqb}
-use lib.ListN.{length, drop}
 use Rattle.lexing.specs.bytes.{quote, backslash, lf, tab}
 use Rattle.lexing.specs.outcomes.{Outcome, refused, fitted}
 use Rattle.lexing.specs.declared.unescaping.Unescaping.{Unescaping}
 use Rattle.lexing.specs.declared.unescaping.Unescaping.the-variants.{Written, Fault, Short}
-use Rattle.lexing.specs.declared.unescaping.Size.{Size}
-use Rattle.lexing.specs.declared.unescaping.Size.the-variants.{Needs, Faulty}
-use Rattle.lexing.specs.declared.unescaping.Meaning.{Meaning}
-use Rattle.lexing.specs.declared.unescaping.Meaning.the-variants.{Byte, Nothing}
-use Rattle.lexing.specs.declared.unescaping.Piece.{Piece}
-use Rattle.lexing.specs.declared.unescaping.Piece.the-variants.{Makes, Wrong}
 
 -- the second byte of each escape (0x6e is n, 0x74 is t) and the byte that the escape stands for
 unfoldable pub escapes : List (ℕ × ℕ)
@@ -73,31 +65,3 @@ abbrev pub answer : Unescaping → ℕ × ℕ
 answer (Written n) = (0, n)
 answer (Fault k) = (9, k)
 answer (Short n) = (10, n)
-
--- The rest is for the contracts of the functions that `unescape` calls.
-
--- the count of the bytes that come out, or the first fault
-unfoldable pub sizeOf : Unescaped → Size
-sizeOf (gives l) = Needs (length l)
-sizeOf (faultAt k) = Faulty k
-
--- what an escape means
-abbrev pub meant : Meaning → Option ℕ
-meant (Byte z) = some z
-meant Nothing = none
-
--- what comes out of the part u from offset b on, by the piece that stands there
-abbrev pub outOf : List ℕ → ℕ → Piece → Unescaped
-outOf u b (Makes z n) = first z (unescapeFrom n (drop n u))
-outOf u b Wrong = faultAt b
-
--- the offset after the piece at b, or after the byte at fault
-abbrev pub after : ℕ → Piece → ℕ
-after b (Makes z n) = n
-after b Wrong = b + 1
-
--- p is the piece of the part u at offset b
-pub record PieceAt (u : List ℕ) (b : ℕ) (p : Piece) : Type 0 where
-  pub out : unescapeFrom b (drop b u) ≡ outOf u b p
-  pub onward : b < after b p
-  pub inside : after b p ≤ length u

@@ -5,7 +5,7 @@ use mathlib.Core.List.{List, [], _∷_}
 use lib.Dec.{eqb}
 use lib.ListN.{length}
 use Rattle.lexing.specs.bytes.{isLetter, isWord, lower, takeWhile, dropWhile}
-use Rattle.lexing.specs.reply.{Reply, ok, fail, Parser, ret, _>>=_, _>>_, _or_, position, failAt, pick}
+use Rattle.lexing.specs.reply.{ok, fail, Parser, ret, _>>=_, _or_, position, failAt, pick}
 
 -- its offset and its bytes
 pub data Word : Type 0 where

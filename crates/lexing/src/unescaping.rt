@@ -2,7 +2,8 @@
 ghost use mathlib.Core.Path.{_≡_};
 ghost use Prim.Native.Nat.{_<_};
 ghost use lib.ListN.{length};
-ghost use Rattle.lexing.specs.unescaping.{escaped, unescape as unescapeOf, outcome, answer, sizeOf, meant, PieceAt};
+ghost use Rattle.lexing.specs.unescaping.{escaped, unescape as unescapeOf, outcome, answer};
+ghost use Rattle.lexing.specs.inner.unescaping.{sizeOf, meant, PieceAt};
 ghost use Rattle.lexing.specs.outcomes.{returned, afterwards};
 
 // Written: the count of the bytes written. Fault: the offset of the first quote or backslash at fault. Short: the count of the bytes needed.

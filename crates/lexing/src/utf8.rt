@@ -4,7 +4,8 @@ ghost use mathlib.Core.Option.{some};
 ghost use Prim.Native.Nat.{_+_, _≤_, _<_};
 ghost use lib.ListN.{length, drop, getD};
 ghost use Rattle.lexing.specs.integers.{u64-max};
-ghost use Rattle.lexing.specs.utf8.{utf8-error, errorOf, size-of, sequence-size, later};
+ghost use Rattle.lexing.specs.utf8.{utf8-error, errorOf};
+ghost use Rattle.lexing.specs.inner.utf8.{size-of, sequence-size, later};
 use crate::bytes::is_between;
 
 // The offset is that of the first byte of the first ill-formed sequence.

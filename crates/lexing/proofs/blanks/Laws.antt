@@ -1,18 +1,19 @@
 -- Blanks: one law for each way through a reader.
 use mathlib.Core.Path.{_≡_, refl, sym, ap, _∙_, subst}
 use mathlib.Core.List.{List, [], _∷_}
-use mathlib.Core.Bool.{Bool, true, false, _&&_, _||_, false≢true}
+use mathlib.Core.Bool.{Bool, true, false, _&&_, false≢true}
 use Prim.Native.Nat.{ℕ, zero, suc, _+_, _-_, _≤_, _<_, zero-le}
 use native.Mathlib.Omega.{arith}
 use native.Mathlib.Numerals.{add-one}
 use lib.Dec.{eqb}
 use lib.ListN.{length, drop, getD, drop-of-length-le, length-drop}
-use lib.Seq.{drop-cons, drop-drop, getD-drop}
+use lib.Seq.{drop-cons, drop-drop}
 use borrow.Author.Tests.{eq-eqb, ne-eqb, eqb-true}
 use Rattle.lexing.specs.bytes.{slash, star, isSpace, inLine, takeWhile, dropWhile}
-use Rattle.lexing.specs.reply.{Reply, ok, fail, stop, Parser, ret, _>>=_, catch, keep, position, failAt, pick}
+use Rattle.lexing.specs.reply.{ok, fail, ret, _>>=_, catch, keep, position, failAt, pick}
 use Rattle.lexing.specs.blanks.{Whitespace, white, plain, doc-comment, line-comment, Until, found, never, one-more, until-close, comment-kind, closed, block-comment, multispace1, whitespace-group, Doc, no-doc, doc-at, after, one-blank, whitespace0, whitespace1}
-use Rattle.lexing.specs.answers.{Rest, isClose, endUntil, groupReply, blankReply, turnReply, BlankTo, docOf}
+use Rattle.lexing.specs.answers.{Rest, groupReply, blankReply, BlankTo, docOf}
+use Rattle.lexing.specs.inner.blanks.{isClose, endUntil, turnReply}
 use Rattle.lexing.specs.declared.blanks.End.{End}
 use Rattle.lexing.specs.declared.blanks.End.the-variants.{Closed, Open}
 use Rattle.lexing.specs.declared.blanks.Group.{Group}

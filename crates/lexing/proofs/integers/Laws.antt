@@ -1,7 +1,7 @@
 -- Laws of integers: one for each way through a function.
 use Prim.Native.Nat.{ℕ, zero, suc, _+_, _*_, _-_, _/_, _≤_, _<_, zero-le}
 use mathlib.Core.Path.{_≡_, refl, sym, _∙_, ap, subst}
-use mathlib.Core.Bool.{Bool, true, false, _&&_, _||_, false≢true}
+use mathlib.Core.Bool.{Bool, true, false, _||_, false≢true}
 use mathlib.Core.List.{List, [], _∷_}
 use native.Mathlib.Omega.{arith}
 use native.Mathlib.Numerals.{add-one}
@@ -11,9 +11,9 @@ use lib.Dec.{leb, eqb}
 use lib.ListN.{length, drop, getD, drop-of-length-le, length-drop}
 use lib.Seq.{drop-cons, drop-drop}
 use Rattle.lexing.specs.bytes.{plus, minus, within, isDigit, isHex, takeWhile, dropWhile, digit, number}
-use Rattle.lexing.specs.reply.{Reply, ok, fail, stop, Parser, catch}
-use Rattle.lexing.specs.integers.{u64-max, fitting, hex-integer, decimal-integer, positive-integer, Signed, signed, largest, in-range, after-sign, signed-integer}
-use Rattle.lexing.specs.answers.{digitTest, radix, digitsAre, isHexAhead}
+use Rattle.lexing.specs.reply.{ok, fail, stop, Parser, catch}
+use Rattle.lexing.specs.integers.{u64-max, fitting, hex-integer, decimal-integer, positive-integer, signed, largest, in-range, after-sign, signed-integer}
+use Rattle.lexing.specs.inner.integers.{digitTest, radix, digitsAre, isHexAhead}
 use Rattle.lexing.specs.declared.integers.Digits.{Digits}
 use Rattle.lexing.specs.declared.integers.Digits.the-variants.{Count, Over}
 use Rattle.lexing.proofs.Tests.{and-right, within-of}

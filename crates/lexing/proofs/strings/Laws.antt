@@ -9,7 +9,8 @@ use borrow.Author.Tests.{eq-eqb, ne-eqb}
 use Rattle.lexing.specs.bytes.{quote, backslash}
 use Rattle.lexing.specs.reply.{ok, fail}
 use Rattle.lexing.specs.strings.{Escape, string-rest, span-from, string-with}
-use Rattle.lexing.specs.answers.{Rest, reply, stepAnswer, escapeOf, pieceIs, pieceEnd, spanTo, stringReply}
+use Rattle.lexing.specs.answers.{Rest, reply, stepAnswer, spanTo, stringReply}
+use Rattle.lexing.specs.inner.strings.{escapeOf, pieceIs, pieceEnd}
 use Rattle.lexing.specs.declared.answers.Lost.the-variants.{Fail, Stop}
 use Rattle.lexing.specs.declared.answers.Step.{Step}
 use Rattle.lexing.specs.declared.answers.Step.the-variants.{Next, Not}

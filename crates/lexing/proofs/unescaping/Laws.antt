@@ -11,10 +11,9 @@ use lib.Dec.{leb, eqb}
 use lib.ListN.{length, drop, getD, set, length-append, length-drop, drop-of-length-le}
 use lib.Seq.{drop-cons, set-at}
 use Rattle.lexing.specs.bytes.{quote, backslash}
-use Rattle.lexing.specs.unescaping.{lookup, escaped, Unescaped, gives, faultAt, first, unescapeFrom, escapeFrom, unescape}
-use Rattle.lexing.specs.outcomes.{fitted}
-use Rattle.lexing.specs.unescaping.{into, outcome, sizeOf, meant, PieceAt}
-use Rattle.lexing.specs.outcomes.{Outcome, refused, written, returned, afterwards}
+use Rattle.lexing.specs.unescaping.{lookup, escaped, Unescaped, gives, faultAt, first, unescapeFrom, escapeFrom, unescape, into, outcome}
+use Rattle.lexing.specs.outcomes.{fitted, Outcome, refused, written, returned, afterwards}
+use Rattle.lexing.specs.inner.unescaping.{sizeOf, meant, PieceAt}
 use Rattle.lexing.specs.declared.unescaping.Size.{Size}
 use Rattle.lexing.specs.declared.unescaping.Size.the-variants.{Needs, Faulty}
 use Rattle.lexing.specs.declared.unescaping.Meaning.{Meaning}

@@ -11,7 +11,8 @@ use lib.ListN.{length, take, drop, getD, replicate, length-drop, length-replicat
 use lib.Seq.{drop-cons, drop-drop, take-all}
 use borrow.Author.Tests.{le-leb, lt-leb}
 use Rattle.lexing.specs.bytes.{within}
-use Rattle.lexing.specs.utf8.{Range, _to_, has, Row, row, table, following, State, between, inside, ill, awaiting, begun, step, run, fault, utf8-error, fits, size-of, sequence-size, later}
+use Rattle.lexing.specs.utf8.{Range, _to_, has, Row, row, table, following, State, between, inside, ill, awaiting, begun, step, run, fault, utf8-error}
+use Rattle.lexing.specs.inner.utf8.{fits, size-of, sequence-size, later}
 
 -- texts one after the other
 run-append : (b : ℕ) (t : State) (u s : List ℕ) → run b t (u ++ s) ≡ run (b + length u) (run b t u) s

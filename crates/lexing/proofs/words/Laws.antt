@@ -1,16 +1,15 @@
 -- Words, keywords and tags: one law for each way through a reader.
 use mathlib.Core.Path.{_≡_, refl, sym, ap, _∙_}
 use mathlib.Core.List.{List, [], _∷_}
-use mathlib.Core.Bool.{Bool, true, false, _&&_, _||_, false≢true, true≢false}
-use Prim.Native.Nat.{ℕ, zero, suc, _+_, _-_, _≤_, _<_, zero-le}
+use mathlib.Core.Bool.{Bool, true, false, false≢true}
+use Prim.Native.Nat.{ℕ, suc, _+_, _-_, _≤_, _<_, zero-le}
 use native.Mathlib.Omega.{arith}
 use native.Mathlib.Numerals.{add-one}
-use lib.Dec.{eqb}
-use lib.ListN.{length, drop, take, getD, drop-of-length-le}
+use lib.ListN.{length, drop, getD, drop-of-length-le}
 use lib.Seq.{drop-cons}
 use borrow.Author.Tests.{eq-eqb, ne-eqb}
 use Rattle.lexing.specs.bytes.{within, isLetter, isDigit, isWord, lower, takeWhile, dropWhile}
-use Rattle.lexing.specs.reply.{Reply, ok, fail, stop, Parser, ret, _>>=_, position, failAt, pick}
+use Rattle.lexing.specs.reply.{Reply, ok, fail, stop, ret, _>>=_, position, failAt, pick}
 use Rattle.lexing.specs.words.{Word, word, bytesOf, parse-id, isKeyword, keyword, tag}
 use Rattle.lexing.specs.answers.{wordAt}
 use Rattle.lexing.proofs.Scans.{first-of, passed-inside, take-run, drop-run, run-cons, run-empty, RunAt, runs-start, runs-more}

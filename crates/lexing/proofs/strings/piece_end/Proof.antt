@@ -2,7 +2,7 @@ use borrow.Author.Needs.{needs}
 use Rattle.lexing.proofs.strings.piece_end.Statement.{statement}
 use Rattle.lexing.proofs.strings.piece_end.Tie as tie
 use mathlib.Core.Path.{sym, ap}
-use Rattle.lexing.specs.answers.{pieceEnd}
+use Rattle.lexing.specs.inner.strings.{pieceEnd}
 
 enum-known-p : tie.Need-enum-known-p
 enum-known-p c = search needs

@@ -2,7 +2,7 @@ use borrow.Author.Needs.{needs}
 use Rattle.lexing.proofs.strings.string_piece.Statement.{statement}
 use Rattle.lexing.proofs.strings.string_piece.Tie as tie
 use native.Mathlib.Omega.{arith}
-use Rattle.lexing.specs.answers.{escapesOf}
+use Rattle.lexing.specs.inner.strings.{escapesOf}
 use Rattle.lexing.specs.declared.strings.Escaped.the-variants.{Allowed, Forbidden, Panics}
 use Rattle.lexing.proofs.strings.Laws.{piece-out, piece-quote, piece-byte, piece-escape}
 

@@ -5,7 +5,7 @@ use native.Mathlib.Omega.{arith}
 use denote.Ref.{now}
 use Prim.Native.Nat.{_-_, _+_}
 use lib.ListN.{length}
-use Rattle.lexing.specs.answers.{escapesOf}
+use Rattle.lexing.specs.inner.strings.{escapesOf}
 use Rattle.lexing.proofs.strings.Laws.{StringAt, string-no, string-start, string-more, string-ends}
 
 abbrev Inv-loop : tie.InvT-loop

@@ -3,7 +3,8 @@ use Rattle.lexing.proofs.utf8.sequence_size.Statement.{statement}
 use Rattle.lexing.proofs.utf8.sequence_size.Tie as tie
 use mathlib.Core.Path.{sym, _∙_}
 use denote.Ref.{now}
-use Rattle.lexing.specs.utf8.{table, later}
+use Rattle.lexing.specs.utf8.{table}
+use Rattle.lexing.specs.inner.utf8.{later}
 use Rattle.lexing.proofs.utf8.Laws.{this-row, next-row, no-row, not-ascii, sequence-by, sequence-none}
 
 shared-slice-read-x : tie.Need-shared-slice-read-x

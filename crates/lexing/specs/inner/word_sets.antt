@@ -1,0 +1,30 @@
+-- What the private functions of the reader of word sets promise.
+use Prim.Native.Nat.{ℕ, _+_, _-_, _/_, _%_}
+use mathlib.Core.Bool.{Bool, true, false}
+use mathlib.Core.List.{List}
+use lib.Dec.{eqb}
+use lib.ListN.{drop}
+use Rattle.lexing.specs.reply.{Reply, ok, fail, Parser, ret, _>>_}
+use Rattle.lexing.specs.words.{isKeyword}
+use Rattle.lexing.specs.blanks.{whitespace1}
+use Rattle.lexing.specs.declared.word_sets.Start.{Start}
+use Rattle.lexing.specs.declared.word_sets.Start.the-variants.{Here, Nowhere}
+
+-- a blank before each word but the first
+unfoldable pub set-gap : Bool → Parser (Unit {0})
+set-gap true = ret tt
+set-gap false = whitespace1 >> ret tt
+
+-- where the next word may start
+abbrev pub startReply : Start → ℕ → List ℕ → Reply (Unit {0})
+startReply (Here c) b u = ok tt c (drop (c - b) u)
+startReply Nowhere b u = fail b
+
+-- a word in lower case, without a byte from A to Z, is a keyword of itself
+abbrev pub isLower : List ℕ → Bool
+isLower w = isKeyword w w
+
+-- flags with the bit p, where the word counts
+unfoldable pub with-flag : Bool → ℕ → ℕ → ℕ
+with-flag false p f = f
+with-flag true p f = elim (eqb (f / p % 2) 1) [ true ↦ f | false ↦ f + p ]
