@@ -92,3 +92,8 @@ number radix v (x ∷ u) = number radix (v * radix + digit x) u
 abbrev pub ascii : String → List ℕ
 ascii nil = []
 ascii (_then_ c s) = code c ∷ ascii s
+
+-- the first byte of an ASCII text, for a tag
+abbrev pub byte : String → ℕ
+byte nil = 0
+byte (_then_ c s) = code c

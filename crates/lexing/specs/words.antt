@@ -11,6 +11,9 @@ use Rattle.lexing.specs.reply.{ok, fail, Parser, ret, _>>=_, _or_, posit
 pub data Word : Type 0 where
   word : ℕ → List ℕ → Word
 
+unfoldable pub offsetOf : Word → ℕ
+offsetOf (word o w) = o
+
 unfoldable pub bytesOf : Word → List ℕ
 bytesOf (word o w) = w
 
