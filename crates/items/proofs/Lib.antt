@@ -1,1 +1,2 @@
--- Laws
+-- Laws of the definitions. A module's own laws, for the proofs of its functions, stand in MODULE/Laws.antt.
+pub mod KnownAnswers
