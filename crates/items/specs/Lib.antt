@@ -7,3 +7,4 @@ pub mod endpoints
 pub mod items
 pub mod records
 pub mod layout
+pub mod answers

@@ -1,6 +1,7 @@
 -- Records as words, and words as bytes: packed most significant bit first.
 use Prim.Native.Nat.{ℕ, zero, suc, _+_, _-_, _*_, _^_, _/_, _%_}
 use mathlib.Core.List.{List, [], _∷_, _++_, map}
+use lib.ListN.{length}
 use Rattle.items.specs.records.{Extent, absent, at, Bits, bits, Further, value, spanned, Record, each}
 
 -- values one behind the other, most significant bit first; z stands above them
@@ -68,3 +69,11 @@ catalogue-words L l = each (record-words L) l
 
 unfoldable pub catalogue-bytes : Layout → List Record → List ℕ
 catalogue-bytes L l = words-bytes (catalogue-words L l)
+
+-- how many words records take
+unfoldable pub word-count : List Record → ℕ
+word-count l = length (catalogue-words layout-20 l)
+
+-- the longest text: offsets and lengths have 20 bits
+abbrev pub text-limit : ℕ
+text-limit = 1048575

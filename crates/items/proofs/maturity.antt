@@ -1,0 +1,2 @@
+-- Laws of the readers of maturities.
+pub mod Laws

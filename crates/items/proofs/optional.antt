@@ -1,0 +1,2 @@
+-- Laws of optional parts.
+pub mod Laws
