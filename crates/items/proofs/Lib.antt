@@ -1,4 +1,10 @@
 -- Laws of the definitions. A module's own laws, for the proofs of its functions, stand in MODULE/Laws.antt.
+
+-- the place moves by the shift of the base; the records of what was moved
+pub mod Shift
+pub mod RecordsMoved
+
 -- locality under appended text
 pub mod Locality
+
 pub mod KnownAnswers
