@@ -3,8 +3,6 @@
 -- the place moves by the shift of the base; the records of what was moved
 pub mod Shift
 pub mod RecordsMoved
-
 -- locality under appended text
 pub mod Locality
-
 pub mod KnownAnswers

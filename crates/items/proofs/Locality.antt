@@ -1,6 +1,6 @@
 -- Locality: every production keeps to the chain of its text, and looks at nothing behind a cut. Certificates are found by search over the combinators' rules.
-use Prim.Native.Nat.{ℕ, zero, suc, _+_, _≤_, _<_, max}
-use mathlib.Core.Path.{_≡_, refl, sym, _∙_, ap}
+use Prim.Native.Nat.{ℕ, suc, _+_, max}
+use mathlib.Core.Path.{_≡_, refl}
 use mathlib.Core.Bool.{Bool, true, false, _||_, false≢true}
 use mathlib.Core.Logic.{_⊎_, inl, inr}
 use mathlib.Core.Option.{Option, none, some}
@@ -8,20 +8,19 @@ use mathlib.Core.List.{List, [], _∷_, _++_}
 use native.Mathlib.Omega.{arith}
 use lib.Dec.{eqb}
 use lib.ListN.{length}
-use Rattle.lexing.specs.bytes.{ascii, byte, within, isLetter, isDigit, isSpace}
-use Rattle.lexing.specs.reply.{Reply, ok, fail, stop, Parser, ret, _>>=_, _>>_, opt, _or_, many0, failAt, stopAt, position, catch, pick, iter}
-use Rattle.lexing.specs.words.{Word, bytesOf, offsetOf, tag}
+use Rattle.lexing.specs.bytes.{ascii, within, isLetter, isDigit, isSpace}
+use Rattle.lexing.specs.reply.{Reply, ok, fail, stop, Parser, ret, _>>=_, _>>_, _or_, failAt, stopAt, catch, pick}
+use Rattle.lexing.specs.words.{Word, tag}
 use Rattle.lexing.specs.blanks.{Doc, whitespace0}
-use Rattle.lexing.specs.strings.{quoted-string, default-string, annotation-escape, default-escape}
-use Rattle.lexing.specs.word_sets.{same-bytes}
+use Rattle.lexing.specs.strings.{quoted-string, default-string}
 use Rattle.lexing.proofs.Tests.{eq-of, or-true}
 use Rattle.lexing.proofs.Runs.{Cut}
 use Rattle.lexing.proofs.Chain.{goes, opens, closes, token, punctuation, next, To, here, openR, closeR, Clean, to-trans, to-suf, resume, inside-cut, Moves, MovesTo, ext}
-use Rattle.lexing.proofs.Locality.{OnChain, KeepsCut, Consumes, Local, LocalInside, Blind, inside-local, chain-ret, local-ret, keeps-ret, chain-bind, keeps-bind, local-bind, inside-bind, chain-then, keeps-then, local-then, inside-then, chain-opt, keeps-opt, local-opt, inside-opt, chain-or, keeps-or, local-or, inside-or, consumes-left, consumes-right, consumes-or, chain-many0, inside-many0, chain-local, chain-inside, consumes-then-left, consumes-then-right, blind-ret, local-last, chain-fail, keeps-fail, consumes-fail, local-fail, chain-position, keeps-position, local-position, chain-catch, keeps-catch, consumes-catch, local-catch, inside-catch, chain-pick, keeps-pick, consumes-pick, local-pick, chain-iter, keeps-iter, local-iter, inside-iter}
+use Rattle.lexing.proofs.Locality.{OnChain, KeepsCut, Consumes, Local, LocalInside, Blind, inside-local, chain-ret, local-ret, keeps-ret, chain-bind, keeps-bind, local-bind, inside-bind, chain-then, keeps-then, local-then, inside-then, chain-opt, keeps-opt, local-opt, inside-opt, chain-or, keeps-or, local-or, inside-or, consumes-left, consumes-right, consumes-or, chain-many0, inside-many0, chain-local, chain-inside, consumes-then-left, consumes-then-right, blind-ret, local-last, chain-fail, keeps-fail, consumes-fail, local-fail, chain-position, keeps-position, local-position, chain-catch, keeps-catch, consumes-catch, local-catch, inside-catch, chain-pick, keeps-pick, consumes-pick, local-pick, inside-iter}
 use Rattle.lexing.proofs.TokenLocality.{parse-id-chain, parse-id-keeps, parse-id-consumes, parse-id-local, keyword-chain, keyword-keeps, keyword-consumes, keyword-local, any-keyword-chain, any-keyword-keeps, any-keyword-consumes, any-keyword-local, tag-consumes, tag-ext, tag-keeps, tag-local, integer-chain, integer-keeps, integer-consumes, integer-local, signed-chain, signed-keeps, signed-local, whitespace0-chain, whitespace0-keeps, whitespace0-local, whitespace1-chain, whitespace1-keeps, whitespace1-local, whitespace1-consumes, string-chain, string-keeps, string-local, set-flags-chain, set-flags-keeps, set-flags-local}
 use Rattle.items.specs.entries.{enclosed, where-missing, braces, api-maturity, constant-annotation, blank-annotation, annotations-in-brackets, constant-annotations-list, constant-entry, blank-entry, constant-entries, constant-entries-list, shared-before, choice-after-doc-maturity, parse-enum-after-doc-maturity, parse-bitmap-after-doc-maturity}
 use Rattle.items.specs.structs.{max-length, list-marker, parse-field, parse-struct-field, closed-field, fields-run, struct-fields, response-code, struct-kind, struct-type-of, parse-struct-after-doc-maturity}
-use Rattle.items.specs.members.{access-privilege, event-priority, event-access, event-head, parse-event-after-doc-maturity, command-access, command-head, command-types, parse-command-after-doc-maturity, Access, access-entry, comma, separated-list0, access-list, Privileges, granted-by, default-privileges, listed, attribute-access, parse-attribute-after-doc-maturity}
+use Rattle.items.specs.members.{access-privilege, event-priority, access-to, event-head, parse-event-after-doc-maturity, command-head, command-types, parse-command-after-doc-maturity, Access, access-entry, comma, separated-list0, access-list, Privileges, granted-by, default-privileges, listed, attribute-access, parse-attribute-after-doc-maturity}
 use Rattle.items.specs.clusters.{mapped, parse-revision, member-tries, parse-cluster-member, cluster-members, side, cluster-head, parse-cluster}
 use Rattle.items.specs.endpoints.{Tried, Deep, intercept, deep-step, deeper, deep-run, deep-place, deep-braces, device-head, device-type, value-tries, default-attribute-value, attribute-handling-type, attribute-instantiation, named-after, instance-tries, cluster-instantiation, part-tries, endpoint}
 use Rattle.items.specs.items.{with-doc-maturity, item}
@@ -354,17 +353,17 @@ pub event-priority-consumes : Consumes event-priority
 unfolding event-priority
 event-priority-consumes = search (consumes-rules, chain-rules, punct-local) depth 12
 
-pub event-access-inside : LocalInside event-access
-unfolding event-access
-event-access-inside = search (inside-rules, token-rules, access-privilege-local) depth 24
+pub access-to-inside : (k : List ℕ) → LocalInside (access-to k)
+unfolding access-to
+access-to-inside k = search (inside-rules, token-rules, access-privilege-local) depth 24
 
 pub event-head-inside : LocalInside event-head
 unfolding event-head
-event-head-inside = search (inside-rules, token-rules, event-priority-local, event-access-inside) depth 24
+event-head-inside = search (inside-rules, token-rules, event-priority-local, access-to-inside) depth 24
 
 pub event-head-consumes : Consumes event-head
 unfolding event-head
-event-head-consumes = search (consumes-rules, chain-rules, chain-inside, punct-local, event-priority-consumes, event-access-inside) depth 24
+event-head-consumes = search (consumes-rules, chain-rules, chain-inside, punct-local, event-priority-consumes, access-to-inside) depth 24
 
 pub parse-event-inside : (d : Doc) (m : ℕ) → LocalInside (parse-event-after-doc-maturity d m)
 unfolding parse-event-after-doc-maturity
@@ -374,17 +373,13 @@ pub parse-event-consumes : (d : Doc) (m : ℕ) → Consumes (parse-event-after-d
 unfolding parse-event-after-doc-maturity
 parse-event-consumes d m = search (consumes-rules, chain-rules, chain-inside, punct-local, event-head-consumes, struct-fields-local) depth 30
 
-pub command-access-inside : LocalInside command-access
-unfolding command-access
-command-access-inside = search (inside-rules, token-rules, access-privilege-local) depth 24
-
 pub command-head-inside : LocalInside command-head
 unfolding command-head
-command-head-inside = search (inside-rules, token-rules, command-access-inside) depth 24
+command-head-inside = search (inside-rules, token-rules, access-to-inside) depth 24
 
 pub command-head-consumes : Consumes command-head
 unfolding command-head
-command-head-consumes = search (consumes-rules, chain-rules, chain-inside, punct-local, command-access-inside) depth 24
+command-head-consumes = search (consumes-rules, chain-rules, chain-inside, punct-local, access-to-inside) depth 24
 
 pub command-types-inside : LocalInside command-types
 unfolding command-types

@@ -1,7 +1,7 @@
 -- Endpoints.
 use Prim.Native.Nat.{ℕ, max}
 use mathlib.Core.Bool.{Bool, true, false}
-use mathlib.Core.Option.{Option, none, some}
+use mathlib.Core.Option.{Option}
 use mathlib.Core.List.{List, [], _∷_, _++_}
 use Rattle.lexing.specs.bytes.{ascii, byte}
 use Rattle.lexing.specs.reply.{Parser, ret, _>>=_, _>>_, opt, _or_, catch, iter, position, failAt}

@@ -1,6 +1,5 @@
 -- Events, commands and attributes.
 use Prim.Native.Nat.{ℕ}
-use mathlib.Core.Bool.{Bool, true, false}
 use mathlib.Core.Option.{Option, none, some}
 use mathlib.Core.List.{List, [], _∷_}
 use Rattle.lexing.specs.bytes.{ascii, byte}
@@ -39,14 +38,14 @@ pub record Event : Type 0 where
   pub code : ℕ
   pub fields : List StructField
 
--- `access(read: ..)`; no blank before the colon
-unfoldable pub event-access : Parser ℕ
-event-access = do
+-- `access(read: ..)` of an event, `access(invoke: ..)` of a command; no blank before the colon
+unfoldable pub access-to : List ℕ → Parser ℕ
+access-to k = do
   keyword (ascii "access")
   whitespace0
   tag (byte "(")
   whitespace0
-  keyword (ascii "read")
+  keyword k
   tag (byte ":")
   whitespace0
   p ← access-privilege
@@ -68,7 +67,7 @@ event-head = do
   whitespace1
   keyword (ascii "event")
   whitespace1
-  a ← opt event-access
+  a ← opt (access-to (ascii "read"))
   ret (record { sensitive = q; rank = y; privilege = or-else 0 a })
 
 unfoldable pub parse-event-after-doc-maturity : Doc → ℕ → Parser Event
@@ -95,22 +94,6 @@ pub record Command : Type 0 where
   pub output : Word
   pub code : ℕ
 
--- `access(invoke: ..)`; no blank before the colon
-unfoldable pub command-access : Parser ℕ
-command-access = do
-  whitespace0
-  keyword (ascii "access")
-  whitespace0
-  tag (byte "(")
-  whitespace0
-  keyword (ascii "invoke")
-  tag (byte ":")
-  whitespace0
-  p ← access-privilege
-  whitespace0
-  tag (byte ")")
-  ret p
-
 -- up to the name
 pub record CommandHead : Type 0 where
   pub qualities : ℕ
@@ -122,7 +105,7 @@ command-head = do
   q ← set-flags 3
   whitespace0
   keyword (ascii "command")
-  a ← opt command-access
+  a ← opt (whitespace0 >> access-to (ascii "invoke"))
   whitespace0
   n ← parse-id
   ret (record { qualities = q; privilege = or-else 1 a; id = n })

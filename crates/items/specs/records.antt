@@ -7,13 +7,13 @@ use lib.ListN.{length}
 use Rattle.lexing.specs.words.{Word, word}
 use Rattle.lexing.specs.integers.{Signed, signed}
 use Rattle.lexing.specs.blanks.{Doc, no-doc, doc-at}
-use Rattle.lexing.specs.strings.{Span, span}
+use Rattle.lexing.specs.strings.{span}
 use Rattle.lexing.specs.word_sets.{bit}
 use Rattle.items.specs.entries.{present, Entry, Choice}
 use Rattle.items.specs.structs.{StructField, StructType, regular, request, response, shared, Struct}
 use Rattle.items.specs.members.{or-else, Event, Command, Attribute}
 use Rattle.items.specs.clusters.{Member, revision, bitmap, enum, struct, attribute, command, event, Cluster}
-use Rattle.items.specs.endpoints.{DeviceType, Default, number, signed-number, truth, text, AttributeInstance, Instance, attribute-instance, command-instance, event-instance, Instantiation, Part, device, binding, instantiation, Endpoint}
+use Rattle.items.specs.endpoints.{Default, number, signed-number, truth, text, Instance, attribute-instance, command-instance, event-instance, Part, device, binding, instantiation, Endpoint}
 use Rattle.items.specs.items.{Item, cluster-item, endpoint-item, enum-item, bitmap-item, struct-item, blank-item}
 
 -- a part of the text by its offset and length, or none

@@ -1,18 +1,18 @@
 -- A keyword that stands for a value, and maturities.
-use mathlib.Core.Path.{_≡_, refl, sym, ap, _∙_}
+use mathlib.Core.Path.{_≡_, refl, sym}
 use mathlib.Core.List.{List}
-use Prim.Native.Nat.{ℕ, _+_, _-_, _≤_, _<_}
+use Prim.Native.Nat.{ℕ, _-_, _<_}
 use native.Mathlib.Omega.{arith}
-use lib.ListN.{length, drop}
-use Rattle.lexing.specs.reply.{Reply, ok, fail, stop, Parser, ret, _>>=_, _>>_}
-use Rattle.lexing.specs.words.{Word, keyword}
+use lib.ListN.{drop}
+use Rattle.lexing.specs.reply.{ok, fail, stop, ret, _>>=_, _>>_}
+use Rattle.lexing.specs.words.{keyword}
 use Rattle.lexing.specs.answers.{Rest, wordAt, wordReply}
 use Rattle.lexing.specs.declared.answers.Lost.{Lost}
 use Rattle.lexing.specs.declared.answers.Lost.the-variants.{Fail, Stop}
 use Rattle.lexing.specs.declared.answers.Step.{Step}
 use Rattle.lexing.specs.declared.answers.Step.the-variants.{Next, Not}
 use Rattle.lexing.proofs.Slicing.{Took, took, walks, reads-in, told-next, told-not}
-use Rattle.lexing.proofs.words.Laws.{Says, keyword-says}
+use Rattle.lexing.proofs.words.Laws.{keyword-says}
 use Rattle.items.specs.entries.{api-maturity}
 use Rattle.items.specs.answers.{MaturityTo}
 use Rattle.items.specs.declared.maturity.Maturity.{Maturity}

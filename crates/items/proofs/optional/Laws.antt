@@ -1,18 +1,18 @@
 -- Optional parts whose value is dropped.
-use mathlib.Core.Path.{_≡_, refl, sym, ap, _∙_, subst}
-use mathlib.Core.Option.{Option, none, some}
+use mathlib.Core.Path.{_≡_, sym, ap, _∙_}
+use mathlib.Core.Option.{none, some}
 use mathlib.Core.List.{List}
-use Prim.Native.Nat.{ℕ, _+_, _-_}
+use Prim.Native.Nat.{ℕ, _-_}
 use native.Mathlib.Omega.{arith}
-use lib.ListN.{length, drop}
-use Rattle.lexing.specs.reply.{Reply, ok, fail, stop, Parser, opt}
-use Rattle.lexing.specs.answers.{Rest, lostReply, lostOf, reply, stepAnswer}
+use lib.ListN.{drop}
+use Rattle.lexing.specs.reply.{ok, fail, stop, Parser, opt}
+use Rattle.lexing.specs.answers.{Rest, lostReply, lostOf}
 use Rattle.lexing.specs.declared.answers.Lost.{Lost}
 use Rattle.lexing.specs.declared.answers.Lost.the-variants.{Fail, Stop}
 use Rattle.lexing.specs.declared.answers.Step.{Step}
 use Rattle.lexing.specs.declared.answers.Step.the-variants.{Next, Not}
 use Rattle.lexing.proofs.Onward.{Onward}
-use Rattle.lexing.proofs.Slicing.{Took, took, told-next, told-not, step-lost}
+use Rattle.lexing.proofs.Slicing.{Took, took, told-next, step-lost}
 use Rattle.items.specs.answers.{Skips, optionalStep}
 
 -- the two ways of a part that is not there
