@@ -15,4 +15,7 @@ pub mod TokenLocality
 -- what a reader's answer gives its caller; loops of the code against `many0` and `iter`
 pub mod Slicing
 pub mod Repetition
+-- what a first word rules out
+pub mod FirstWord
+
 pub mod KnownAnswers

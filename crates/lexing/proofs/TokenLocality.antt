@@ -553,7 +553,7 @@ multispace-ext b (x ∷ u) s c = go (isSpace x) refl
     go false e = rw (e, multispace1)
 
 -- one blank
-blank-no-letter : (x : ℕ) → (eqb x slash || isSpace x) ≡ true → isLetter x ≡ false
+pub blank-no-letter : (x : ℕ) → (eqb x slash || isSpace x) ≡ true → isLetter x ≡ false
 unfolding isLetter within
 blank-no-letter x e = blank-fails isLetter refl refl refl refl refl x e
 

@@ -69,11 +69,11 @@ pub keyword-no-word : (k : List ℕ) (b : ℕ) (u : List ℕ) → isLetter (getD
 keyword-no-word k b u e = sym (keyword-none k b u (sym (parse-id-no b u e)))
 
 module _ (k : List ℕ) (b : ℕ) (u : List ℕ) (letter : isLetter (getD u 0 0) ≡ true) where
-  keyword-other : isKeyword (takeWhile isWord u) k ≡ false → fail b ≡ keyword k b u
+  pub keyword-other : isKeyword (takeWhile isWord u) k ≡ false → fail b ≡ keyword k b u
   unfolding keyword _>>=_ position pick failAt bytesOf
   keyword-other e = rw (parse-id-run b u letter, keyword, _>>=_) (rw (e, pick))
 
-  keyword-same : isKeyword (takeWhile isWord u) k ≡ true → keyword k b u ≡ ok (word b (takeWhile isWord u)) (b + length (takeWhile isWord u)) (dropWhile isWord u)
+  pub keyword-same : isKeyword (takeWhile isWord u) k ≡ true → keyword k b u ≡ ok (word b (takeWhile isWord u)) (b + length (takeWhile isWord u)) (dropWhile isWord u)
   unfolding keyword _>>=_ position pick ret bytesOf
   keyword-same e = rw (parse-id-run b u letter, keyword, _>>=_) (rw (e, pick))
 
