@@ -5,4 +5,7 @@ pub mod Shift
 pub mod RecordsMoved
 -- locality under appended text
 pub mod Locality
+-- which tries a first word leaves
+pub mod Tries
+
 pub mod KnownAnswers
