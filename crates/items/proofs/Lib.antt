@@ -7,5 +7,4 @@ pub mod RecordsMoved
 pub mod Locality
 -- which tries a first word leaves
 pub mod Tries
-
 pub mod KnownAnswers

@@ -17,5 +17,4 @@ pub mod Slicing
 pub mod Repetition
 -- what a first word rules out
 pub mod FirstWord
-
 pub mod KnownAnswers

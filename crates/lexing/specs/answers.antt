@@ -113,6 +113,10 @@ gapAnswer (NoGap l) = lost l
 abbrev pub gapReply : Gap → ℕ → List ℕ → Reply Doc
 gapReply r b u = reply (gapAnswer r) b u
 
+abbrev pub gapLost : Gap → Lost
+gapLost (Passed r) = Fail (r .next)
+gapLost (NoGap l) = l
+
 abbrev pub spanTo : ℕ → ℕ → Span
 spanTo b c = span (suc b) (c - 1 - suc b)
 

@@ -6,7 +6,7 @@ ghost use Rattle.lexing.specs.bytes.{slash, isSpace, inLine, takeWhile};
 ghost use Rattle.lexing.specs.integers.{u64-max};
 ghost use Rattle.lexing.specs.blanks.{until-close, whitespace-group, one-blank, whitespace1};
 ghost use Rattle.lexing.specs.inner.blanks.{isClose, endUntil, turnReply};
-ghost use Rattle.lexing.specs.answers.{groupReply, docOf, BlankTo, gapReply};
+ghost use Rattle.lexing.specs.answers.{groupReply, docOf, BlankTo, gapReply, gapLost};
 use crate::answers::Lost;
 use crate::bytes::is_in_line;
 use crate::bytes::is_space;
@@ -203,4 +203,13 @@ pub fn whitespace1(part: &[u8], base: usize) -> Gap
         return Gap::NoGap(Lost::Fail(base));
     }
     Gap::Passed(b)
+}
+
+pub fn gap_lost(r: Gap) -> Lost
+    ensures { λ x. ⌜ x ≡ gapLost r ⌝ }
+{
+    match r {
+        Gap::Passed(b) => Lost::Fail(b.next),
+        Gap::NoGap(l) => l,
+    }
 }
