@@ -1,21 +1,16 @@
 use borrow.Author.Needs.{needs}
 use Rattle.tokens.proofs.front.Statement.{statement}
 use Rattle.tokens.proofs.front.Tie as tie
-use Rattle.tokens.proofs.front.Reads as reads
-use Rattle.tokens.proofs.front.Lts as lts
 use mathlib.Core.Path.{sym}
 use lib.Seq.{length-take-le}
 use native.Mathlib.Omega.{arith}
 
--- src/main.rt:143:9
 slice-aggregate-result : tie.Need-slice-aggregate-result
 slice-aggregate-result c = sym (length-take-le _ _ (omega arith))
 
--- src/main.rt:143:9
 returns : tie.Need-returns
 returns c = search needs
 
--- src/main.rt:141:1
 returns-2 : tie.Need-returns-2
 returns-2 c = search needs
 

@@ -1,8 +1,6 @@
 use borrow.Author.Needs.{needs}
 use Rattle.tokens.proofs.line_length.Statement.{statement}
 use Rattle.tokens.proofs.line_length.Tie as tie
-use Rattle.tokens.proofs.line_length.Reads as reads
-use Rattle.tokens.proofs.line_length.Lts as lts
 use Prim.Native.Nat.{_-_, _≤_}
 use lib.ListN.{length}
 use native.Mathlib.Omega.{arith}
@@ -13,31 +11,24 @@ Inv-loop part i₀ i = i ≤ length part
 abbrev μ-loop : tie.MeasureT-loop
 μ-loop part i₀ i = length part - i
 
--- src/main.rt:167:5
 loop-holds : tie.Need-loop-holds Inv-loop μ-loop
 loop-holds c = omega arith
 
--- src/main.rt:168:12
 shared-slice-read-if1 : tie.Need-shared-slice-read-if1 Inv-loop μ-loop
 shared-slice-read-if1 c = search needs
 
--- src/main.rt:169:13
 returns : tie.Need-returns Inv-loop μ-loop
 returns c = omega arith
 
--- src/main.rt:171:9
 add-i : tie.Need-add-i Inv-loop μ-loop
 add-i c = search needs
 
--- src/main.rt:167:5
 loop-less : tie.Need-loop-less Inv-loop μ-loop
 loop-less c = search needs
 
--- src/main.rt:167:5
 loop-again : tie.Need-loop-again Inv-loop μ-loop
 loop-again c = omega arith
 
--- src/main.rt:163:1
 returns-2 : tie.Need-returns-2 Inv-loop μ-loop
 returns-2 c = omega arith
 
