@@ -3,8 +3,9 @@
 -- the place moves by the shift of the base; the records of what was moved
 pub mod Shift
 pub mod RecordsMoved
-
 -- locality under appended text
 pub mod Locality
-
 pub mod KnownAnswers
+-- parts that are dropped, and the layout of records
+pub mod Dropping
+pub mod RecordWords
