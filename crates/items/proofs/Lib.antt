@@ -6,6 +6,7 @@ pub mod RecordsMoved
 -- locality under appended text
 pub mod Locality
 pub mod KnownAnswers
--- parts that are dropped, and the layout of records
+-- parts that are dropped, parts between braces, and the words of records
 pub mod Dropping
+pub mod Braces
 pub mod RecordWords

@@ -3,8 +3,8 @@ use mathlib.Core.Path.{_≡_, refl, sym, ap, _∙_, subst}
 use mathlib.Core.List.{List, [], _∷_, map}
 use Prim.Native.Nat.{ℕ, _+_, _-_, _*_, _≤_, _<_}
 use native.Mathlib.Omega.{arith}
-use lib.ListN.{length, drop, take}
-use lib.Seq.{drop-drop}
+use lib.ListN.{length, drop, take, length-drop}
+use lib.Seq.{drop-drop, length-take-le}
 use Rattle.lexing.specs.reply.{Reply, ok, Parser, _>>_, opt, many0}
 use Rattle.lexing.specs.words.{word, tag}
 use Rattle.lexing.specs.blanks.{Doc, whitespace0}
@@ -17,17 +17,19 @@ use Rattle.lexing.proofs.Onward.{Onward}
 use Rattle.lexing.proofs.Locality.{Consumes, chain-ret, chain-many0, chain-opt, chain-then, consumes-then-right}
 use Rattle.lexing.proofs.TokenLocality.{whitespace0-chain}
 use Rattle.lexing.proofs.Slicing.{Took, took, walks, rest-self, begin, on, told-next, step-lost}
-use Rattle.items.specs.entries.{Annotation, constant-annotation, blank-annotation, annotations-in-brackets, constant-annotations-list, Entry, constant-entry, blank-entry}
-use Rattle.items.specs.records.{entry-record, plain, each}
-use Rattle.items.specs.layout.{word-count, catalogue-words, record-words, layout-20}
-use Rattle.items.specs.answers.{entryAt, entryAnswer, entryLost, EntryBounds, EntryWithin, EntryTo}
-use Rattle.items.specs.inner.entries.{entry-end, EndTo}
+use Rattle.items.specs.entries.{Annotation, constant-annotation, blank-annotation, annotations-in-brackets, constant-annotations-list, Entry, constant-entry, blank-entry, constant-entries}
+use Rattle.items.specs.records.{Record, at, value, entry-record, plain, each, word-extent}
+use Rattle.items.specs.layout.{packed, width, from-top, offset, size, further-word, word-count, catalogue-words, catalogue-bytes, record-words, words-bytes, big-endian, layout-20}
+use Rattle.items.specs.buffers.{put}
+use Rattle.items.specs.answers.{first-of, Room, Written, entryAt, entryAnswer, entryLost, EntryBounds, EntryWithin, EntryTo}
+use Rattle.items.specs.inner.entries.{entry-end, EndTo, parts-record}
 use Rattle.items.specs.declared.entries.EntryParts.{EntryParts}
 use Rattle.items.specs.declared.entries.EntryRead.{EntryRead}
 use Rattle.items.specs.declared.entries.EntryRead.the-variants.{Read, NoEntry}
 use Rattle.items.proofs.Locality.{punct-local, constant-annotation-local, constant-annotation-consumes, constant-annotations-list-inside, constant-entry-inside, blank-entry-inside, blank-entry-consumes}
 use Rattle.items.proofs.RecordWords.{map-elementwise}
 use Rattle.items.proofs.counts.Laws.{Counting, counting-more}
+use Rattle.items.proofs.writing.Laws.{put-one, put-more, Writing, writing-fits, writing-more, writing-ends}
 
 -- annotations
 pub no-annotation : Annotation
@@ -131,3 +133,42 @@ entry-words e = refl
 -- a turn of the first pass
 pub count-entry : {b c n d : ℕ} {u : List ℕ} (a : Entry) → Counting (map entry-record) blank-entry b u c n → Took blank-entry b u c a d → Counting (map entry-record) blank-entry b u d (n + 2) × (c < d)
 count-entry a i t = counting-more (map-elementwise entry-record) blank-entry blank-entry-consumes a i t (entry-words a) (λ h. omega arith)
+
+-- the two words of an entry's record, one behind the other
+parts-words : (e : EntryParts) → catalogue-bytes layout-20 (parts-record e ∷ [])
+    ≡ words-bytes (first-of (record { kind = 4; place = 0; maturity = e .maturity; documented = 0; flags = 0; name = e .name; size = e .end - e .name; privilege = 0; further = 0 }) ∷ e .code ∷ [])
+unfolding catalogue-bytes catalogue-words each record-words layout-20 further-word plain from-top width packed offset size
+parts-words e = refl
+
+pub put-entry : (e : EntryParts) (p w : ℕ) (l l₁ l₂ : List ℕ) → p + 16 ≤ length l
+    → w ≡ first-of (record { kind = 4; place = 0; maturity = e .maturity; documented = 0; flags = 0; name = e .name; size = e .end - e .name; privilege = 0; further = 0 })
+    → l₁ ≡ put p (big-endian 8 w) l → l₂ ≡ put (p + 8) (big-endian 8 (e .code)) l₁ → l₂ ≡ put p (catalogue-bytes layout-20 (parts-record e ∷ [])) l
+put-entry e p w l l₁ l₂ h z e₁ e₂ = rw (parts-words e, ← z) (put-more p (p + 8) (e .code) (w ∷ []) l l₁ l₂ (omega arith) (omega arith) (put-one p w l l₁ e₁) e₂)
+
+-- the record of an entry that was read
+pub entry-parts : (b : ℕ) (u : List ℕ) (e : EntryParts) → b ≤ e .name → e .name ≤ e .end → e .end ≤ b + length u → parts-record e ≡ entry-record (entryAt b u e)
+unfolding entry-record word-extent
+entry-parts b u e h k l =
+    let z : length (take (e .end - e .name) (drop (e .name - b) u)) ≡ e .end - e .name = length-take-le (e .end - e .name) (drop (e .name - b) u) (omega (arith, length-drop (e .name - b) u)) in
+    ap (λ (n : ℕ). plain 4 (e .maturity) [] (at (e .name) n) (value (e .code) ∷ [])) (sym z)
+
+-- a turn of the second pass
+module _ (b : ℕ) (u : List ℕ) (p : ℕ) (old : List ℕ) (room : Room (map entry-record) (many0 blank-entry b u) p (length old)) {c to : ℕ} {new : List ℕ} (i : Writing (map entry-record) blank-entry b u c p old new to)
+    {r : List ℕ} {a : EntryRead} (q : Rest b u c r) (h : EntryTo blank-entry a c r) where
+  module _ (e : EntryParts) (d : ℕ) (z : a ≡ Read e d) where
+    pub entry-fits : (to + 16 ≤ length new) × ((c < d) × (d ≤ b + length u))
+    entry-fits = writing-fits (map-elementwise entry-record) blank-entry b u p old room i blank-entry-consumes (entry-took blank-entry-onward q h e d z) 2 (entry-words (entryAt b u e))
+
+    pub write-entry : (new' : List ℕ) → new' ≡ put to (catalogue-bytes layout-20 (parts-record e ∷ [])) new → Writing (map entry-record) blank-entry b u d p old new' (to + 16)
+    write-entry new' g =
+        let v = bounds-of e d h z in
+        let f = entry-fits in
+        let y = entry-parts b u e (omega (arith, v .from, q .from)) (v .up) (omega (arith, v .inside, f .1 .1)) in
+        writing-more (map-elementwise entry-record) blank-entry b u p old room i blank-entry-consumes (entry-took blank-entry-onward q h e d z) 2 (entry-words (entryAt b u e)) new' (g ∙ ap (λ (x : Record). put to (catalogue-bytes layout-20 (x ∷ [])) new) y)
+
+  pub write-ends : (l : Lost) → a ≡ NoEntry l → Written (map entry-record) (many0 blank-entry b u) p to old new
+  write-ends l z = writing-ends (map-elementwise entry-record) blank-entry b u p old room i blank-entry-consumes (entryLost a) q (entry-lost blank-entry-onward q h l (entryLost a) refl z)
+
+pub entries-onward : Onward constant-entries
+unfolding constant-entries
+entries-onward = walks (chain-many0 (blank-entry-inside .on-chain))

@@ -1,15 +1,24 @@
 -- Words written over a buffer, one behind the other.
 use mathlib.Core.Path.{_≡_, refl, sym, ap, _∙_}
 use mathlib.Core.List.{List, [], _∷_, _++_, append-assoc, append-nil}
-use Prim.Native.Nat.{ℕ, zero, suc, _+_, _*_, _/_, _%_, _≤_}
+use Prim.Native.Nat.{ℕ, _+_, _-_, _*_, _/_, _%_, _≤_, _<_}
 use native.Mathlib.Omega.{arith}
 use native.Mathlib.Numerals.{towards-suc}
 use native.Mathlib.Nat.{add-assoc, add-zero, div-div-eq-div-mul}
 use lib.ListN.{length, drop, take, set, length-drop, length-append, take-append-drop}
 use lib.Seq.{sets, sets-eq, take-at, length-take-le, drop-append-add, drop-drop}
-use Rattle.items.specs.layout.{big-endian, words-bytes}
+use Rattle.lexing.specs.reply.{Reply, ok, fail, stop, Parser, many0}
+use Rattle.lexing.specs.answers.{Rest, lostReply}
+use Rattle.lexing.specs.declared.answers.Lost.{Lost}
+use Rattle.lexing.specs.declared.answers.Lost.the-variants.{Fail, Stop}
+use Rattle.lexing.proofs.Locality.{Consumes}
+use Rattle.lexing.proofs.Slicing.{Took}
+use Rattle.lexing.proofs.Repetition.{before, ManyAt, manyEnd, many0-start, many0-step, many0-ends}
+use Rattle.items.specs.records.{Record}
+use Rattle.items.specs.layout.{layout-20, big-endian, words-bytes, catalogue-bytes, word-count}
 use Rattle.items.specs.buffers.{put}
-use Rattle.items.proofs.RecordWords.{big-endian-length, words-bytes-append, words-bytes-length, words-bytes-one}
+use Rattle.items.specs.answers.{Room, Puts, Written}
+use Rattle.items.proofs.RecordWords.{big-endian-length, words-bytes-append, words-bytes-length, words-bytes-one, catalogue-bytes-none, catalogue-bytes-length, word-count-none, Elementwise, word-count-more, catalogue-bytes-more, word-count-grows}
 
 put-8 : (l : List ℕ) (i a b c d e f g h : ℕ) → i + 8 ≤ length l
     → set (set (set (set (set (set (set (set l i a) (i + 1) b) (i + 2) c) (i + 3) d) (i + 4) e) (i + 5) f) (i + 6) g) (i + 7) h ≡ put i (a ∷ b ∷ c ∷ d ∷ e ∷ f ∷ g ∷ h ∷ []) l
@@ -63,3 +72,67 @@ pub put-more : (at to w : ℕ) (ws l₀ l l' : List ℕ) → to ≡ at + 8 * len
 put-more at to w ws l₀ l l' z h e e' =
     let k : to ≡ at + length (words-bytes ws) = omega (arith, words-bytes-length ws) in
     rw (words-bytes-append ws (w ∷ []), words-bytes-one w) (put-on at to (words-bytes ws) (big-endian 8 w) l₀ l l' k (omega (arith, big-endian-length 8 w)) e e')
+
+-- A loop that writes the records of a repetition: those of the elements so far stand in the buffer.
+pub record Writing {A : Type 0} (f : List A → List Record) (m : Parser A) (b : ℕ) (u : List ℕ) (c at : ℕ) (old new : List ℕ) (to : ℕ) : Type 0 where
+  pub seen : List A
+  pub run : ManyAt m b u c seen
+  pub place : to ≡ at + 8 * word-count (f seen)
+  pub bytes : new ≡ put at (catalogue-bytes layout-20 (f seen)) old
+  pub fits : to ≤ length old
+
+-- the room that is left
+room-before : {A : Type 0} {f : List A → List Record} {one : A → List Record} → Elementwise f one → (p n : ℕ) (l : List A) (x : Reply (List A)) → Room f (before l x) p n → p + 8 * word-count (f l) ≤ n
+room-before w p n l (ok k c r) h = omega (arith, h, word-count-grows w l k)
+room-before w p n l (fail p') h = absurd h
+room-before w p n l (stop i p') h = absurd h
+
+module _ {A : Type 0} {f : List A → List Record} {one : A → List Record} (w : Elementwise f one) (m : Parser A) (b : ℕ) (u : List ℕ) (at : ℕ) (old : List ℕ) (room : Room f (many0 m b u) at (length old)) where
+  pub writing-start : Writing f m b u b at old old at
+  writing-start =
+      let s = many0-start m b u in
+      let nothing : word-count (f []) ≡ 0 = ap word-count (w .nothing) ∙ word-count-none in
+      let z : put at (catalogue-bytes layout-20 (f [])) old ≡ old = rw (w .nothing, catalogue-bytes-none layout-20) (put-nothing at old) in
+      record {
+        seen = [];
+        run = s;
+        place = omega (arith, nothing);
+        bytes = sym z;
+        fits = omega (arith, room-before w at (length old) [] (many0 m b (drop (b - b) u)) (rw (s .left) at room));
+      }
+
+  module _ {c : ℕ} {new : List ℕ} {to : ℕ} (i : Writing f m b u c at old new to) where
+    pub writing-same : length new ≡ length old
+    writing-same = ap length (i .bytes) ∙ put-length at (catalogue-bytes layout-20 (f (i .seen))) old (omega (arith, catalogue-bytes-length (f (i .seen)), i .place, i .fits))
+
+    module _ (v : Consumes m) {a : A} {d : ℕ} (t : Took m b u c a d) where
+      more : at + 8 * word-count (f (i .seen ++ (a ∷ []))) ≤ length old
+      more = room-before w at (length old) (i .seen ++ (a ∷ [])) (many0 m d (drop (d - b) u)) (rw (many0-step v (i .run) t .0 .left) at room)
+
+      -- there is room for one element more
+      pub writing-fits : (k : ℕ) → word-count (one a) ≡ k → (to + 8 * k ≤ length new) × ((c < d) × (d ≤ b + length u))
+      writing-fits k z = let s = many0-step v (i .run) t in (omega (arith, writing-same, more, i .place, word-count-more w (i .seen) a, z), (s .1, s .0 .inside))
+
+      pub writing-more : (k : ℕ) → word-count (one a) ≡ k → (new' : List ℕ) → new' ≡ put to (catalogue-bytes layout-20 (one a)) new → Writing f m b u d at old new' (to + 8 * k)
+      writing-more k z new' e =
+          let l = word-count-more w (i .seen) a in
+          record {
+            seen = i .seen ++ (a ∷ []);
+            run = many0-step v (i .run) t .0;
+            place = omega (arith, i .place, l, z);
+            bytes = rw (catalogue-bytes-more w (i .seen) a) (
+                put-on at to (catalogue-bytes layout-20 (f (i .seen))) (catalogue-bytes layout-20 (one a)) old new new'
+                (omega (arith, i .place, catalogue-bytes-length (f (i .seen))))
+                (omega (arith, i .place, more, l, catalogue-bytes-length (one a)))
+                (i .bytes)
+                e
+                );
+            fits = omega (arith, i .place, more, l, z);
+          }
+
+    ended : (x : Lost) → many0 m b u ≡ manyEnd x (i .seen) c (drop (c - b) u) → Written f (many0 m b u) at to old new
+    ended (Fail p) e = rw e (record { place = i .place; bytes = i .bytes })
+    ended (Stop n p) e = absurd (rw e at room)
+
+    pub writing-ends : (v : Consumes m) {r : List ℕ} (x : Lost) → Rest b u c r → lostReply x ≡ m c r → Written f (many0 m b u) at to old new
+    writing-ends v x q e = ended x (many0-ends v x (i .run) q e)

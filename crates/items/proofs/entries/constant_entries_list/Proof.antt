@@ -1,89 +1,73 @@
 use borrow.Author.Needs.{needs}
 use Rattle.items.proofs.entries.constant_entries_list.Statement.{statement}
 use Rattle.items.proofs.entries.constant_entries_list.Tie as tie
-use Rattle.items.proofs.entries.constant_entries_list.Reads as reads
-use Rattle.items.proofs.entries.constant_entries_list.Lts as lts
-use Rattle.items.proofs.entries.count_entries.Reads as count-entries-reads
-use Rattle.lexing.proofs.answers.step_lost.Reads as step-lost-reads
-use Rattle.lexing.proofs.blanks.whitespace0.Reads as whitespace0-reads
-use Rattle.lexing.proofs.parts.rest_at.Reads as rest-at-reads
-use Rattle.lexing.proofs.words.tag.Reads as tag-reads
+use native.Mathlib.Omega.{arith}
+use Rattle.lexing.proofs.Slicing.{rest-self, blank-took, tag-took, step-lost}
+use Rattle.items.specs.entries.{constant-entries-list}
+use Rattle.items.proofs.Braces.{braces-unopened, braces-lost, braces-unclosed, braces-read}
+use Rattle.items.proofs.counts.Laws.{count-took, count-lost, count-is, count-not, count-pass}
+use Rattle.items.proofs.entries.Laws.{entries-onward}
 
--- src/entries.rt:238:9
 tag-requires : tie.Need-tag-requires
 tag-requires c κs = search needs
 
--- src/entries.rt:239:20
 enum-known-brace : tie.Need-enum-known-brace
 enum-known-brace c = search needs
 
--- src/entries.rt:240:31
 enum-told : tie.Need-enum-told
 enum-told c = search needs
 
--- src/entries.rt:240:31
 step-lost-requires : tie.Need-step-lost-requires
 step-lost-requires c κs = search needs
 
--- src/entries.rt:240:9
 returns : tie.Need-returns
-returns c = ?
+unfolding constant-entries-list
+returns c = count-not _ _ _ _ _ (braces-unopened _ _ _ (c .step-lost .result) (step-lost _ (c .step-lost .ensures) (c .before .enum-told .given .1) _ _ _ (c .before .before .before .tag .ensures)))
 
--- src/entries.rt:242:29
 rest-at-requires : tie.Need-rest-at-requires
-rest-at-requires c κs = search needs
+rest-at-requires c κs = omega (arith, (tag-took (rest-self _ _) (c .before .brace .given .1) 123 (c .before .before .before .tag .ensures)) .up, (tag-took (rest-self _ _) (c .before .brace .given .1) 123 (c .before .before .before .tag .ensures)) .inside)
 
--- src/entries.rt:242:9
 count-entries-requires : tie.Need-count-entries-requires
 count-entries-requires c κs = search needs
 
--- src/entries.rt:243:22
 enum-known-run : tie.Need-enum-known-run
 enum-known-run c = search needs
 
--- src/entries.rt:244:9
 enum-told-2 : tie.Need-enum-told-2
 enum-told-2 c = search needs
 
--- src/entries.rt:244:9
 returns-2 : tie.Need-returns-2
-returns-2 c = ?
+unfolding constant-entries-list
+returns-2 c = count-pass _ _ _ _ _ _ (c .enum-told2 .given .1) (braces-lost _ _ _ (tag-took (rest-self _ _) (c .before .before .before .before .before .brace .given .1) 123 (c .before .before .before .before .before .before .before .tag .ensures)) (c .enum-told2 .given .0 .0) (c .before .before .before .rest-at .ensures) (count-lost _ (c .enum-told2 .given .1) _ _ (c .before .before .count-entries .ensures)))
 
--- src/entries.rt:246:25
 rest-at-requires-2 : tie.Need-rest-at-requires-2
-rest-at-requires-2 c κs = search needs
+rest-at-requires-2 c κs = let k = (count-took entries-onward (c .before .before .before .before .rest-at .ensures) (c .before .run .given .1) (c .before .before .before .count-entries .ensures)) in omega (arith, k .step .up, k .step .inside, c .before .before .before .before .rest-at .ensures .from)
 
--- src/entries.rt:246:9
 whitespace0-requires : tie.Need-whitespace0-requires
 whitespace0-requires c κs = search needs
 
--- src/entries.rt:248:21
 rest-at-requires-3 : tie.Need-rest-at-requires-3
 rest-at-requires-3 c κs = search needs
 
--- src/entries.rt:248:9
 tag-requires-2 : tie.Need-tag-requires-2
 tag-requires-2 c κs = search needs
 
--- src/entries.rt:249:20
 enum-known-close : tie.Need-enum-known-close
 enum-known-close c = search needs
 
--- src/entries.rt:250:31
 enum-told-3 : tie.Need-enum-told-3
 enum-told-3 c = search needs
 
--- src/entries.rt:250:31
 step-lost-requires-2 : tie.Need-step-lost-requires-2
 step-lost-requires-2 c κs = search needs
 
--- src/entries.rt:250:9
 returns-3 : tie.Need-returns-3
-returns-3 c = ?
+unfolding constant-entries-list
+returns-3 c = count-not _ _ _ _ _ (braces-unclosed _ _ _ (tag-took (rest-self _ _) (c .before .before .before .before .before .before .before .before .before .before .before .before .before .brace .given .1) 123 (c .before .before .before .before .before .before .before .before .before .before .before .before .before .before .before .tag .ensures)) ((count-took entries-onward (c .before .before .before .before .before .before .before .before .before .before .before .rest-at .ensures) (c .before .before .before .before .before .before .before .before .run .given .1) (c .before .before .before .before .before .before .before .before .before .before .count-entries .ensures)) .step) (blank-took (c .before .before .before .before .before .before .rest-at2 .ensures) (c .before .before .before .before .before .whitespace0 .ensures)) (c .step-lost2 .result) (c .before .before .before .before .rest-at3 .ensures) (step-lost _ (c .step-lost2 .ensures) (c .before .enum-told3 .given .1) _ _ _ (c .before .before .before .tag2 .ensures)))
 
--- src/entries.rt:234:1
 returns-4 : tie.Need-returns-4
-returns-4 c = ?
+unfolding constant-entries-list
+returns-4 c = let k = (count-took entries-onward (c .before .before .before .before .before .before .before .before .before .before .before .rest-at .ensures) (c .before .before .before .before .before .before .before .before .run .given .1) (c .before .before .before .before .before .before .before .before .before .before .count-entries .ensures)) in count-is _ _ _ _ (k .value) _ _ (k .words) (omega (arith, k .few, k .step .up, (tag-took (rest-self _ _) (c .before .before .before .before .before .before .before .before .before .before .before .before .before .brace .given .1) 123 (c .before .before .before .before .before .before .before .before .before .before .before .before .before .before .before .tag .ensures)) .up, (blank-took (c .before .before .before .before .before .before .rest-at2 .ensures) (c .before .before .before .before .before .whitespace0 .ensures)) .up, (tag-took (c .before .before .before .before .rest-at3 .ensures) (c .before .close .given .1) 125 (c .before .before .before .tag2 .ensures)) .up)) (braces-read _ _ _ (tag-took (rest-self _ _) (c .before .before .before .before .before .before .before .before .before .before .before .before .before .brace .given .1) 123 (c .before .before .before .before .before .before .before .before .before .before .before .before .before .before .before .tag .ensures)) (k .step) (blank-took (c .before .before .before .before .before .before .rest-at2 .ensures) (c .before .before .before .before .before .whitespace0 .ensures)) (tag-took (c .before .before .before .before .rest-at3 .ensures) (c .before .close .given .1) 125 (c .before .before .before .tag2 .ensures)))
 
 pub constant-entries-list-spec : {M : Type 1} → statement M
 constant-entries-list-spec =

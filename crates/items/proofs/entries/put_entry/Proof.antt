@@ -1,6 +1,8 @@
 use borrow.Author.Needs.{needs}
 use Rattle.items.proofs.entries.put_entry.Statement.{statement}
 use Rattle.items.proofs.entries.put_entry.Tie as tie
+use denote.Ref.{now}
+use Rattle.items.proofs.entries.Laws.{put-entry}
 
 sub-put-word : tie.Need-sub-put-word
 sub-put-word c = search needs
@@ -21,7 +23,7 @@ same-length : tie.Need-same-length
 same-length c = search needs
 
 returns : tie.Need-returns
-returns c = ?
+returns c = put-entry (c .before .before .before .before .before .before .before .before .before .before .before .args .e) (c .before .before .before .before .before .before .before .before .before .before .before .args .at) _ (now (c .before .before .before .before .before .before .before .before .before .before .before .args .out)) _ _ (c .before .before .before .before .before .before .before .before .before .before .before .pre .0) (c .before .before .before .before .before .before .before .first-word .ensures) (c .before .before .before .before .before .before .put-word .ensures) (c .before .before .put-word2 .ensures)
 
 pub put-entry-spec : {M : Type 1} → statement M
 put-entry-spec =
