@@ -1,21 +1,27 @@
 -- What the answers of the code say, as replies of the definitions.
 use Prim.Native.Nat.{ℕ, _+_, _-_, _*_, _≤_, _<_}
 use mathlib.Core.Path.{_≡_}
-use mathlib.Core.List.{List}
-use lib.ListN.{length}
-use Rattle.lexing.specs.reply.{Parser}
+use mathlib.Core.List.{List, [], _∷_}
+use lib.ListN.{length, take, drop}
+use Rattle.lexing.specs.reply.{Parser, Reply, ok, fail, stop}
+use Rattle.lexing.specs.words.{word}
 use Rattle.lexing.specs.answers.{Answer, got, lost, reply, stepAnswer}
 use Rattle.lexing.specs.declared.answers.Lost.{Lost}
 use Rattle.lexing.specs.declared.answers.Lost.the-variants.{Fail, Stop}
 use Rattle.lexing.specs.declared.answers.Step.{Step}
 use Rattle.lexing.specs.declared.answers.Step.the-variants.{Next, Not}
-use Rattle.items.specs.entries.{api-maturity}
+use Rattle.items.specs.entries.{api-maturity, Entry}
 use Rattle.items.specs.clusters.{mapped}
-use Rattle.items.specs.records.{Record}
-use Rattle.items.specs.layout.{word-count}
+use Rattle.items.specs.records.{Record, bits}
+use Rattle.items.specs.layout.{layout-20, catalogue-bytes, word-count, packed}
+use Rattle.items.specs.buffers.{put}
 use Rattle.items.specs.declared.counts.Count.{Count}
 use Rattle.items.specs.declared.counts.Count.the-variants.{Words, NoCount}
 use Rattle.items.specs.declared.maturity.Maturity.{Maturity}
+use Rattle.items.specs.declared.writing.First.{First}
+use Rattle.items.specs.declared.entries.EntryParts.{EntryParts}
+use Rattle.items.specs.declared.entries.EntryRead.{EntryRead}
+use Rattle.items.specs.declared.entries.EntryRead.the-variants.{Read, NoEntry}
 
 -- a maturity and where it ends
 pub record MaturityTo (r : Maturity) (b : ℕ) (u : List ℕ) : Type 0 where
@@ -55,3 +61,83 @@ Few (NoCount l) b = Unit {0}
 pub record CountTo {A : Type 0} (records : A → List Record) (m : Parser A) (r : Count) (b : ℕ) (u : List ℕ) : Type 0 where
   pub reads : reply (countAnswer r) b u ≡ counted records m b u
   pub few : Few r b
+
+-- the count of a repetition, after n words at c, by why its last try was lost
+abbrev pub countEnd : Lost → ℕ → ℕ → Count
+countEnd (Fail p) n c = Words n c
+countEnd (Stop i p) n c = NoCount (Stop i p)
+
+-- The second pass.
+
+-- a declaration is accepted, and there is room for its records in n bytes from a place on
+abbrev pub Room : {A : Type 0} → (A → List Record) → Reply A → ℕ → ℕ → Type 0
+Room records (ok a c r) at n = at + 8 * word-count (records a) ≤ n
+Room records (fail p) at n = ⊥
+Room records (stop i p) at n = ⊥
+
+-- records, written over a buffer from a place on; to is the place behind them
+pub record Puts (l : List Record) (at to : ℕ) (old new : List ℕ) : Type 0 where
+  pub place : to ≡ at + 8 * word-count l
+  pub bytes : new ≡ put at (catalogue-bytes layout-20 l) old
+
+-- the records of a declaration
+abbrev pub Written : {A : Type 0} → (A → List Record) → Reply A → ℕ → ℕ → List ℕ → List ℕ → Type 0
+Written records (ok a c r) at to old new = Puts (records a) at to old new
+Written records (fail p) at to old new = ⊥
+Written records (stop i p) at to old new = ⊥
+
+-- the first word of a record, and what fits it
+abbrev pub first-of : First → ℕ
+first-of f =
+    packed 0 (
+    bits 8 (f .kind) ∷
+    bits 2 (f .place) ∷
+    bits 2 (f .maturity) ∷
+    bits 1 (f .documented) ∷
+    bits 7 (f .flags) ∷
+    bits 20 (f .name) ∷
+    bits 20 (f .size) ∷
+    bits 2 (f .privilege) ∷
+    bits 2 (f .further) ∷
+    []
+    )
+
+pub record Fits (f : First) : Type 0 where
+  pub kind-fits : f .kind < 256
+  pub place-fits : f .place < 4
+  pub maturity-fits : f .maturity < 4
+  pub documented-fits : f .documented < 2
+  pub flags-fits : f .flags < 128
+  pub name-fits : f .name < 1048576
+  pub size-fits : f .size < 1048576
+  pub privilege-fits : f .privilege < 4
+  pub further-fits : f .further < 4
+
+-- Entries.
+
+-- the entry that offsets stand for, in a part that starts at b
+abbrev pub entryAt : ℕ → List ℕ → EntryParts → Entry
+entryAt b u e = record { maturity = e .maturity; name = word (e .name) (take (e .end - e .name) (drop (e .name - b) u)); code = e .code }
+
+abbrev pub entryAnswer : ℕ → List ℕ → EntryRead → Answer Entry
+entryAnswer b u (Read e c) = got (entryAt b u e) c
+entryAnswer b u (NoEntry l) = lost l
+
+abbrev pub entryLost : EntryRead → Lost
+entryLost (Read e c) = Fail c
+entryLost (NoEntry l) = l
+
+-- an entry that was read from b to c names bytes there
+pub record EntryBounds (b : ℕ) (e : EntryParts) (c : ℕ) : Type 0 where
+  pub from : b ≤ e .name
+  pub up : e .name ≤ e .end
+  pub inside : e .end ≤ c
+  pub small : e .maturity < 4
+
+abbrev pub EntryWithin : ℕ → EntryRead → Type 0
+EntryWithin b (Read e c) = EntryBounds b e c
+EntryWithin b (NoEntry l) = Unit {0}
+
+pub record EntryTo (m : Parser Entry) (r : EntryRead) (b : ℕ) (u : List ℕ) : Type 0 where
+  pub reads : reply (entryAnswer b u r) b u ≡ m b u
+  pub within : EntryWithin b r

@@ -1,0 +1,51 @@
+-- Parts that are read and dropped: sequences and repetitions.
+use mathlib.Core.Path.{_≡_, sym, ap, _∙_, subst}
+use mathlib.Core.List.{List}
+use Prim.Native.Nat.{ℕ, _-_}
+use lib.ListN.{drop}
+use Rattle.lexing.specs.reply.{Reply, ok, fail, stop, Parser, _>>_, opt, many0}
+use Rattle.lexing.specs.words.{tag}
+use Rattle.lexing.specs.blanks.{Doc, whitespace0}
+use Rattle.lexing.specs.answers.{Rest, lostReply, reply, stepAnswer, tagReply}
+use Rattle.lexing.specs.declared.answers.Lost.{Lost}
+use Rattle.lexing.specs.declared.answers.Lost.the-variants.{Fail, Stop}
+use Rattle.lexing.specs.declared.answers.Step.{Step}
+use Rattle.lexing.specs.declared.answers.Step.the-variants.{Next, Not}
+use Rattle.lexing.proofs.Onward.{Onward}
+use Rattle.lexing.proofs.Locality.{Consumes}
+use Rattle.lexing.proofs.Slicing.{Took, took, told-not, begin, on}
+use Rattle.lexing.proofs.Repetition.{ManyAt, manyEnd, many0-ends}
+use Rattle.items.specs.answers.{Skips, optionalStep}
+use Rattle.items.proofs.optional.Laws.{optional-skips}
+
+-- the two ends of a sequence; a value of the right type where there is none
+pub skip-is : {A : Type 0} (m : Parser A) (v : A) (b c : ℕ) (u : List ℕ) → ok v c (drop (c - b) u) ≡ m b u → Skips m (Next c) b u
+skip-is m v b c u e = record { value = v; reads = e }
+
+pub skip-not : {A : Type 0} (m : Parser A) (v : A) (l : Lost) (b : ℕ) (u : List ℕ) → lostReply l ≡ m b u → Skips m (Not l) b u
+skip-not m v l b u e = record { value = v; reads = e }
+
+pub tag-skips : (t : ℕ) (a : Step) {b : ℕ} {u : List ℕ} → tagReply a b u ≡ tag t b u → Skips (tag t) a b u
+tag-skips t a h = record { value = tt; reads = h }
+
+-- an optional part
+pub opt-skips : {A : Type 0} {m : Parser A} (a : Step) {b : ℕ} {u : List ℕ} {t : Step} → Skips m a b u → t ≡ optionalStep a b → Skips (opt m) t b u
+opt-skips {A} {m} a {b} {u} {t} h e = subst (λ (x : Step). Skips (opt m) x b u) (sym e) (optional-skips a b u h)
+
+-- a part behind blanks
+behind-at : {A : Type 0} (m : Parser A) (w : Onward m) (b n : ℕ) (u r : List ℕ) (d : Doc) (a : Step) → Rest b u n r → Took whitespace0 b u b d n → Skips m a n r → Skips (whitespace0 >> m) a b u
+behind-at m w b n u r d (Next c) q t h = record { value = h .value; reads = begin (whitespace0 >> m) b u (on m t (sym (took w q (h .reads) .goes))) }
+behind-at m w b n u r d (Not l) q t h = record { value = h .value; reads = begin (whitespace0 >> m) b u (on m t (h .reads ∙ ap (m n) (q .same))) }
+
+pub skip-behind : {A : Type 0} {m : Parser A} (w : Onward m) {b n : ℕ} {u r : List ℕ} {d : Doc} {a : Step} → Rest b u n r → Took whitespace0 b u b d n → Skips m a n r → Skips (whitespace0 >> m) a b u
+skip-behind {A} {m} w {b} {n} {u} {r} {d} {a} q t h = behind-at m w b n u r d a q t h
+
+-- the end of a repetition
+ran : {A : Type 0} (m : Parser A) (b : ℕ) (u : List ℕ) (c : ℕ) (l : List A) (x : Lost) → many0 m b u ≡ manyEnd x l c (drop (c - b) u) → Skips (many0 m) (optionalStep (Not x) c) b u
+ran m b u c l (Fail p) e = record { value = l; reads = sym e }
+ran m b u c l (Stop n p) e = record { value = l; reads = sym e }
+
+pub many0-skips : {A : Type 0} {m : Parser A} (w : Consumes m) {b c : ℕ} {u r : List ℕ} {l : List A} {a t : Step} (x : Lost) → ManyAt m b u c l → Rest b u c r → Skips m a c r → a ≡ Not x → t ≡ optionalStep a c → Skips (many0 m) t b u
+many0-skips {A} {m} w {b} {c} {u} {r} {l} {a} {t} x i q h d e =
+    let z : t ≡ optionalStep (Not x) c = e ∙ ap (λ (y : Step). optionalStep y c) d in
+    subst (λ (y : Step). Skips (many0 m) y b u) (sym z) (ran m b u c l x (many0-ends w x i q (told-not (λ c. h .value) a x c r (m c r) d (h .reads))))

@@ -1,0 +1,2 @@
+-- Laws of counts.
+pub mod Laws

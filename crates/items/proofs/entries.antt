@@ -1,0 +1,2 @@
+-- Laws of the readers of entries.
+pub mod Laws

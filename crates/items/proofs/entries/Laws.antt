@@ -1,0 +1,174 @@
+-- Annotations and entries.
+use mathlib.Core.Path.{_≡_, refl, sym, ap, _∙_, subst}
+use mathlib.Core.List.{List, [], _∷_, map}
+use Prim.Native.Nat.{ℕ, _+_, _-_, _*_, _≤_, _<_}
+use native.Mathlib.Omega.{arith}
+use lib.ListN.{length, drop, take, length-drop}
+use lib.Seq.{drop-drop, length-take-le}
+use Rattle.lexing.specs.reply.{Reply, ok, Parser, _>>_, opt, many0}
+use Rattle.lexing.specs.words.{word, tag}
+use Rattle.lexing.specs.blanks.{Doc, whitespace0}
+use Rattle.lexing.specs.strings.{span}
+use Rattle.lexing.specs.answers.{Rest, lostReply, lostOf, reply, stepAnswer}
+use Rattle.lexing.specs.declared.answers.Lost.{Lost}
+use Rattle.lexing.specs.declared.answers.Step.{Step}
+use Rattle.lexing.specs.declared.answers.Step.the-variants.{Next, Not}
+use Rattle.lexing.proofs.Onward.{Onward}
+use Rattle.lexing.proofs.Locality.{Consumes, chain-ret, chain-many0, chain-opt, chain-then, consumes-then-right}
+use Rattle.lexing.proofs.TokenLocality.{whitespace0-chain}
+use Rattle.lexing.proofs.Slicing.{Took, took, walks, rest-self, begin, on, told-next, step-lost}
+use Rattle.items.specs.entries.{Annotation, constant-annotation, blank-annotation, annotations-in-brackets, constant-annotations-list, Entry, constant-entry, blank-entry, constant-entries}
+use Rattle.items.specs.records.{Record, at, value, entry-record, plain, each, word-extent}
+use Rattle.items.specs.layout.{packed, width, from-top, offset, size, further-word, word-count, catalogue-words, catalogue-bytes, record-words, words-bytes, big-endian, layout-20}
+use Rattle.items.specs.buffers.{put}
+use Rattle.items.specs.answers.{first-of, Room, Written, entryAt, entryAnswer, entryLost, EntryBounds, EntryWithin, EntryTo}
+use Rattle.items.specs.inner.entries.{entry-end, EndTo, parts-record}
+use Rattle.items.specs.declared.entries.EntryParts.{EntryParts}
+use Rattle.items.specs.declared.entries.EntryRead.{EntryRead}
+use Rattle.items.specs.declared.entries.EntryRead.the-variants.{Read, NoEntry}
+use Rattle.items.proofs.Locality.{punct-local, constant-annotation-local, constant-annotation-consumes, constant-annotations-list-inside, constant-entry-inside, blank-entry-inside, blank-entry-consumes}
+use Rattle.items.proofs.RecordWords.{map-elementwise}
+use Rattle.items.proofs.counts.Laws.{Counting, counting-more}
+use Rattle.items.proofs.writing.Laws.{put-one, put-more, Writing, writing-fits, writing-more, writing-ends}
+
+-- annotations
+pub no-annotation : Annotation
+no-annotation = record { key = word 0 []; value = span 0 0 }
+
+pub comma-onward : Onward (opt (tag 44))
+comma-onward = walks (chain-opt (punct-local 44 refl .on-chain))
+
+pub annotation-onward : Onward constant-annotation
+annotation-onward = walks (constant-annotation-local .on-chain)
+
+pub blank-annotation-onward : Onward blank-annotation
+unfolding blank-annotation
+blank-annotation-onward = walks (chain-then whitespace0-chain (constant-annotation-local .on-chain))
+
+pub blank-annotation-consumes : Consumes blank-annotation
+unfolding blank-annotation
+blank-annotation-consumes = consumes-then-right whitespace0-chain constant-annotation-consumes
+
+pub annotations-onward : Onward (many0 blank-annotation)
+unfolding blank-annotation
+annotations-onward = walks (chain-many0 (chain-then whitespace0-chain (constant-annotation-local .on-chain)))
+
+pub annotations-list-onward : Onward constant-annotations-list
+annotations-list-onward = walks (constant-annotations-list-inside .on-chain)
+
+-- the end of an entry
+pub end-is : (b c : ℕ) (u : List ℕ) → ((e : Entry) → ok e c (drop (c - b) u) ≡ entry-end e b u) → EndTo (Next c) b u
+end-is b c u h = record { reads = h }
+
+pub end-not : (l : Lost) (b : ℕ) (u : List ℕ) → ((e : Entry) → lostReply l ≡ entry-end e b u) → EndTo (Not l) b u
+end-not l b u h = record { reads = h }
+
+end-onward : (e : Entry) → Onward (entry-end e)
+unfolding entry-end
+end-onward e = walks (chain-then whitespace0-chain (chain-then (constant-annotations-list-inside .on-chain) (chain-then whitespace0-chain (chain-then (punct-local 59 refl .on-chain) (chain-ret e)))))
+
+pub end-took : (e : Entry) {b n : ℕ} {u r : List ℕ} {a : Step} {c : ℕ} → Rest b u n r → a ≡ Next c → EndTo a n r → Took (entry-end e) b u n e c
+end-took e {b} {n} {u} {r} {a} {c} q d h = took (end-onward e) q (told-next (λ c. e) a c n r (entry-end e n r) d (h .reads e))
+
+pub end-lost : (e : Entry) {b n : ℕ} {u r : List ℕ} {a : Step} {l l' : Lost} → Rest b u n r → l' ≡ lostOf a → a ≡ Not l → EndTo a n r → lostReply l' ≡ entry-end e n (drop (n - b) u)
+end-lost e {b} {n} {u} {r} {a} {l} {l'} q d z h = step-lost (λ c. e) d z n r (entry-end e n r) (h .reads e) ∙ ap (entry-end e n) (q .same)
+
+-- where an entry ends, from the numbers alone
+pub end-up : {n : ℕ} {r : List ℕ} {a : Step} {c : ℕ} → a ≡ Next c → EndTo a n r → n ≤ c
+end-up {n} {r} {a} {c} d h =
+    let e : Entry = record { maturity = 0; name = word 0 []; code = 0 } in
+    end-took e (rest-self n r) d h .up
+
+-- entries
+pub entry-is : (m : Parser Entry) (b : ℕ) (u : List ℕ) (e : EntryParts) (c : ℕ) → ok (entryAt b u e) c (drop (c - b) u) ≡ m b u → EntryBounds b e c → EntryTo m (Read e c) b u
+entry-is m b u e c h w = record { reads = h; within = w }
+
+pub entry-not : (m : Parser Entry) (b : ℕ) (u : List ℕ) (l : Lost) → lostReply l ≡ m b u → EntryTo m (NoEntry l) b u
+entry-not m b u l h = record { reads = h; within = tt }
+
+-- the same bytes, seen from the part's start
+entry-moved : (b n : ℕ) (u r : List ℕ) (e : EntryParts) → Rest b u n r → n ≤ e .name → entryAt n r e ≡ entryAt b u e
+entry-moved b n u r e q h =
+    let z : n - b + (e .name - n) ≡ e .name - b = omega (arith, q .from) in
+    ap (λ (v : List ℕ). record { maturity = e .maturity; name = word (e .name) (take (e .end - e .name) v); code = e .code })
+    (ap (drop (e .name - n)) (q .same) ∙ (drop-drop (e .name - n) (n - b) u ∙ ap (λ (i : ℕ). drop i u) z))
+
+pub bounds-of : {m : Parser Entry} {n : ℕ} {r : List ℕ} {a : EntryRead} (e : EntryParts) (c : ℕ) → EntryTo m a n r → a ≡ Read e c → EntryBounds n e c
+bounds-of {m} {n} {r} {a} e c h d = subst (λ (x : EntryRead). EntryWithin n x) d (h .within)
+
+module _ {m : Parser Entry} (w : Onward m) {b n : ℕ} {u r : List ℕ} {a : EntryRead} (q : Rest b u n r) (h : EntryTo m a n r) where
+  pub entry-took : (e : EntryParts) (c : ℕ) → a ≡ Read e c → Took m b u n (entryAt b u e) c
+  entry-took e c d =
+      let k : ok (entryAt n r e) c (drop (c - n) r) ≡ m n r = subst (λ (x : EntryRead). reply (entryAnswer n r x) n r ≡ m n r) d (h .reads) in
+      rw (← entry-moved b n u r e q (bounds-of e c h d .from)) (took w q k)
+
+  pub entry-lost : (l l' : Lost) → l' ≡ entryLost a → a ≡ NoEntry l → lostReply l' ≡ m n r
+  entry-lost l l' e d =
+      let z : l' ≡ l = e ∙ ap entryLost d in
+      ap (λ (x : Lost). lostReply x) z ∙ subst (λ (x : EntryRead). reply (entryAnswer n r x) n r ≡ m n r) d (h .reads)
+
+pub blank-entry-onward : Onward blank-entry
+blank-entry-onward = walks (blank-entry-inside .on-chain)
+
+-- an entry behind blanks
+behind-at : (b n : ℕ) (u r : List ℕ) (d : Doc) (a : EntryRead) → Rest b u n r → Took whitespace0 b u b d n → EntryTo constant-entry a n r → EntryTo blank-entry a b u
+unfolding blank-entry
+behind-at b n u r d (Read e c) q t h =
+    let k = entry-took (walks (constant-entry-inside .on-chain)) q h e c refl in
+    let v = bounds-of e c h refl in
+    record {
+      reads = begin (whitespace0 >> constant-entry) b u (on constant-entry t (sym (k .goes)));
+      within = record { from = omega (arith, v .from, t .up); up = v .up; inside = v .inside; small = v .small };
+    }
+behind-at b n u r d (NoEntry l) q t h = record { reads = begin (whitespace0 >> constant-entry) b u (on constant-entry t (h .reads ∙ ap (constant-entry n) (q .same))); within = tt }
+
+pub entry-behind : {b n : ℕ} {u r : List ℕ} {d : Doc} {a : EntryRead} → Rest b u n r → Took whitespace0 b u b d n → EntryTo constant-entry a n r → EntryTo blank-entry a b u
+entry-behind {b} {n} {u} {r} {d} {a} q t h = behind-at b n u r d a q t h
+
+-- the record of an entry takes two words
+pub entry-words : (e : Entry) → word-count (entry-record e ∷ []) ≡ 2
+unfolding word-count catalogue-words each record-words layout-20 entry-record plain
+entry-words e = refl
+
+-- a turn of the first pass
+pub count-entry : {b c n d : ℕ} {u : List ℕ} (a : Entry) → Counting (map entry-record) blank-entry b u c n → Took blank-entry b u c a d → Counting (map entry-record) blank-entry b u d (n + 2) × (c < d)
+count-entry a i t = counting-more (map-elementwise entry-record) blank-entry blank-entry-consumes a i t (entry-words a) (λ h. omega arith)
+
+-- the two words of an entry's record, one behind the other
+parts-words : (e : EntryParts) → catalogue-bytes layout-20 (parts-record e ∷ [])
+    ≡ words-bytes (first-of (record { kind = 4; place = 0; maturity = e .maturity; documented = 0; flags = 0; name = e .name; size = e .end - e .name; privilege = 0; further = 0 }) ∷ e .code ∷ [])
+unfolding catalogue-bytes catalogue-words each record-words layout-20 further-word plain from-top width packed offset size
+parts-words e = refl
+
+pub put-entry : (e : EntryParts) (p w : ℕ) (l l₁ l₂ : List ℕ) → p + 16 ≤ length l
+    → w ≡ first-of (record { kind = 4; place = 0; maturity = e .maturity; documented = 0; flags = 0; name = e .name; size = e .end - e .name; privilege = 0; further = 0 })
+    → l₁ ≡ put p (big-endian 8 w) l → l₂ ≡ put (p + 8) (big-endian 8 (e .code)) l₁ → l₂ ≡ put p (catalogue-bytes layout-20 (parts-record e ∷ [])) l
+put-entry e p w l l₁ l₂ h z e₁ e₂ = rw (parts-words e, ← z) (put-more p (p + 8) (e .code) (w ∷ []) l l₁ l₂ (omega arith) (omega arith) (put-one p w l l₁ e₁) e₂)
+
+-- the record of an entry that was read
+pub entry-parts : (b : ℕ) (u : List ℕ) (e : EntryParts) → b ≤ e .name → e .name ≤ e .end → e .end ≤ b + length u → parts-record e ≡ entry-record (entryAt b u e)
+unfolding entry-record word-extent
+entry-parts b u e h k l =
+    let z : length (take (e .end - e .name) (drop (e .name - b) u)) ≡ e .end - e .name = length-take-le (e .end - e .name) (drop (e .name - b) u) (omega (arith, length-drop (e .name - b) u)) in
+    ap (λ (n : ℕ). plain 4 (e .maturity) [] (at (e .name) n) (value (e .code) ∷ [])) (sym z)
+
+-- a turn of the second pass
+module _ (b : ℕ) (u : List ℕ) (p : ℕ) (old : List ℕ) (room : Room (map entry-record) (many0 blank-entry b u) p (length old)) {c to : ℕ} {new : List ℕ} (i : Writing (map entry-record) blank-entry b u c p old new to)
+    {r : List ℕ} {a : EntryRead} (q : Rest b u c r) (h : EntryTo blank-entry a c r) where
+  module _ (e : EntryParts) (d : ℕ) (z : a ≡ Read e d) where
+    pub entry-fits : (to + 16 ≤ length new) × ((c < d) × (d ≤ b + length u))
+    entry-fits = writing-fits (map-elementwise entry-record) blank-entry b u p old room i blank-entry-consumes (entry-took blank-entry-onward q h e d z) 2 (entry-words (entryAt b u e))
+
+    pub write-entry : (new' : List ℕ) → new' ≡ put to (catalogue-bytes layout-20 (parts-record e ∷ [])) new → Writing (map entry-record) blank-entry b u d p old new' (to + 16)
+    write-entry new' g =
+        let v = bounds-of e d h z in
+        let f = entry-fits in
+        let y = entry-parts b u e (omega (arith, v .from, q .from)) (v .up) (omega (arith, v .inside, f .1 .1)) in
+        writing-more (map-elementwise entry-record) blank-entry b u p old room i blank-entry-consumes (entry-took blank-entry-onward q h e d z) 2 (entry-words (entryAt b u e)) new' (g ∙ ap (λ (x : Record). put to (catalogue-bytes layout-20 (x ∷ [])) new) y)
+
+  pub write-ends : (l : Lost) → a ≡ NoEntry l → Written (map entry-record) (many0 blank-entry b u) p to old new
+  write-ends l z = writing-ends (map-elementwise entry-record) blank-entry b u p old room i blank-entry-consumes (entryLost a) q (entry-lost blank-entry-onward q h l (entryLost a) refl z)
+
+pub entries-onward : Onward constant-entries
+unfolding constant-entries
+entries-onward = walks (chain-many0 (blank-entry-inside .on-chain))

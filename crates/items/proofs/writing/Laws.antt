@@ -1,0 +1,138 @@
+-- Words written over a buffer, one behind the other.
+use mathlib.Core.Path.{_≡_, refl, sym, ap, _∙_}
+use mathlib.Core.List.{List, [], _∷_, _++_, append-assoc, append-nil}
+use Prim.Native.Nat.{ℕ, _+_, _-_, _*_, _/_, _%_, _≤_, _<_}
+use native.Mathlib.Omega.{arith}
+use native.Mathlib.Numerals.{towards-suc}
+use native.Mathlib.Nat.{add-assoc, add-zero, div-div-eq-div-mul}
+use lib.ListN.{length, drop, take, set, length-drop, length-append, take-append-drop}
+use lib.Seq.{sets, sets-eq, take-at, length-take-le, drop-append-add, drop-drop}
+use Rattle.lexing.specs.reply.{Reply, ok, fail, stop, Parser, many0}
+use Rattle.lexing.specs.answers.{Rest, lostReply}
+use Rattle.lexing.specs.declared.answers.Lost.{Lost}
+use Rattle.lexing.specs.declared.answers.Lost.the-variants.{Fail, Stop}
+use Rattle.lexing.proofs.Locality.{Consumes}
+use Rattle.lexing.proofs.Slicing.{Took}
+use Rattle.lexing.proofs.Repetition.{before, ManyAt, manyEnd, many0-start, many0-step, many0-ends}
+use Rattle.items.specs.records.{Record}
+use Rattle.items.specs.layout.{layout-20, big-endian, words-bytes, catalogue-bytes, word-count}
+use Rattle.items.specs.buffers.{put}
+use Rattle.items.specs.answers.{Room, Puts, Written}
+use Rattle.items.proofs.RecordWords.{big-endian-length, words-bytes-append, words-bytes-length, words-bytes-one, catalogue-bytes-none, catalogue-bytes-length, word-count-none, Elementwise, word-count-more, catalogue-bytes-more, word-count-grows}
+
+put-8 : (l : List ℕ) (i a b c d e f g h : ℕ) → i + 8 ≤ length l
+    → set (set (set (set (set (set (set (set l i a) (i + 1) b) (i + 2) c) (i + 3) d) (i + 4) e) (i + 5) f) (i + 6) g) (i + 7) h ≡ put i (a ∷ b ∷ c ∷ d ∷ e ∷ f ∷ g ∷ h ∷ []) l
+unfolding put
+put-8 l i a b c d e f g h hl =
+    let q : set (set (set (set (set (set (set (set l i a) (i + 1) b) (i + 2) c) (i + 3) d) (i + 4) e) (i + 5) f) (i + 6) g) (i + 7) h ≡ sets l i (a ∷ b ∷ c ∷ d ∷ e ∷ f ∷ g ∷ h ∷ []) = simp towards-suc in
+    q ∙ (sets-eq (a ∷ b ∷ c ∷ d ∷ e ∷ f ∷ g ∷ h ∷ []) l i hl ∙ append-assoc (take i l) (a ∷ b ∷ c ∷ d ∷ e ∷ f ∷ g ∷ h ∷ []) (drop (i + 8) l))
+
+big-endian-8 : (w : ℕ) → big-endian 8 w ≡ w / 72057594037927936 % 256 ∷ w / 281474976710656 % 256 ∷ w / 1099511627776 % 256 ∷ w / 4294967296 % 256 ∷ w / 16777216 % 256 ∷ w / 65536 % 256 ∷ w / 256 % 256 ∷ w % 256 ∷ []
+unfolding big-endian
+big-endian-8 w = simp div-div-eq-div-mul
+
+-- the eight stores of the code
+pub put-word : (l : List ℕ) (i w : ℕ) → i + 8 ≤ length l
+    → set (set (set (set (set (set (set (set l i (w / 72057594037927936 % 256)) (i + 1) (w / 281474976710656 % 256)) (i + 2) (w / 1099511627776 % 256)) (i + 3) (w / 4294967296 % 256)) (i + 4) (w / 16777216 % 256)) (i + 5) (w / 65536 % 256)) (i + 6) (w / 256 % 256)) (i + 7) (w % 256)
+    ≡ put i (big-endian 8 w) l
+put-word l i w h = rw (big-endian-8 w) (put-8 l i _ _ _ _ _ _ _ _ h)
+
+pub put-length : (at : ℕ) (xs l : List ℕ) → at + length xs ≤ length l → length (put at xs l) ≡ length l
+unfolding put
+put-length at xs l h =
+    let t : length (take at l) ≡ at = length-take-le at l (omega arith) in
+    omega (arith, length-append (take at l) (xs ++ drop (at + length xs) l), length-append xs (drop (at + length xs) l), length-drop (at + length xs) l)
+
+pub put-nothing : (at : ℕ) (l : List ℕ) → put at [] l ≡ l
+unfolding put
+put-nothing at l = rw add-zero (take-append-drop at l)
+
+-- two writes, one behind the other, are one
+pub put-put : (at : ℕ) (xs ys l : List ℕ) → at + length xs + length ys ≤ length l → put (at + length xs) ys (put at xs l) ≡ put at (xs ++ ys) l
+unfolding put
+put-put at xs ys l h =
+    let p : List ℕ = take at l ++ xs in
+    let r : List ℕ = drop (at + length xs) l in
+    let t : length (take at l) ≡ at = length-take-le at l (omega arith) in
+    let lp : length p ≡ at + length xs = omega (arith, length-append (take at l) xs) in
+    let e : take at l ++ (xs ++ r) ≡ p ++ r = sym (append-assoc (take at l) xs r) in
+    let d : drop (at + length xs + length ys) (p ++ r) ≡ drop (at + (length xs + length ys)) l =
+    ap (λ (n : ℕ). drop (n + length ys) (p ++ r)) (sym lp) ∙ (drop-append-add p r (length ys) ∙ (drop-drop (length ys) (at + length xs) l ∙ ap (λ (n : ℕ). drop n l) (add-assoc at (length xs) (length ys)))) in
+    rw (e, take-at p r (at + length xs) lp, d, length-append xs ys, append-assoc xs ys, append-assoc (take at l) xs)
+
+-- the same where the second place is a number of its own
+pub put-on : (at to : ℕ) (xs ys l₀ l l' : List ℕ) → to ≡ at + length xs → to + length ys ≤ length l₀ → l ≡ put at xs l₀ → l' ≡ put to ys l → l' ≡ put at (xs ++ ys) l₀
+put-on at to xs ys l₀ l l' z h e e' = e' ∙ rw (e, z) (put-put at xs ys l₀ (omega arith))
+
+-- a word, and one word more
+pub put-one : (at w : ℕ) (l l' : List ℕ) → l' ≡ put at (big-endian 8 w) l → l' ≡ put at (words-bytes (w ∷ [])) l
+put-one at w l l' e = rw words-bytes-one e
+
+pub put-more : (at to w : ℕ) (ws l₀ l l' : List ℕ) → to ≡ at + 8 * length ws → to + 8 ≤ length l₀ → l ≡ put at (words-bytes ws) l₀ → l' ≡ put to (big-endian 8 w) l → l' ≡ put at (words-bytes (ws ++ (w ∷ []))) l₀
+put-more at to w ws l₀ l l' z h e e' =
+    let k : to ≡ at + length (words-bytes ws) = omega (arith, words-bytes-length ws) in
+    rw (words-bytes-append ws (w ∷ []), words-bytes-one w) (put-on at to (words-bytes ws) (big-endian 8 w) l₀ l l' k (omega (arith, big-endian-length 8 w)) e e')
+
+-- A loop that writes the records of a repetition: those of the elements so far stand in the buffer.
+pub record Writing {A : Type 0} (f : List A → List Record) (m : Parser A) (b : ℕ) (u : List ℕ) (c at : ℕ) (old new : List ℕ) (to : ℕ) : Type 0 where
+  pub seen : List A
+  pub run : ManyAt m b u c seen
+  pub place : to ≡ at + 8 * word-count (f seen)
+  pub bytes : new ≡ put at (catalogue-bytes layout-20 (f seen)) old
+  pub fits : to ≤ length old
+
+-- the room that is left
+room-before : {A : Type 0} {f : List A → List Record} {one : A → List Record} → Elementwise f one → (p n : ℕ) (l : List A) (x : Reply (List A)) → Room f (before l x) p n → p + 8 * word-count (f l) ≤ n
+room-before w p n l (ok k c r) h = omega (arith, h, word-count-grows w l k)
+room-before w p n l (fail p') h = absurd h
+room-before w p n l (stop i p') h = absurd h
+
+module _ {A : Type 0} {f : List A → List Record} {one : A → List Record} (w : Elementwise f one) (m : Parser A) (b : ℕ) (u : List ℕ) (at : ℕ) (old : List ℕ) (room : Room f (many0 m b u) at (length old)) where
+  pub writing-start : Writing f m b u b at old old at
+  writing-start =
+      let s = many0-start m b u in
+      let nothing : word-count (f []) ≡ 0 = ap word-count (w .nothing) ∙ word-count-none in
+      let z : put at (catalogue-bytes layout-20 (f [])) old ≡ old = rw (w .nothing, catalogue-bytes-none layout-20) (put-nothing at old) in
+      record {
+        seen = [];
+        run = s;
+        place = omega (arith, nothing);
+        bytes = sym z;
+        fits = omega (arith, room-before w at (length old) [] (many0 m b (drop (b - b) u)) (rw (s .left) at room));
+      }
+
+  module _ {c : ℕ} {new : List ℕ} {to : ℕ} (i : Writing f m b u c at old new to) where
+    pub writing-same : length new ≡ length old
+    writing-same = ap length (i .bytes) ∙ put-length at (catalogue-bytes layout-20 (f (i .seen))) old (omega (arith, catalogue-bytes-length (f (i .seen)), i .place, i .fits))
+
+    module _ (v : Consumes m) {a : A} {d : ℕ} (t : Took m b u c a d) where
+      more : at + 8 * word-count (f (i .seen ++ (a ∷ []))) ≤ length old
+      more = room-before w at (length old) (i .seen ++ (a ∷ [])) (many0 m d (drop (d - b) u)) (rw (many0-step v (i .run) t .0 .left) at room)
+
+      -- there is room for one element more
+      pub writing-fits : (k : ℕ) → word-count (one a) ≡ k → (to + 8 * k ≤ length new) × ((c < d) × (d ≤ b + length u))
+      writing-fits k z = let s = many0-step v (i .run) t in (omega (arith, writing-same, more, i .place, word-count-more w (i .seen) a, z), (s .1, s .0 .inside))
+
+      pub writing-more : (k : ℕ) → word-count (one a) ≡ k → (new' : List ℕ) → new' ≡ put to (catalogue-bytes layout-20 (one a)) new → Writing f m b u d at old new' (to + 8 * k)
+      writing-more k z new' e =
+          let l = word-count-more w (i .seen) a in
+          record {
+            seen = i .seen ++ (a ∷ []);
+            run = many0-step v (i .run) t .0;
+            place = omega (arith, i .place, l, z);
+            bytes = rw (catalogue-bytes-more w (i .seen) a) (
+                put-on at to (catalogue-bytes layout-20 (f (i .seen))) (catalogue-bytes layout-20 (one a)) old new new'
+                (omega (arith, i .place, catalogue-bytes-length (f (i .seen))))
+                (omega (arith, i .place, more, l, catalogue-bytes-length (one a)))
+                (i .bytes)
+                e
+                );
+            fits = omega (arith, i .place, more, l, z);
+          }
+
+    ended : (x : Lost) → many0 m b u ≡ manyEnd x (i .seen) c (drop (c - b) u) → Written f (many0 m b u) at to old new
+    ended (Fail p) e = rw e (record { place = i .place; bytes = i .bytes })
+    ended (Stop n p) e = absurd (rw e at room)
+
+    pub writing-ends : (v : Consumes m) {r : List ℕ} (x : Lost) → Rest b u c r → lostReply x ≡ m c r → Written f (many0 m b u) at to old new
+    writing-ends v x q e = ended x (many0-ends v x (i .run) q e)

@@ -1,0 +1,295 @@
+// The entries of enums and bitmaps.
+ghost use mathlib.Core.Path.{_≡_};
+ghost use mathlib.Core.List.{[], _∷_, map};
+ghost use Prim.Native.Nat.{_+_, _≤_, _<_};
+ghost use lib.ListN.{length};
+ghost use Rattle.lexing.specs.reply.{opt, many0};
+ghost use Rattle.lexing.specs.words.{tag};
+ghost use Rattle.items.specs.entries.{constant-annotation, blank-annotation, annotations-in-brackets, constant-annotations-list, constant-entry, blank-entry, constant-entries, constant-entries-list};
+ghost use Rattle.items.specs.records.{entry-record};
+ghost use Rattle.items.specs.layout.{layout-20, catalogue-bytes, text-limit};
+ghost use Rattle.items.specs.buffers.{put};
+ghost use Rattle.items.specs.answers.{Skips, EntryTo, entryLost, CountTo, Room, Written};
+ghost use Rattle.items.specs.inner.entries.{EndTo, parts-record};
+use crate::counts::Count;
+use crate::counts::count_end;
+use crate::maturity::api_maturity;
+use crate::optional::optional;
+use crate::writing::First;
+use crate::writing::first_word;
+use crate::writing::put_word;
+use lexing::answers::Lost;
+use lexing::answers::Step;
+use lexing::answers::step_lost;
+use lexing::blanks::whitespace0;
+use lexing::integers::Number;
+use lexing::integers::number_lost;
+use lexing::integers::positive_integer;
+use lexing::parts::rest_at;
+use lexing::strings::quoted_string;
+use lexing::words::parse_id;
+use lexing::words::tag;
+
+// An entry: its maturity, the offsets of its name and behind it, and its code.
+pub struct EntryParts {
+    pub maturity: u8,
+    pub name: usize,
+    pub end: usize,
+    pub code: u64,
+}
+
+pub enum EntryRead {
+    Read(EntryParts, usize),
+    NoEntry(Lost),
+}
+
+fn optional_comma(part: &[u8], base: usize) -> Step
+    requires { ⌜ base + length (now part) ≤ text-limit ⌝ }
+    ensures { λ r. ⌜ Skips (opt (tag 44)) r base (now (part .entry)) ⌝ }
+{
+    optional(tag(part, base, b','), base)
+}
+
+pub fn constant_annotation(part: &[u8], base: usize) -> Step
+    requires { ⌜ base + length (now part) ≤ text-limit ⌝ }
+    ensures { λ r. ⌜ Skips constant-annotation r base (now (part .entry)) ⌝ }
+{
+    let w1 = whitespace0(part, base);
+    let c1 = w1.next;
+    let key = parse_id(rest_at(part, base, c1), c1);
+    let Step::Next(c2) = key else {
+        return Step::Not(step_lost(key));
+    };
+    let w2 = whitespace0(rest_at(part, base, c2), c2);
+    let c3 = w2.next;
+    let equals = tag(rest_at(part, base, c3), c3, b'=');
+    let Step::Next(c4) = equals else {
+        return Step::Not(step_lost(equals));
+    };
+    let w3 = whitespace0(rest_at(part, base, c4), c4);
+    let c5 = w3.next;
+    let value = quoted_string(rest_at(part, base, c5), c5);
+    let Step::Next(c6) = value else {
+        return Step::Not(step_lost(value));
+    };
+    let w4 = whitespace0(rest_at(part, base, c6), c6);
+    let c7 = w4.next;
+    let comma = optional_comma(rest_at(part, base, c7), c7);
+    let Step::Next(c8) = comma else {
+        return Step::Not(step_lost(comma));
+    };
+    Step::Next(c8)
+}
+
+// An annotation with the blanks before it.
+fn blank_annotation(part: &[u8], base: usize) -> Step
+    requires { ⌜ base + length (now part) ≤ text-limit ⌝ }
+    ensures { λ r. ⌜ Skips blank-annotation r base (now (part .entry)) ⌝ }
+{
+    let w = whitespace0(part, base);
+    let c = w.next;
+    constant_annotation(rest_at(part, base, c), c)
+}
+
+fn annotations(part: &[u8], base: usize) -> Step
+    requires { ⌜ base + length (now part) ≤ text-limit ⌝ }
+    ensures { λ r. ⌜ Skips (many0 blank-annotation) r base (now (part .entry)) ⌝ }
+{
+    let mut c = base;
+    loop {
+        let r = blank_annotation(rest_at(part, base, c), c);
+        let Step::Next(n) = r else {
+            return optional(r, c);
+        };
+        c = n;
+    }
+}
+
+fn annotations_in_brackets(part: &[u8], base: usize) -> Step
+    requires { ⌜ base + length (now part) ≤ text-limit ⌝ }
+    ensures { λ r. ⌜ Skips annotations-in-brackets r base (now (part .entry)) ⌝ }
+{
+    let bracket = tag(part, base, b'[');
+    let Step::Next(c1) = bracket else {
+        return Step::Not(step_lost(bracket));
+    };
+    let run = annotations(rest_at(part, base, c1), c1);
+    let Step::Next(c2) = run else {
+        return Step::Not(step_lost(run));
+    };
+    let w = whitespace0(rest_at(part, base, c2), c2);
+    let c3 = w.next;
+    let close = tag(rest_at(part, base, c3), c3, b']');
+    let Step::Next(c4) = close else {
+        return Step::Not(step_lost(close));
+    };
+    Step::Next(c4)
+}
+
+// The annotations of an entry are read and dropped.
+pub fn constant_annotations_list(part: &[u8], base: usize) -> Step
+    requires { ⌜ base + length (now part) ≤ text-limit ⌝ }
+    ensures { λ r. ⌜ Skips constant-annotations-list r base (now (part .entry)) ⌝ }
+{
+    optional(annotations_in_brackets(part, base), base)
+}
+
+// What follows the code of an entry.
+fn entry_end(part: &[u8], base: usize) -> Step
+    requires { ⌜ base + length (now part) ≤ text-limit ⌝ }
+    ensures { λ r. ⌜ EndTo r base (now (part .entry)) ⌝ }
+{
+    let w1 = whitespace0(part, base);
+    let c1 = w1.next;
+    let notes = constant_annotations_list(rest_at(part, base, c1), c1);
+    let Step::Next(c2) = notes else {
+        return Step::Not(step_lost(notes));
+    };
+    let w2 = whitespace0(rest_at(part, base, c2), c2);
+    let c3 = w2.next;
+    let semicolon = tag(rest_at(part, base, c3), c3, b';');
+    let Step::Next(c4) = semicolon else {
+        return Step::Not(step_lost(semicolon));
+    };
+    Step::Next(c4)
+}
+
+pub fn constant_entry(part: &[u8], base: usize) -> EntryRead
+    requires { ⌜ base + length (now part) ≤ text-limit ⌝ }
+    ensures { λ r. ⌜ EntryTo constant-entry r base (now (part .entry)) ⌝ }
+{
+    let w1 = whitespace0(part, base);
+    let c1 = w1.next;
+    let m = api_maturity(rest_at(part, base, c1), c1);
+    let maturity = m.level;
+    let c2 = m.next;
+    let w2 = whitespace0(rest_at(part, base, c2), c2);
+    let c3 = w2.next;
+    let name = parse_id(rest_at(part, base, c3), c3);
+    let Step::Next(c4) = name else {
+        return EntryRead::NoEntry(step_lost(name));
+    };
+    let w3 = whitespace0(rest_at(part, base, c4), c4);
+    let c5 = w3.next;
+    let equals = tag(rest_at(part, base, c5), c5, b'=');
+    let Step::Next(c6) = equals else {
+        return EntryRead::NoEntry(step_lost(equals));
+    };
+    let w4 = whitespace0(rest_at(part, base, c6), c6);
+    let c7 = w4.next;
+    let value = positive_integer(rest_at(part, base, c7), c7);
+    let Number::Value(code, c8) = value else {
+        return EntryRead::NoEntry(number_lost(value));
+    };
+    let last = entry_end(rest_at(part, base, c8), c8);
+    let Step::Next(next) = last else {
+        return EntryRead::NoEntry(step_lost(last));
+    };
+    let e = EntryParts {
+        maturity,
+        name: c3,
+        end: c4,
+        code,
+    };
+    EntryRead::Read(e, next)
+}
+
+pub fn entry_lost(r: EntryRead) -> Lost
+    ensures { λ x. ⌜ x ≡ entryLost r ⌝ }
+{
+    match r {
+        EntryRead::Read(_, c) => Lost::Fail(c),
+        EntryRead::NoEntry(l) => l,
+    }
+}
+
+// An entry with the blanks before it.
+fn blank_entry(part: &[u8], base: usize) -> EntryRead
+    requires { ⌜ base + length (now part) ≤ text-limit ⌝ }
+    ensures { λ r. ⌜ EntryTo blank-entry r base (now (part .entry)) ⌝ }
+{
+    let w = whitespace0(part, base);
+    let c = w.next;
+    constant_entry(rest_at(part, base, c), c)
+}
+
+// The first pass over entries: each takes two words.
+pub fn count_entries(part: &[u8], base: usize) -> Count
+    requires { ⌜ base + length (now part) ≤ text-limit ⌝ }
+    ensures { λ r. ⌜ CountTo (map entry-record) constant-entries r base (now (part .entry)) ⌝ }
+{
+    let mut c = base;
+    let mut n = 0;
+    loop {
+        let r = blank_entry(rest_at(part, base, c), c);
+        let EntryRead::Read(_, next) = r else {
+            return count_end(entry_lost(r), n, c);
+        };
+        c = next;
+        n = n + 2;
+    }
+}
+
+// The entries between braces.
+pub fn constant_entries_list(part: &[u8], base: usize) -> Count
+    requires { ⌜ base + length (now part) ≤ text-limit ⌝ }
+    ensures { λ r. ⌜ CountTo (map entry-record) constant-entries-list r base (now (part .entry)) ⌝ }
+{
+    let brace = tag(part, base, b'{');
+    let Step::Next(c1) = brace else {
+        return Count::NoCount(step_lost(brace));
+    };
+    let run = count_entries(rest_at(part, base, c1), c1);
+    let Count::Words(n, c2) = run else {
+        return run;
+    };
+    let w = whitespace0(rest_at(part, base, c2), c2);
+    let c3 = w.next;
+    let close = tag(rest_at(part, base, c3), c3, b'}');
+    let Step::Next(c4) = close else {
+        return Count::NoCount(step_lost(close));
+    };
+    Count::Words(n, c4)
+}
+
+// The two words of an entry's record.
+fn put_entry(out: &mut [u8], at: usize, e: EntryParts)
+    requires { ⌜ at + 16 ≤ length (now out) ⌝ }
+    requires { ⌜ e .maturity < 4 ⌝ }
+    requires { ⌜ e .name ≤ e .end ⌝ }
+    requires { ⌜ e .end ≤ text-limit ⌝ }
+    ensures { λ _. ⌜ now (out .exit) ≡ put at (catalogue-bytes layout-20 (parts-record e ∷ [])) (now (out .entry)) ⌝ }
+{
+    let first = First {
+        kind: 4,
+        place: 0,
+        maturity: e.maturity,
+        documented: 0,
+        flags: 0,
+        name: e.name,
+        size: e.end - e.name,
+        privilege: 0,
+        further: 0,
+    };
+    put_word(out, at, first_word(first));
+    put_word(out, at + 8, e.code);
+}
+
+// The second pass over entries: their records, written from a place on; the answer is the place behind them.
+pub fn write_entries(part: &[u8], base: usize, out: &mut [u8], at: usize) -> usize
+    requires { ⌜ base + length (now part) ≤ text-limit ⌝ }
+    requires { ⌜ Room (map entry-record) (constant-entries base (now part)) at (length (now out)) ⌝ }
+    ensures { λ r. ⌜ Written (map entry-record) (constant-entries base (now (part .entry))) at r (now (out .entry)) (now (out .exit)) ⌝ }
+{
+    let mut c = base;
+    let mut to = at;
+    loop {
+        let r = blank_entry(rest_at(part, base, c), c);
+        let EntryRead::Read(e, next) = r else {
+            return to;
+        };
+        put_entry(out, to, e);
+        c = next;
+        to = to + 16;
+    }
+}
