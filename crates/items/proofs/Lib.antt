@@ -3,16 +3,12 @@
 -- the place moves by the shift of the base; the records of what was moved
 pub mod Shift
 pub mod RecordsMoved
-
 -- locality under appended text
 pub mod Locality
-
 -- which tries a first word leaves
 pub mod Tries
-
 -- parts that are dropped, parts between braces, and the words of records
 pub mod Dropping
 pub mod Braces
 pub mod RecordWords
-
 pub mod KnownAnswers
