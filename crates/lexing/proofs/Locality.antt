@@ -403,27 +403,24 @@ module _ {A : Type 0} {m : Parser A} {h : ℕ → Parser A} where
   pub inside-catch : LocalInside m → ((p : ℕ) → LocalInside (h p)) → LocalInside (catch m h)
   inside-catch t v = record { on-chain = chain-catch (t .on-chain) (λ p. v p .on-chain); local = λ j b u s c d. catch-ext m h b u s (t .local j b u s c d) (λ p. v p .local j b u s c d) }
 
--- a choice by a value
+-- a choice by a value has what both its ways have
+by-pick : {A : Type 0} {m k : Parser A} (P : Parser A → Type 0) (t : Bool) → P m → P k → P (pick t m k)
+unfolding pick
+by-pick P true a b = a
+by-pick P false a b = b
+
 module _ {A : Type 0} {m k : Parser A} where
   pub chain-pick : (t : Bool) → OnChain m → OnChain k → OnChain (pick t m k)
-  unfolding pick
-  chain-pick true a b = a
-  chain-pick false a b = b
+  chain-pick = by-pick OnChain
 
   pub keeps-pick : (t : Bool) → KeepsCut m → KeepsCut k → KeepsCut (pick t m k)
-  unfolding pick
-  keeps-pick true a b = a
-  keeps-pick false a b = b
+  keeps-pick = by-pick KeepsCut
 
   pub consumes-pick : (t : Bool) → Consumes m → Consumes k → Consumes (pick t m k)
-  unfolding pick
-  consumes-pick true a b = a
-  consumes-pick false a b = b
+  consumes-pick = by-pick Consumes
 
   pub local-pick : (t : Bool) → Local m → Local k → Local (pick t m k)
-  unfolding pick
-  local-pick true a b = a
-  local-pick false a b = b
+  local-pick = by-pick Local
 
 -- a loop over a state
 module _ {S : Type 0} (f : S → Parser S) (g : ℕ → S → S) where
