@@ -7,8 +7,12 @@ pub mod RecordsMoved
 pub mod Locality
 -- which tries a first word leaves
 pub mod Tries
--- parts that are dropped, parts between braces, and the words of records
+-- what an answer gives its caller
+pub mod Answers
+-- parts that are dropped, parts between braces, a head and then a list, words by their offsets, and the words of records
 pub mod Dropping
 pub mod Braces
+pub mod Headed
+pub mod WordBetween
 pub mod RecordWords
 pub mod KnownAnswers

@@ -18,11 +18,11 @@ use Rattle.lexing.proofs.Runs.{Cut}
 use Rattle.lexing.proofs.Chain.{goes, opens, closes, token, punctuation, next, To, here, openR, closeR, Clean, to-trans, to-suf, resume, inside-cut, Moves, MovesTo, ext}
 use Rattle.lexing.proofs.Locality.{OnChain, KeepsCut, Consumes, Local, LocalInside, Blind, inside-local, chain-ret, local-ret, keeps-ret, chain-bind, keeps-bind, local-bind, inside-bind, chain-then, keeps-then, local-then, inside-then, chain-opt, keeps-opt, local-opt, inside-opt, chain-or, keeps-or, local-or, inside-or, consumes-left, consumes-right, consumes-or, chain-many0, inside-many0, chain-local, chain-inside, consumes-then-left, consumes-then-right, blind-ret, local-last, chain-fail, keeps-fail, consumes-fail, local-fail, chain-position, keeps-position, local-position, chain-catch, keeps-catch, consumes-catch, local-catch, inside-catch, chain-pick, keeps-pick, consumes-pick, local-pick, inside-iter}
 use Rattle.lexing.proofs.TokenLocality.{parse-id-chain, parse-id-keeps, parse-id-consumes, parse-id-local, keyword-chain, keyword-keeps, keyword-consumes, keyword-local, any-keyword-chain, any-keyword-keeps, any-keyword-consumes, any-keyword-local, tag-consumes, tag-ext, tag-keeps, tag-local, integer-chain, integer-keeps, integer-consumes, integer-local, signed-chain, signed-keeps, signed-local, whitespace0-chain, whitespace0-keeps, whitespace0-local, whitespace1-chain, whitespace1-keeps, whitespace1-local, whitespace1-consumes, string-chain, string-keeps, string-local, set-flags-chain, set-flags-keeps, set-flags-local}
-use Rattle.items.specs.entries.{enclosed, where-missing, braces, api-maturity, constant-annotation, blank-annotation, annotations-in-brackets, constant-annotations-list, constant-entry, blank-entry, constant-entries, constant-entries-list, shared-before, choice-after-doc-maturity, parse-enum-after-doc-maturity, parse-bitmap-after-doc-maturity}
-use Rattle.items.specs.structs.{max-length, list-marker, parse-field, parse-struct-field, closed-field, fields-run, struct-fields, response-code, struct-kind, struct-type-of, parse-struct-after-doc-maturity}
+use Rattle.items.specs.entries.{enclosed, where-missing, braces, api-maturity, constant-annotation, blank-annotation, annotations-in-brackets, constant-annotations-list, constant-entry, blank-entry, constant-entries, constant-entries-list, shared-before, choice-head, choice-after-doc-maturity, parse-enum-after-doc-maturity, parse-bitmap-after-doc-maturity}
+use Rattle.items.specs.structs.{max-length, list-marker, parse-field, parse-struct-field, closed-field, fields-run, struct-fields, response-code, struct-kind, struct-type-of, struct-head, parse-struct-after-doc-maturity}
 use Rattle.items.specs.members.{access-privilege, event-priority, access-to, event-head, parse-event-after-doc-maturity, command-head, command-types, parse-command-after-doc-maturity, Access, access-entry, comma, separated-list0, access-list, Privileges, granted-by, default-privileges, listed, attribute-access, parse-attribute-after-doc-maturity}
 use Rattle.items.specs.clusters.{mapped, parse-revision, member-tries, parse-cluster-member, cluster-members, side, cluster-head, parse-cluster}
-use Rattle.items.specs.endpoints.{Tried, Deep, intercept, deep-step, deeper, deep-run, deep-place, deep-braces, device-head, device-type, value-tries, default-attribute-value, attribute-handling-type, attribute-instantiation, named-after, instance-tries, cluster-instantiation, part-tries, endpoint}
+use Rattle.items.specs.endpoints.{Tried, Deep, intercept, deep-step, deeper, deep-run, deep-place, deep-braces, name-behind, device-version, device-type, value-tries, default-attribute-value, attribute-handling-type, attribute-instantiation, named-after, instance-tries, cluster-instantiation, part-tries, endpoint}
 use Rattle.items.specs.items.{with-doc-maturity, item}
 
 -- tags: } and { change the depth, the others are a table
@@ -245,13 +245,25 @@ pub shared-before-local : Local shared-before
 unfolding shared-before
 shared-before-local = search (local-rules, keeps-rules) depth 8
 
+pub choice-head-keeps : (k : List ℕ) → KeepsCut (choice-head k)
+unfolding choice-head
+choice-head-keeps k = search (keeps-rules, shared-before-keeps) depth 24
+
+pub choice-head-local : (k : List ℕ) → Local (choice-head k)
+unfolding choice-head
+choice-head-local k = search (local-rules, keeps-rules, shared-before-local, shared-before-keeps) depth 24
+
+pub choice-head-consumes : (k : List ℕ) → Consumes (choice-head k)
+unfolding choice-head
+choice-head-consumes k = search (consumes-rules, chain-rules, shared-before-local, punct-local) depth 24
+
 pub choice-after-doc-maturity-local : (k : List ℕ) (d : Doc) (m : ℕ) → Local (choice-after-doc-maturity k d m)
 unfolding choice-after-doc-maturity
-choice-after-doc-maturity-local k d m = search (local-rules, keeps-rules, shared-before-local, shared-before-keeps, constant-entries-list-local, local-last, blind-ret) depth 24
+choice-after-doc-maturity-local k d m = search (local-rules, keeps-rules, choice-head-local, choice-head-keeps, constant-entries-list-local, local-last, blind-ret) depth 24
 
 pub choice-after-doc-maturity-consumes : (k : List ℕ) (d : Doc) (m : ℕ) → Consumes (choice-after-doc-maturity k d m)
 unfolding choice-after-doc-maturity
-choice-after-doc-maturity-consumes k d m = search (consumes-rules, chain-rules, shared-before-local, constant-entries-list-local, punct-local) depth 24
+choice-after-doc-maturity-consumes k d m = search (consumes-rules, chain-rules, choice-head-consumes, constant-entries-list-local) depth 24
 
 pub parse-enum-local : (d : Doc) (m : ℕ) → Local (parse-enum-after-doc-maturity d m)
 unfolding parse-enum-after-doc-maturity
@@ -324,13 +336,25 @@ unfolding struct-type-of struct-kind
 struct-type-of-local none = local-ret _
 struct-type-of-local (some w) = search (local-rules, keeps-rules, response-code-local) depth 12
 
+pub struct-head-keeps : KeepsCut struct-head
+unfolding struct-head
+struct-head-keeps = search (keeps-rules, struct-type-of-keeps) depth 24
+
+pub struct-head-local : Local struct-head
+unfolding struct-head
+struct-head-local = search (local-rules, keeps-rules, struct-type-of-local, struct-type-of-keeps) depth 24
+
+pub struct-head-consumes : Consumes struct-head
+unfolding struct-head
+struct-head-consumes = search (consumes-rules, chain-rules, struct-type-of-local) depth 24
+
 pub parse-struct-local : (d : Doc) (m : ℕ) → Local (parse-struct-after-doc-maturity d m)
 unfolding parse-struct-after-doc-maturity
-parse-struct-local d m = search (local-rules, keeps-rules, struct-type-of-local, struct-type-of-keeps, struct-fields-local, local-last, blind-ret) depth 24
+parse-struct-local d m = search (local-rules, keeps-rules, struct-head-local, struct-head-keeps, struct-fields-local, local-last, blind-ret) depth 24
 
 pub parse-struct-consumes : (d : Doc) (m : ℕ) → Consumes (parse-struct-after-doc-maturity d m)
 unfolding parse-struct-after-doc-maturity
-parse-struct-consumes d m = search (consumes-rules, chain-rules, struct-type-of-local, struct-fields-local) depth 24
+parse-struct-consumes d m = search (consumes-rules, chain-rules, struct-head-consumes, struct-fields-local) depth 24
 
 -- events, commands, attributes
 pub access-privilege-keeps : KeepsCut access-privilege
@@ -523,21 +547,29 @@ module _ {A : Type 0} {f : ℕ → Parser (Tried A)} (t : (q : ℕ) → LocalIns
   unfolding deep-braces
   deep-braces-local = mapped-local _ (enclosed-local deep-place deep-run-inside)
 
-pub device-head-local : Local device-head
-unfolding device-head
-device-head-local = search (local-rules, keeps-rules) depth 16
+pub name-behind-keeps : (k j : List ℕ) → KeepsCut (name-behind k j)
+unfolding name-behind
+name-behind-keeps k j = search (keeps-rules) depth 16
 
-pub device-head-consumes : Consumes device-head
-unfolding device-head
-device-head-consumes = search (consumes-rules, chain-rules, punct-local) depth 16
+pub name-behind-local : (k j : List ℕ) → Local (name-behind k j)
+unfolding name-behind
+name-behind-local k j = search (local-rules, keeps-rules) depth 16
+
+pub name-behind-consumes : (k j : List ℕ) → Consumes (name-behind k j)
+unfolding name-behind
+name-behind-consumes k j = search (consumes-rules, chain-rules, punct-local) depth 16
+
+pub device-version-local : Local device-version
+unfolding device-version
+device-version-local = search (local-rules, keeps-rules) depth 24
 
 pub device-type-inside : LocalInside device-type
 unfolding device-type
-device-type-inside = search (inside-rules, token-rules, device-head-local) depth 30
+device-type-inside = search (inside-rules, token-rules, name-behind-local, device-version-local) depth 20
 
 pub device-type-consumes : Consumes device-type
 unfolding device-type
-device-type-consumes = search (consumes-rules, chain-rules, chain-inside, punct-local, device-head-consumes) depth 30
+device-type-consumes = search (consumes-rules, chain-rules, chain-inside, punct-local, name-behind-consumes, device-version-local) depth 20
 
 pub value-tries-local : Local value-tries
 unfolding value-tries default-string
@@ -565,11 +597,11 @@ attribute-instantiation-consumes = search (consumes-rules, chain-rules, chain-in
 
 pub named-after-local : (k j : List ℕ) → Local (named-after k j)
 unfolding named-after
-named-after-local k j = search (local-rules, keeps-rules) depth 20
+named-after-local k j = search (local-rules, keeps-rules, name-behind-local, name-behind-keeps) depth 12
 
 pub named-after-consumes : (k j : List ℕ) → Consumes (named-after k j)
 unfolding named-after
-named-after-consumes k j = search (consumes-rules, chain-rules, punct-local) depth 20
+named-after-consumes k j = search (consumes-rules, chain-rules, punct-local, name-behind-consumes) depth 12
 
 pub instance-tries-inside : (q : ℕ) → LocalInside (instance-tries q)
 unfolding instance-tries
@@ -581,11 +613,11 @@ instance-tries-consumes q = search (intercept-consumes, mapped-consumes, attribu
 
 pub cluster-instantiation-inside : LocalInside cluster-instantiation
 unfolding cluster-instantiation
-cluster-instantiation-inside = search (inside-rules, token-rules, deep-braces-local, instance-tries-inside, instance-tries-consumes) depth 24
+cluster-instantiation-inside = search (inside-rules, token-rules, name-behind-local, deep-braces-local, instance-tries-inside, instance-tries-consumes) depth 24
 
 pub cluster-instantiation-consumes : Consumes cluster-instantiation
 unfolding cluster-instantiation
-cluster-instantiation-consumes = search (consumes-rules, chain-rules, chain-inside, punct-local, deep-braces-local, instance-tries-inside, instance-tries-consumes) depth 24
+cluster-instantiation-consumes = search (consumes-rules, chain-rules, chain-inside, punct-local, name-behind-consumes, deep-braces-local, instance-tries-inside, instance-tries-consumes) depth 24
 
 pub part-tries-inside : (q : ℕ) → LocalInside (part-tries q)
 unfolding part-tries

@@ -10,11 +10,11 @@ use Rattle.lexing.specs.integers.{positive-integer}
 use Rattle.lexing.specs.blanks.{Doc, whitespace0, whitespace1}
 use Rattle.lexing.specs.strings.{quoted-string, default-string}
 use Rattle.lexing.proofs.Shift.{shiftWord, shiftDoc, shiftOption, still, shiftSpan, Shifts, shift-ret, shift-bind, shift-then, shift-opt, shift-or, shift-many0, shift-fail, shift-stop, shift-position, shift-catch, shift-pick, shift-iter, shift-parse-id, shift-keyword, shift-any-keyword, shift-tag, shift-integer, shift-signed, shift-whitespace0, shift-whitespace1, shift-string, shift-set-flags}
-use Rattle.items.specs.entries.{present, enclosed, where-missing, braces, api-maturity, Annotation, constant-annotation, blank-annotation, annotations-in-brackets, constant-annotations-list, Entry, constant-entry, blank-entry, constant-entries, constant-entries-list, Choice, shared-before, choice-after-doc-maturity, parse-enum-after-doc-maturity, parse-bitmap-after-doc-maturity}
-use Rattle.items.specs.structs.{Field, max-length, list-marker, parse-field, StructField, parse-struct-field, closed-field, fields-run, struct-fields, Struct, response-code, struct-kind, struct-type-of, parse-struct-after-doc-maturity}
+use Rattle.items.specs.entries.{present, enclosed, where-missing, braces, api-maturity, Annotation, constant-annotation, blank-annotation, annotations-in-brackets, constant-annotations-list, Entry, constant-entry, blank-entry, constant-entries, constant-entries-list, Choice, shared-before, ChoiceHead, choice-head, choice-after-doc-maturity, parse-enum-after-doc-maturity, parse-bitmap-after-doc-maturity}
+use Rattle.items.specs.structs.{Field, max-length, list-marker, parse-field, StructField, parse-struct-field, closed-field, fields-run, struct-fields, Struct, response-code, struct-kind, struct-type-of, StructHead, struct-head, parse-struct-after-doc-maturity}
 use Rattle.items.specs.members.{access-privilege, event-priority, Event, access-to, event-head, parse-event-after-doc-maturity, Command, CommandHead, command-head, CommandTypes, command-types, parse-command-after-doc-maturity, Access, access-entry, comma, separated-list0, access-list, Privileges, granted-by, default-privileges, listed, attribute-access, Attribute, parse-attribute-after-doc-maturity}
 use Rattle.items.specs.clusters.{Member, revision, bitmap, enum, struct, attribute, command, event, mapped, parse-revision, member-tries, parse-cluster-member, cluster-members, Cluster, side, ClusterHead, cluster-head, parse-cluster}
-use Rattle.items.specs.endpoints.{Tried, Deep, intercept, deep-step, deeper, deep-run, deep-place, deep-braces, DeviceType, device-head, device-type, Default, number, signed-number, truth, text, value-tries, default-attribute-value, attribute-handling-type, AttributeInstance, attribute-instantiation, named-after, Instance, attribute-instance, command-instance, event-instance, instance-tries, Instantiation, cluster-instantiation, Part, device, binding, instantiation, part-tries, Endpoint, endpoint}
+use Rattle.items.specs.endpoints.{Tried, Deep, intercept, deep-step, deeper, deep-run, deep-place, deep-braces, DeviceType, name-behind, device-version, device-type, Default, number, signed-number, truth, text, value-tries, default-attribute-value, attribute-handling-type, AttributeInstance, attribute-instantiation, named-after, Instance, attribute-instance, command-instance, event-instance, instance-tries, Instantiation, cluster-instantiation, Part, device, binding, instantiation, part-tries, Endpoint, endpoint}
 use Rattle.items.specs.items.{Item, cluster-item, endpoint-item, enum-item, bitmap-item, struct-item, blank-item, with-doc-maturity, item}
 
 -- values, with their offsets moved
@@ -23,6 +23,9 @@ shiftAnnotation d a = record { key = shiftWord d (a .key); value = shiftSpan d (
 
 unfoldable pub shiftEntry : ℕ → Entry → Entry
 shiftEntry d e = record { maturity = e .maturity; name = shiftWord d (e .name); code = e .code }
+
+unfoldable pub shiftChoiceHead : ℕ → ChoiceHead → ChoiceHead
+shiftChoiceHead d h = record { head-shared = h .head-shared; head-name = shiftWord d (h .head-name); head-base = shiftWord d (h .head-base) }
 
 unfoldable pub shiftChoice : ℕ → Choice → Choice
 shiftChoice d c = record {
@@ -39,6 +42,9 @@ shiftField d f = record { data-type = shiftWord d (f .data-type); maximum = f .m
 
 unfoldable pub shiftStructField : ℕ → StructField → StructField
 shiftStructField d f = record { maturity = f .maturity; flags = f .flags; field = shiftField d (f .field) }
+
+unfoldable pub shiftStructHead : ℕ → StructHead → StructHead
+shiftStructHead d h = record { head-type = h .head-type; head-scoped = h .head-scoped; head-name = shiftWord d (h .head-name) }
 
 unfoldable pub shiftStruct : ℕ → Struct → Struct
 shiftStruct d s = record {
@@ -261,11 +267,14 @@ module _ (d : ℕ) where
   unfolding shared-before
   shift-shared-before = key _ ▸ λ w' w ew. ws1 ▹ shift-ret d _ _ ew
 
+  pub shift-choice-head : (k : List ℕ) → Shifts d (shiftChoiceHead d) (choice-head k) (choice-head k)
+  unfolding choice-head shiftChoiceHead
+  shift-choice-head k =
+      shift-opt d shift-shared-before ▸ λ s' s es. key k ▹ ws1 ▹ name ▸ λ n' n en. ws0 ▹ mark _ ▹ ws0 ▹ name ▸ λ t' t et. ws0 ▹ shift-ret d _ _ (rw (es, present-moved (shiftWord d) s, en, et))
+
   pub shift-choice-after-doc-maturity : (k : List ℕ) → ShiftsAfter d (shiftChoice d) (choice-after-doc-maturity k)
-  unfolding choice-after-doc-maturity shiftChoice
-  shift-choice-after-doc-maturity k c' c m' m ec em =
-      shift-opt d shift-shared-before ▸ λ s' s es. key k ▹ ws1 ▹ name ▸ λ n' n en. ws0 ▹ mark _ ▹ ws0 ▹ name ▸ λ t' t et. ws0 ▹
-      shift-constant-entries-list ▸ λ l' l el. shift-ret d _ _ (rw (es, present-moved (shiftWord d) s, ec, em, en, et, el))
+  unfolding choice-after-doc-maturity shiftChoice shiftChoiceHead
+  shift-choice-after-doc-maturity k c' c m' m ec em = shift-choice-head k ▸ λ h' h eh. shift-constant-entries-list ▸ λ l' l el. shift-ret d _ _ (rw (ec, em, eh, el))
 
   pub shift-parse-enum-after-doc-maturity : ShiftsAfter d (shiftChoice d) parse-enum-after-doc-maturity
   unfolding parse-enum-after-doc-maturity
@@ -319,11 +328,15 @@ module _ (d : ℕ) where
   shift-struct-type-of k' none e = rw e (shift-ret d _ _ refl)
   shift-struct-type-of k' (some w) e = rw (e, bytes-moved w) (shift-struct-kind (bytesOf w))
 
-  pub shift-parse-struct-after-doc-maturity : ShiftsAfter d (shiftStruct d) parse-struct-after-doc-maturity
-  unfolding parse-struct-after-doc-maturity shiftStruct still
-  shift-parse-struct-after-doc-maturity c' c m' m ec em =
+  pub shift-struct-head : Shifts d (shiftStructHead d) struct-head struct-head
+  unfolding struct-head shiftStructHead still
+  shift-struct-head =
       shift-opt d (shift-any-keyword d _) ▸ λ k' k ek. ws0 ▹ shift-set-flags d _ ▸ λ q' q eq. ws0 ▹ key _ ▹ ws1 ▹ name ▸ λ n' n en. ws0 ▹
-      shift-struct-type-of k' k ek ▸ λ t' t et. shift-struct-fields ▸ λ l' l el. shift-ret d _ _ (rw (ec, em, et, eq, en, el))
+      shift-struct-type-of k' k ek ▸ λ t' t et. shift-ret d _ _ (rw (et, eq, en))
+
+  pub shift-parse-struct-after-doc-maturity : ShiftsAfter d (shiftStruct d) parse-struct-after-doc-maturity
+  unfolding parse-struct-after-doc-maturity shiftStruct shiftStructHead
+  shift-parse-struct-after-doc-maturity c' c m' m ec em = shift-struct-head ▸ λ h' h eh. shift-struct-fields ▸ λ l' l el. shift-ret d _ _ (rw (ec, em, eh, el))
 
   -- events
   pub shift-access-privilege : Shifts d still access-privilege access-privilege
@@ -466,15 +479,18 @@ module _ (d : ℕ) where
   shift-deep-braces {A} {f} h v = shift-mapped _ _ (λ s. refl) (shift-enclosed deep-place (deep-place-moved f) (shift-deep-run f h v))
 
   -- endpoints
-  pub shift-device-head : Shifts d (shiftWord d) device-head device-head
-  unfolding device-head
-  shift-device-head = key _ ▹ ws1 ▹ key _ ▹ ws1 ▹ name
+  pub shift-name-behind : (k j : List ℕ) → Shifts d (shiftWord d) (name-behind k j) (name-behind k j)
+  unfolding name-behind
+  shift-name-behind k j = key k ▹ ws1 ▹ key j ▹ ws1 ▹ name
+
+  pub shift-device-version : Shifts d still device-version device-version
+  unfolding device-version still
+  shift-device-version = ws0 ▹ mark _ ▹ ws0 ▹ key _ ▹ ws0 ▹ int ▸ λ v' v ev. ws0 ▹ mark _ ▹ shift-ret d _ _ ev
 
   pub shift-device-type : Shifts d (shiftDeviceType d) device-type device-type
   unfolding device-type shiftDeviceType still
   shift-device-type =
-      shift-device-head ▸ λ n' n en. ws0 ▹ mark _ ▹ ws0 ▹ int ▸ λ c' c ec. ws0 ▹ mark _ ▹ ws0 ▹ key _ ▹ ws0 ▹ int ▸ λ v' v ev. ws0 ▹ mark _ ▹
-      shift-ret d _ _ (rw (en, ec, ev))
+      shift-name-behind _ _ ▸ λ n' n en. ws0 ▹ mark _ ▹ ws0 ▹ int ▸ λ c' c ec. shift-device-version ▸ λ v' v ev. shift-ret d _ _ (rw (en, ec, ev))
 
   pub shift-value-tries : Shifts d (shiftDefault d) value-tries value-tries
   unfolding value-tries default-string shiftDefault still
@@ -501,7 +517,7 @@ module _ (d : ℕ) where
 
   pub shift-named-after : (k j : List ℕ) → Shifts d (shiftWord d) (named-after k j) (named-after k j)
   unfolding named-after
-  shift-named-after k j = key k ▹ ws1 ▹ key j ▹ ws1 ▹ name ▸ λ n' n en. ws0 ▹ mark _ ▹ shift-ret d _ _ en
+  shift-named-after k j = shift-name-behind k j ▸ λ n' n en. ws0 ▹ mark _ ▹ shift-ret d _ _ en
 
   pub shift-instance-tries : ShiftsTries d (shiftInstance d) instance-tries instance-tries
   unfolding instance-tries shiftInstance
@@ -513,7 +529,7 @@ module _ (d : ℕ) where
 
   pub shift-cluster-instantiation : Shifts d (shiftInstantiation d) cluster-instantiation cluster-instantiation
   unfolding cluster-instantiation shiftInstantiation
-  shift-cluster-instantiation = ws0 ▹ key _ ▹ ws1 ▹ key _ ▹ ws1 ▹ name ▸ λ n' n en. ws0 ▹ shift-deep-braces instance-tries shift-instance-tries ▸ λ l' l el. shift-ret d _ _ (rw (en, el))
+  shift-cluster-instantiation = ws0 ▹ shift-name-behind _ _ ▸ λ n' n en. ws0 ▹ shift-deep-braces instance-tries shift-instance-tries ▸ λ l' l el. shift-ret d _ _ (rw (en, el))
 
   pub shift-part-tries : ShiftsTries d (shiftPart d) part-tries part-tries
   unfolding part-tries shiftPart

@@ -11,8 +11,8 @@ use Rattle.lexing.specs.words.{Word, keyword, any-keyword}
 use Rattle.lexing.specs.blanks.{Doc, whitespace0}
 use Rattle.lexing.specs.word_sets.{same-bytes, set-of, set-flags}
 use Rattle.lexing.proofs.FirstWord.{Starts, other-keyword, Lacks, other-keywords, no-blank, no-set}
-use Rattle.items.specs.entries.{shared-before, choice-after-doc-maturity}
-use Rattle.items.specs.structs.{parse-struct-after-doc-maturity}
+use Rattle.items.specs.entries.{shared-before, choice-head, choice-after-doc-maturity}
+use Rattle.items.specs.structs.{struct-head, parse-struct-after-doc-maturity}
 use Rattle.items.specs.members.{event-priority, event-head, parse-event-after-doc-maturity, command-head, parse-command-after-doc-maturity, parse-attribute-after-doc-maturity}
 use Rattle.items.specs.clusters.{mapped, parse-revision}
 
@@ -52,14 +52,14 @@ module _ {k u : List ℕ} (s : Starts k u) (b : ℕ) where
 
   module _ (d : Doc) (m : ℕ) where
     pub choice-elsewhere : (j : List ℕ) → same-bytes k (ascii "shared") ≡ false → same-bytes k j ≡ false → choice-after-doc-maturity j d m b u ≡ fail b
-    unfolding choice-after-doc-maturity shared-before
-    choice-elsewhere j e f = bind-ok _ _ (opt-none _ (bind-fail _ _ (other-keyword s b (ascii "shared") e))) ∙ then-fail _ _ (other-keyword s b j f)
+    unfolding choice-after-doc-maturity choice-head shared-before
+    choice-elsewhere j e f = bind-fail _ _ (bind-ok _ _ (opt-none _ (bind-fail _ _ (other-keyword s b (ascii "shared") e))) ∙ then-fail _ _ (other-keyword s b j f))
 
     pub struct-elsewhere : Lacks s b (ascii "request" ∷ ascii "response" ∷ ascii "shared" ∷ []) → Lacks s b (set-of 1) → same-bytes k (ascii "struct") ≡ false → parse-struct-after-doc-maturity d m b u ≡ fail b
-    unfolding parse-struct-after-doc-maturity
+    unfolding parse-struct-after-doc-maturity struct-head
     struct-elsewhere l n e =
-        bind-ok _ _ (opt-none _ (other-keywords s b _ l))
-        ∙ (then-ok _ _ (no-blank s b) ∙ (bind-ok _ _ (no-set s b 1 n) ∙ (then-ok _ _ (no-blank s b) ∙ then-fail _ _ (other-keyword s b (ascii "struct") e))))
+        bind-fail _ _ (bind-ok _ _ (opt-none _ (other-keywords s b _ l))
+        ∙ (then-ok _ _ (no-blank s b) ∙ (bind-ok _ _ (no-set s b 1 n) ∙ (then-ok _ _ (no-blank s b) ∙ then-fail _ _ (other-keyword s b (ascii "struct") e)))))
 
     pub attribute-elsewhere : Lacks s b (set-of 4) → same-bytes k (ascii "attribute") ≡ false → parse-attribute-after-doc-maturity d m b u ≡ fail b
     unfolding parse-attribute-after-doc-maturity

@@ -1,16 +1,24 @@
--- What the answers of the code say, as replies of the definitions.
+-- What the answers of the code say, as replies of the definitions: what the modules share, and each module's own apart.
+pub mod entries
+pub mod structs
+pub mod choices
+pub mod members
+pub mod endpoints
 use Prim.Native.Nat.{ℕ, _+_, _-_, _*_, _≤_, _<_}
 use mathlib.Core.Path.{_≡_}
+use mathlib.Core.Bool.{Bool, true, false}
+use mathlib.Core.Option.{Option, none, some}
 use mathlib.Core.List.{List, [], _∷_}
 use lib.ListN.{length, take, drop}
 use Rattle.lexing.specs.reply.{Parser, Reply, ok, fail, stop}
-use Rattle.lexing.specs.words.{word}
+use Rattle.lexing.specs.words.{Word, word}
+use Rattle.lexing.specs.blanks.{Doc}
 use Rattle.lexing.specs.answers.{Answer, got, lost, reply, stepAnswer}
 use Rattle.lexing.specs.declared.answers.Lost.{Lost}
 use Rattle.lexing.specs.declared.answers.Lost.the-variants.{Fail, Stop}
 use Rattle.lexing.specs.declared.answers.Step.{Step}
 use Rattle.lexing.specs.declared.answers.Step.the-variants.{Next, Not}
-use Rattle.items.specs.entries.{api-maturity, Entry}
+use Rattle.items.specs.entries.{api-maturity}
 use Rattle.items.specs.clusters.{mapped}
 use Rattle.items.specs.records.{Record, bits}
 use Rattle.items.specs.layout.{layout-20, catalogue-bytes, word-count, packed}
@@ -19,9 +27,26 @@ use Rattle.items.specs.declared.counts.Count.{Count}
 use Rattle.items.specs.declared.counts.Count.the-variants.{Words, NoCount}
 use Rattle.items.specs.declared.maturity.Maturity.{Maturity}
 use Rattle.items.specs.declared.writing.First.{First}
-use Rattle.items.specs.declared.entries.EntryParts.{EntryParts}
-use Rattle.items.specs.declared.entries.EntryRead.{EntryRead}
-use Rattle.items.specs.declared.entries.EntryRead.the-variants.{Read, NoEntry}
+
+-- a value that may be absent
+abbrev pub optionOf : {A : Type 0} → Bool → A → Option A
+optionOf true a = some a
+optionOf false a = none
+
+-- the word between two offsets of a part that starts at b
+abbrev pub wordBetween : ℕ → List ℕ → ℕ → ℕ → Word
+wordBetween b u o e = word o (take (e - o) (drop (o - b) u))
+
+-- an answer t that is a parser's: f is what it says, W are bounds that its caller needs
+pub record ReadTo {T A : Type 0} (f : ℕ → List ℕ → T → Answer A) (W : ℕ → T → Type 0) (m : Parser A) (t : T) (b : ℕ) (u : List ℕ) : Type 0 where
+  pub reads : reply (f b u t) b u ≡ m b u
+  pub within : W b t
+
+-- a name from n to e, in what was read from b to c
+pub record NameIn (b n e c : ℕ) : Type 0 where
+  pub from : b ≤ n
+  pub up : n ≤ e
+  pub inside : e ≤ c
 
 -- a maturity and where it ends
 pub record MaturityTo (r : Maturity) (b : ℕ) (u : List ℕ) : Type 0 where
@@ -40,6 +65,11 @@ abbrev pub optionalStep : Step → ℕ → Step
 optionalStep (Next c) b = Next c
 optionalStep (Not (Fail p)) b = Next b
 optionalStep (Not (Stop n p)) b = Not (Stop n p)
+
+-- whether an optional part is there
+abbrev pub isThere : Step → Bool
+isThere (Next c) = true
+isThere (Not l) = false
 
 -- a declaration by the words that its records take
 unfoldable pub counted : {A : Type 0} → (A → List Record) → Parser A → Parser ℕ
@@ -61,6 +91,17 @@ Few (NoCount l) b = Unit {0}
 pub record CountTo {A : Type 0} (records : A → List Record) (m : Parser A) (r : Count) (b : ℕ) (u : List ℕ) : Type 0 where
   pub reads : reply (countAnswer r) b u ≡ counted records m b u
   pub few : Few r b
+
+-- what a declaration's own text does not say: its record's kind and place, and the doc comment and the maturity before it
+pub record Front : Type 0 where
+  pub kind : ℕ
+  pub place : ℕ
+  pub doc : Doc
+  pub maturity : ℕ
+
+-- a count that is the same whatever stands before the declaration
+pub record CountsTo {I A : Type 0} (records : I → A → List Record) (m : I → Parser A) (r : Count) (b : ℕ) (u : List ℕ) : Type 0 where
+  pub counts : (i : I) → CountTo (records i) (m i) r b u
 
 -- the count of a repetition, after n words at c, by why its last try was lost
 abbrev pub countEnd : Lost → ℕ → ℕ → Count
@@ -112,32 +153,3 @@ pub record Fits (f : First) : Type 0 where
   pub size-fits : f .size < 1048576
   pub privilege-fits : f .privilege < 4
   pub further-fits : f .further < 4
-
--- Entries.
-
--- the entry that offsets stand for, in a part that starts at b
-abbrev pub entryAt : ℕ → List ℕ → EntryParts → Entry
-entryAt b u e = record { maturity = e .maturity; name = word (e .name) (take (e .end - e .name) (drop (e .name - b) u)); code = e .code }
-
-abbrev pub entryAnswer : ℕ → List ℕ → EntryRead → Answer Entry
-entryAnswer b u (Read e c) = got (entryAt b u e) c
-entryAnswer b u (NoEntry l) = lost l
-
-abbrev pub entryLost : EntryRead → Lost
-entryLost (Read e c) = Fail c
-entryLost (NoEntry l) = l
-
--- an entry that was read from b to c names bytes there
-pub record EntryBounds (b : ℕ) (e : EntryParts) (c : ℕ) : Type 0 where
-  pub from : b ≤ e .name
-  pub up : e .name ≤ e .end
-  pub inside : e .end ≤ c
-  pub small : e .maturity < 4
-
-abbrev pub EntryWithin : ℕ → EntryRead → Type 0
-EntryWithin b (Read e c) = EntryBounds b e c
-EntryWithin b (NoEntry l) = Unit {0}
-
-pub record EntryTo (m : Parser Entry) (r : EntryRead) (b : ℕ) (u : List ℕ) : Type 0 where
-  pub reads : reply (entryAnswer b u r) b u ≡ m b u
-  pub within : EntryWithin b r

@@ -45,27 +45,24 @@ deep-place s p = max p (s .deepest)
 unfoldable pub deep-braces : {A : Type 0} → (ℕ → Parser (Tried A)) → Parser (List A)
 deep-braces f = mapped (enclosed (deep-run f) deep-place) (λ s. s .read)
 
+-- two keywords and the name behind them
+unfoldable pub name-behind : List ℕ → List ℕ → Parser Word
+name-behind k j = do
+  keyword k
+  whitespace1
+  keyword j
+  whitespace1
+  parse-id
+
 -- `device_type`, line 1066
 pub record DeviceType : Type 0 where
   pub name : Word
   pub code : ℕ
   pub version : ℕ
 
-unfoldable pub device-head : Parser Word
-device-head = do
-  keyword (ascii "device")
-  whitespace1
-  keyword (ascii "type")
-  whitespace1
-  parse-id
-
-unfoldable pub device-type : Parser DeviceType
-device-type = do
-  n ← device-head
-  whitespace0
-  tag (byte "=")
-  whitespace0
-  c ← positive-integer
+-- from the comma on
+unfoldable pub device-version : Parser ℕ
+device-version = do
   whitespace0
   tag (byte ",")
   whitespace0
@@ -74,6 +71,16 @@ device-type = do
   v ← positive-integer
   whitespace0
   tag (byte ";")
+  ret v
+
+unfoldable pub device-type : Parser DeviceType
+device-type = do
+  n ← name-behind (ascii "device") (ascii "type")
+  whitespace0
+  tag (byte "=")
+  whitespace0
+  c ← positive-integer
+  v ← device-version
   ret (record { name = n; code = c; version = v })
 
 -- `default_attribute_value`, line 1101
@@ -124,11 +131,7 @@ attribute-instantiation = do
 -- two keywords, a name and a semicolon
 unfoldable pub named-after : List ℕ → List ℕ → Parser Word
 named-after k j = do
-  keyword k
-  whitespace1
-  keyword j
-  whitespace1
-  n ← parse-id
+  n ← name-behind k j
   whitespace0
   tag (byte ";")
   ret n
@@ -152,11 +155,7 @@ pub record Instantiation : Type 0 where
 unfoldable pub cluster-instantiation : Parser Instantiation
 cluster-instantiation = do
   whitespace0
-  keyword (ascii "server")
-  whitespace1
-  keyword (ascii "cluster")
-  whitespace1
-  n ← parse-id
+  n ← name-behind (ascii "server") (ascii "cluster")
   whitespace0
   l ← deep-braces instance-tries
   ret (record { name = n; instances = l })

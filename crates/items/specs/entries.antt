@@ -119,9 +119,14 @@ shared-before = do
   whitespace1
   ret w
 
--- `parse_enum_after_doc_maturity`, line 517, and `parse_bitmap_after_doc_maturity`, line 555: one but for the keyword
-unfoldable pub choice-after-doc-maturity : List ℕ → Doc → ℕ → Parser Choice
-choice-after-doc-maturity k d m = do
+-- an enum or a bitmap up to its entries
+pub record ChoiceHead : Type 0 where
+  pub head-shared : Bool
+  pub head-name : Word
+  pub head-base : Word
+
+unfoldable pub choice-head : List ℕ → Parser ChoiceHead
+choice-head k = do
   s ← opt shared-before
   keyword k
   whitespace1
@@ -131,8 +136,14 @@ choice-after-doc-maturity k d m = do
   whitespace0
   t ← parse-id
   whitespace0
+  ret (record { head-shared = present s; head-name = n; head-base = t })
+
+-- `parse_enum_after_doc_maturity`, line 517, and `parse_bitmap_after_doc_maturity`, line 555: one but for the keyword
+unfoldable pub choice-after-doc-maturity : List ℕ → Doc → ℕ → Parser Choice
+choice-after-doc-maturity k d m = do
+  h ← choice-head k
   es ← constant-entries-list
-  ret (record { shared = present s; doc = d; maturity = m; name = n; base = t; entries = es })
+  ret (record { shared = h .head-shared; doc = d; maturity = m; name = h .head-name; base = h .head-base; entries = es })
 
 unfoldable pub parse-enum-after-doc-maturity : Doc → ℕ → Parser Choice
 parse-enum-after-doc-maturity = choice-after-doc-maturity (ascii "enum")

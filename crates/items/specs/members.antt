@@ -100,12 +100,15 @@ pub record CommandHead : Type 0 where
   pub privilege : ℕ
   pub id : Word
 
+abbrev pub invoke-access : Parser ℕ
+invoke-access = whitespace0 >> access-to (ascii "invoke")
+
 unfoldable pub command-head : Parser CommandHead
 command-head = do
   q ← set-flags 3
   whitespace0
   keyword (ascii "command")
-  a ← opt (whitespace0 >> access-to (ascii "invoke"))
+  a ← opt invoke-access
   whitespace0
   n ← parse-id
   ret (record { qualities = q; privilege = or-else 1 a; id = n })

@@ -113,9 +113,14 @@ unfoldable pub struct-type-of : Option Word → Parser StructType
 struct-type-of none = ret regular
 struct-type-of (some w) = struct-kind (bytesOf w)
 
--- `parse_struct_after_doc_maturity`, line 691
-unfoldable pub parse-struct-after-doc-maturity : Doc → ℕ → Parser Struct
-parse-struct-after-doc-maturity d m = do
+-- `parse_struct_after_doc_maturity`, line 691: up to the fields
+pub record StructHead : Type 0 where
+  pub head-type : StructType
+  pub head-scoped : ℕ
+  pub head-name : Word
+
+unfoldable pub struct-head : Parser StructHead
+struct-head = do
   k ← opt (any-keyword (ascii "request" ∷ ascii "response" ∷ ascii "shared" ∷ []))
   whitespace0
   q ← set-flags 1
@@ -125,5 +130,10 @@ parse-struct-after-doc-maturity d m = do
   n ← parse-id
   whitespace0
   t ← struct-type-of k
+  ret (record { head-type = t; head-scoped = q; head-name = n })
+
+unfoldable pub parse-struct-after-doc-maturity : Doc → ℕ → Parser Struct
+parse-struct-after-doc-maturity d m = do
+  h ← struct-head
   fs ← struct-fields
-  ret (record { doc = d; maturity = m; struct-type = t; fabric-scoped = q; name = n; fields = fs })
+  ret (record { doc = d; maturity = m; struct-type = h .head-type; fabric-scoped = h .head-scoped; name = h .head-name; fields = fs })

@@ -9,7 +9,8 @@ ghost use Rattle.items.specs.entries.{constant-annotation, blank-annotat
 ghost use Rattle.items.specs.records.{entry-record};
 ghost use Rattle.items.specs.layout.{layout-20, catalogue-bytes, text-limit};
 ghost use Rattle.items.specs.buffers.{put};
-ghost use Rattle.items.specs.answers.{Skips, EntryTo, entryLost, CountTo, Room, Written};
+ghost use Rattle.items.specs.answers.{Skips, CountTo, Room, Written};
+ghost use Rattle.items.specs.answers.entries.{EntryTo, entryLost};
 ghost use Rattle.items.specs.inner.entries.{EndTo, parts-record};
 use crate::counts::Count;
 use crate::counts::count_end;

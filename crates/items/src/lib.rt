@@ -1,6 +1,10 @@
 // Declarations of Matter IDL: each module reads one kind of declaration, counts its records and writes them.
+pub mod choices;
 pub mod counts;
+pub mod endpoints;
 pub mod entries;
 pub mod maturity;
+pub mod members;
 pub mod optional;
+pub mod structs;
 pub mod writing;

@@ -12,7 +12,7 @@ use Rattle.lexing.specs.integers.{Signed, signed, positive-integer, sign
 use Rattle.lexing.specs.blanks.{Doc, whitespace0, whitespace1}
 use Rattle.lexing.specs.strings.{Escape, string-with}
 use Rattle.lexing.specs.word_sets.{set-flags}
-use Rattle.lexing.specs.answers.{lostReply, reply, stepAnswer, Rest, docOf, lostOf, numberLost, signedLost, wordAt, spanTo, tagReply, wordReply, numberReply, signedReply, gapReply, stringReply, BlankTo, WordSetTo}
+use Rattle.lexing.specs.answers.{lostReply, reply, stepAnswer, Rest, docOf, lostOf, numberLost, signedLost, gapLost, wordAt, spanTo, tagReply, wordReply, numberReply, signedReply, gapReply, stringReply, BlankTo, WordSetTo}
 use Rattle.lexing.specs.declared.answers.Lost.{Lost}
 use Rattle.lexing.specs.declared.answers.Lost.the-variants.{Fail, Stop}
 use Rattle.lexing.specs.declared.answers.Step.{Step}
@@ -168,8 +168,10 @@ signed-lost {a} {l} {l'} e d n r X h =
     let z : l' ≡ l = e ∙ ap signedLost d in
     ap (λ (x : Lost). lostReply x) z ∙ subst (λ (x : SignedNumber). signedReply x n r ≡ X) d h
 
-pub gap-lost : {a : Gap} {l : Lost} → a ≡ NoGap l → (n : ℕ) (r : List ℕ) (X : Reply Doc) → gapReply a n r ≡ X → lostReply l ≡ X
-gap-lost {a} {l} d n r X h = subst (λ (x : Gap). gapReply x n r ≡ X) d h
+pub gap-lost : {a : Gap} {l l' : Lost} → l' ≡ gapLost a → a ≡ NoGap l → (n : ℕ) (r : List ℕ) (X : Reply Doc) → gapReply a n r ≡ X → lostReply l' ≡ X
+gap-lost {a} {l} {l'} e d n r X h =
+    let z : l' ≡ l = e ∙ ap gapLost d in
+    ap (λ (x : Lost). lostReply x) z ∙ subst (λ (x : Gap). gapReply x n r ≡ X) d h
 
 -- the end of a sequence
 pub done : {A : Type 0} (a : A) (b c : ℕ) (u : List ℕ) → ok a c (drop (c - b) u) ≡ ret a c (drop (c - b) u)

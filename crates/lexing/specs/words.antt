@@ -33,6 +33,10 @@ isKeyword [] (y ∷ k) = false
 isKeyword (x ∷ w) [] = false
 isKeyword (x ∷ w) (y ∷ k) = eqb (lower x) y && isKeyword w k
 
+-- a word in lower case, without a byte from A to Z, is a keyword of itself
+abbrev pub isLower : List ℕ → Bool
+isLower w = isKeyword w w
+
 -- `keyword`, parser.rs line 173: a whole word; another word fails at its first byte
 unfoldable pub keyword : List ℕ → Parser Word
 keyword k = do

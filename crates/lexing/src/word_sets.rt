@@ -4,10 +4,10 @@ ghost use Prim.Native.Nat.{_+_, _^_, _≤_, _<_};
 ghost use mathlib.Core.List.{[]};
 ghost use lib.ListN.{length, take, getD};
 ghost use Rattle.lexing.specs.integers.{u64-max};
-ghost use Rattle.lexing.specs.words.{keyword};
+ghost use Rattle.lexing.specs.words.{isLower, keyword};
 ghost use Rattle.lexing.specs.word_sets.{set-of};
 ghost use Rattle.lexing.specs.answers.{wordReply, WordSetTo};
-ghost use Rattle.lexing.specs.inner.word_sets.{set-gap, startReply, isLower, with-flag};
+ghost use Rattle.lexing.specs.inner.word_sets.{set-gap, startReply, with-flag};
 use crate::answers::Step;
 use crate::blanks::whitespace0;
 use crate::bytes::lower_of;
@@ -115,7 +115,7 @@ fn set_keyword(part: &[u8], base: usize, set: u8, k: usize) -> Step
 }
 
 // Whether the first n bytes are in lower case.
-fn is_lower(part: &[u8], n: usize) -> bool
+pub fn is_lower(part: &[u8], n: usize) -> bool
     requires { ⌜ n ≤ length (now part) ⌝ }
     ensures { λ r. ⌜ r ≡ isLower (take n (now (part .entry))) ⌝ }
 {

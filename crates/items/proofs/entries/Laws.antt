@@ -4,9 +4,9 @@ use mathlib.Core.List.{List, [], _∷_, map}
 use Prim.Native.Nat.{ℕ, _+_, _-_, _*_, _≤_, _<_}
 use native.Mathlib.Omega.{arith}
 use lib.ListN.{length, drop, take, length-drop}
-use lib.Seq.{drop-drop, length-take-le}
+use lib.Seq.{length-take-le}
 use Rattle.lexing.specs.reply.{Reply, ok, Parser, _>>_, opt, many0}
-use Rattle.lexing.specs.words.{word, tag}
+use Rattle.lexing.specs.words.{Word, word, tag}
 use Rattle.lexing.specs.blanks.{Doc, whitespace0}
 use Rattle.lexing.specs.strings.{span}
 use Rattle.lexing.specs.answers.{Rest, lostReply, lostOf, reply, stepAnswer}
@@ -21,12 +21,15 @@ use Rattle.items.specs.entries.{Annotation, constant-annotation, blank-a
 use Rattle.items.specs.records.{Record, at, value, entry-record, plain, each, word-extent}
 use Rattle.items.specs.layout.{packed, width, from-top, offset, size, further-word, word-count, catalogue-words, catalogue-bytes, record-words, words-bytes, big-endian, layout-20}
 use Rattle.items.specs.buffers.{put}
-use Rattle.items.specs.answers.{first-of, Room, Written, entryAt, entryAnswer, entryLost, EntryBounds, EntryWithin, EntryTo}
+use Rattle.items.specs.answers.{first-of, Room, Written}
+use Rattle.items.specs.answers.entries.{entryAt, entryAnswer, entryLost, EntryBounds, EntryWithin, EntryTo}
 use Rattle.items.specs.inner.entries.{entry-end, EndTo, parts-record}
 use Rattle.items.specs.declared.entries.EntryParts.{EntryParts}
 use Rattle.items.specs.declared.entries.EntryRead.{EntryRead}
 use Rattle.items.specs.declared.entries.EntryRead.the-variants.{Read, NoEntry}
 use Rattle.items.proofs.Locality.{punct-local, constant-annotation-local, constant-annotation-consumes, constant-annotations-list-inside, constant-entry-inside, blank-entry-inside, blank-entry-consumes}
+use Rattle.items.proofs.Answers.{read-within, read-took, read-lost}
+use Rattle.items.proofs.WordBetween.{word-moved}
 use Rattle.items.proofs.RecordWords.{map-elementwise}
 use Rattle.items.proofs.counts.Laws.{Counting, counting-more}
 use Rattle.items.proofs.writing.Laws.{put-one, put-more, Writing, writing-fits, writing-more, writing-ends}
@@ -80,32 +83,20 @@ end-up {n} {r} {a} {c} d h =
     end-took e (rest-self n r) d h .up
 
 -- entries
-pub entry-is : (m : Parser Entry) (b : ℕ) (u : List ℕ) (e : EntryParts) (c : ℕ) → ok (entryAt b u e) c (drop (c - b) u) ≡ m b u → EntryBounds b e c → EntryTo m (Read e c) b u
-entry-is m b u e c h w = record { reads = h; within = w }
-
-pub entry-not : (m : Parser Entry) (b : ℕ) (u : List ℕ) (l : Lost) → lostReply l ≡ m b u → EntryTo m (NoEntry l) b u
-entry-not m b u l h = record { reads = h; within = tt }
-
 -- the same bytes, seen from the part's start
 entry-moved : (b n : ℕ) (u r : List ℕ) (e : EntryParts) → Rest b u n r → n ≤ e .name → entryAt n r e ≡ entryAt b u e
-entry-moved b n u r e q h =
-    let z : n - b + (e .name - n) ≡ e .name - b = omega (arith, q .from) in
-    ap (λ (v : List ℕ). record { maturity = e .maturity; name = word (e .name) (take (e .end - e .name) v); code = e .code })
-    (ap (drop (e .name - n)) (q .same) ∙ (drop-drop (e .name - n) (n - b) u ∙ ap (λ (i : ℕ). drop i u) z))
+entry-moved b n u r e q h = ap (λ (w : Word). record { maturity = e .maturity; name = w; code = e .code }) (word-moved b n u r (e .name) (e .end) q h)
 
 pub bounds-of : {m : Parser Entry} {n : ℕ} {r : List ℕ} {a : EntryRead} (e : EntryParts) (c : ℕ) → EntryTo m a n r → a ≡ Read e c → EntryBounds n e c
-bounds-of {m} {n} {r} {a} e c h d = subst (λ (x : EntryRead). EntryWithin n x) d (h .within)
+bounds-of e c h d = read-within h d
 
 module _ {m : Parser Entry} (w : Onward m) {b n : ℕ} {u r : List ℕ} {a : EntryRead} (q : Rest b u n r) (h : EntryTo m a n r) where
   pub entry-took : (e : EntryParts) (c : ℕ) → a ≡ Read e c → Took m b u n (entryAt b u e) c
   entry-took e c d =
-      let k : ok (entryAt n r e) c (drop (c - n) r) ≡ m n r = subst (λ (x : EntryRead). reply (entryAnswer n r x) n r ≡ m n r) d (h .reads) in
-      rw (← entry-moved b n u r e q (bounds-of e c h d .from)) (took w q k)
+      rw (← entry-moved b n u r e q (bounds-of e c h d .from)) (read-took h d w q refl)
 
   pub entry-lost : (l l' : Lost) → l' ≡ entryLost a → a ≡ NoEntry l → lostReply l' ≡ m n r
-  entry-lost l l' e d =
-      let z : l' ≡ l = e ∙ ap entryLost d in
-      ap (λ (x : Lost). lostReply x) z ∙ subst (λ (x : EntryRead). reply (entryAnswer n r x) n r ≡ m n r) d (h .reads)
+  entry-lost l l' e d = read-lost h d entryLost e refl
 
 pub blank-entry-onward : Onward blank-entry
 blank-entry-onward = walks (blank-entry-inside .on-chain)

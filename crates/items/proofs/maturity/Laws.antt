@@ -22,18 +22,25 @@ use Rattle.items.proofs.Locality.{api-maturity-local}
 keyword-calm : (k : List ℕ) (b : ℕ) (u : List ℕ) (n p : ℕ) → keyword k b u ≡ stop n p → ⊥
 keyword-calm k b u n p e = rw e at (keyword-says k b u)
 
-fail-then : (k : List ℕ) (v b : ℕ) (u : List ℕ) (p : ℕ) → fail p ≡ keyword k b u → fail p ≡ (keyword k >> ret v) b u
+pub fail-then : {A : Type 0} (k : List ℕ) (v : A) (b : ℕ) (u : List ℕ) (p : ℕ) → fail p ≡ keyword k b u → fail p ≡ (keyword k >> ret v) b u
 unfolding _>>_ _>>=_
 fail-then k v b u p q = rw (sym q, _>>_, _>>=_)
 
-module _ (k : List ℕ) (v b : ℕ) (u : List ℕ) (a : Step) (h : wordReply a b u ≡ keyword k b u) where
+module _ {A : Type 0} (k : List ℕ) (v : A) (b : ℕ) (u : List ℕ) (a : Step) (h : wordReply a b u ≡ keyword k b u) where
   pub keyword-value : (c : ℕ) → a ≡ Next c → ok v c (drop (c - b) u) ≡ (keyword k >> ret v) b u
   unfolding _>>_ _>>=_ ret
   keyword-value c e = rw (sym (told-next (wordAt b u) a c b u (keyword k b u) e h), _>>_, _>>=_)
 
+  -- another word fails at its first byte
+  pub keyword-not : (l : Lost) → a ≡ Not l → fail b ≡ (keyword k >> ret v) b u
+  keyword-not (Fail p) e =
+      let f = told-not (wordAt b u) a (Fail p) b u (keyword k b u) e h in
+      let z : p ≡ b = rw (← f) at (keyword-says k b u) in
+      fail-then k v b u b (rw z at f)
+  keyword-not (Stop n p) e = absurd (keyword-calm k b u n p (sym (told-not (wordAt b u) a (Stop n p) b u (keyword k b u) e h)))
+
   pub keyword-none : (l : Lost) → a ≡ Not l → (p : ℕ) × (fail p ≡ (keyword k >> ret v) b u)
-  keyword-none (Fail p) e = (p, fail-then k v b u p (told-not (wordAt b u) a (Fail p) b u (keyword k b u) e h))
-  keyword-none (Stop n p) e = absurd (keyword-calm k b u n p (sym (told-not (wordAt b u) a (Stop n p) b u (keyword k b u) e h)))
+  keyword-none l e = (b, keyword-not l e)
 
 pub maturity-is : (v b c : ℕ) (u : List ℕ) → v < 4 → ok v c (drop (c - b) u) ≡ api-maturity b u → MaturityTo (record { level = v; next = c }) b u
 maturity-is v b c u s e = let p = reads-in (walks (api-maturity-local .on-chain)) b c u v e in record { reads = e; up = p .0; inside = p .1; small = s }

@@ -1,5 +1,5 @@
 -- Optional parts whose value is dropped.
-use mathlib.Core.Path.{_≡_, sym, ap, _∙_}
+use mathlib.Core.Path.{_≡_, refl, sym, ap, _∙_}
 use mathlib.Core.Option.{none, some}
 use mathlib.Core.List.{List}
 use Prim.Native.Nat.{ℕ, _-_}
@@ -13,7 +13,8 @@ use Rattle.lexing.specs.declared.answers.Step.{Step}
 use Rattle.lexing.specs.declared.answers.Step.the-variants.{Next, Not}
 use Rattle.lexing.proofs.Onward.{Onward}
 use Rattle.lexing.proofs.Slicing.{Took, took, told-next, step-lost}
-use Rattle.items.specs.answers.{Skips, optionalStep}
+use Rattle.items.specs.entries.{present}
+use Rattle.items.specs.answers.{Skips, optionalStep, isThere}
 
 -- the two ways of a part that is not there
 pub optional-fail : (r : Step) (b : ℕ) (l : Lost) (p : ℕ) → r ≡ Not l → l ≡ Fail p → Next b ≡ optionalStep r b
@@ -22,15 +23,15 @@ optional-fail r b l p e f = sym (ap (λ (x : Step). optionalStep x b) (e ∙ ap 
 pub optional-stop : (r : Step) (b : ℕ) (l : Lost) (n p : ℕ) → r ≡ Not l → l ≡ Stop n p → Not (Stop n p) ≡ optionalStep r b
 optional-stop r b l n p e f = sym (ap (λ (x : Step). optionalStep x b) (e ∙ ap Not f))
 
-opt-ok : {A : Type 0} (m : Parser A) (b : ℕ) (u : List ℕ) (a : A) (c : ℕ) (r : List ℕ) → ok a c r ≡ m b u → ok (some a) c r ≡ opt m b u
+pub opt-ok : {A : Type 0} (m : Parser A) (b : ℕ) (u : List ℕ) (a : A) (c : ℕ) (r : List ℕ) → ok a c r ≡ m b u → ok (some a) c r ≡ opt m b u
 unfolding opt
 opt-ok m b u a c r e = rw (sym e, opt)
 
-opt-fail : {A : Type 0} (m : Parser A) (b : ℕ) (u : List ℕ) (p : ℕ) → fail p ≡ m b u → ok none b u ≡ opt m b u
+pub opt-fail : {A : Type 0} (m : Parser A) (b : ℕ) (u : List ℕ) (p : ℕ) → fail p ≡ m b u → ok none b u ≡ opt m b u
 unfolding opt
 opt-fail m b u p e = rw (sym e, opt)
 
-opt-stop : {A : Type 0} (m : Parser A) (b : ℕ) (u : List ℕ) (n p : ℕ) → stop n p ≡ m b u → stop n p ≡ opt m b u
+pub opt-stop : {A : Type 0} (m : Parser A) (b : ℕ) (u : List ℕ) (n p : ℕ) → stop n p ≡ m b u → stop n p ≡ opt m b u
 unfolding opt
 opt-stop m b u n p e = rw (sym e, opt)
 
@@ -46,3 +47,10 @@ skip-took {A} {m} w {b} {n} {u} {r} {a} {c} q e h = took w q (told-next (λ c. h
 
 pub skip-lost : {A : Type 0} {m : Parser A} {a : Step} {l l' : Lost} → l' ≡ lostOf a → a ≡ Not l → (n : ℕ) (r : List ℕ) → Skips m a n r → lostReply l' ≡ m n r
 skip-lost {A} {m} {a} {l} {l'} e d n r h = step-lost (λ c. h .value) e d n r (m n r) (h .reads)
+
+-- whether the part is there
+pub optional-present : {A : Type 0} {m : Parser A} (a : Step) (b : ℕ) (u : List ℕ) (h : Skips m a b u) → present (optional-skips a b u h .value) ≡ isThere a
+unfolding present optional-skips
+optional-present (Next c) b u h = refl
+optional-present (Not (Fail p)) b u h = refl
+optional-present (Not (Stop n p)) b u h = refl

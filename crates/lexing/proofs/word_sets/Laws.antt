@@ -12,11 +12,11 @@ use lib.Seq.{drop-cons, getD-take, length-take-le}
 use borrow.Author.Tests.{eq-eqb, ne-eqb, eqb-true, eqb-false, leb-true, ltb-true, ltb-false, not-true, not-false}
 use Rattle.lexing.specs.bytes.{within, lower}
 use Rattle.lexing.specs.reply.{Reply, ok, fail, stop, ret, _>>=_, _>>_, _or_, further, keep}
-use Rattle.lexing.specs.words.{Word, bytesOf, isKeyword, keyword, any-keyword}
+use Rattle.lexing.specs.words.{Word, bytesOf, isKeyword, isLower, keyword, any-keyword}
 use Rattle.lexing.specs.blanks.{Doc, whitespace1}
 use Rattle.lexing.specs.word_sets.{next-word, set-step, keywords-set, same-bytes, contains, bit, flags, sets, set-of, set-flags}
 use Rattle.lexing.specs.answers.{Rest, lostReply, wordAt, wordReply, docOf, BlankTo, WordSetTo}
-use Rattle.lexing.specs.inner.word_sets.{set-gap, startReply, isLower, with-flag}
+use Rattle.lexing.specs.inner.word_sets.{set-gap, startReply, with-flag}
 use Rattle.lexing.specs.declared.answers.Lost.{Lost}
 use Rattle.lexing.specs.declared.answers.Lost.the-variants.{Fail, Stop}
 use Rattle.lexing.specs.declared.answers.Step.{Step}
@@ -33,7 +33,7 @@ use Rattle.lexing.proofs.words.Laws.{Says, keyword-says}
 use Rattle.lexing.proofs.blanks.Laws.{gap-none, gap-some}
 
 -- the same bytes
-same-eq : (u v : List ℕ) → same-bytes u v ≡ true → u ≡ v
+pub same-eq : (u v : List ℕ) → same-bytes u v ≡ true → u ≡ v
 unfolding same-bytes
 same-eq [] [] e = refl
 same-eq [] (y ∷ v) e = absurd (false≢true e)

@@ -5,7 +5,6 @@ use mathlib.Core.List.{List}
 use lib.Dec.{eqb}
 use lib.ListN.{drop}
 use Rattle.lexing.specs.reply.{Reply, ok, fail, Parser, ret, _>>_}
-use Rattle.lexing.specs.words.{isKeyword}
 use Rattle.lexing.specs.blanks.{whitespace1}
 use Rattle.lexing.specs.declared.word_sets.Start.{Start}
 use Rattle.lexing.specs.declared.word_sets.Start.the-variants.{Here, Nowhere}
@@ -19,10 +18,6 @@ set-gap false = whitespace1 >> ret tt
 abbrev pub startReply : Start → ℕ → List ℕ → Reply (Unit {0})
 startReply (Here c) b u = ok tt c (drop (c - b) u)
 startReply Nowhere b u = fail b
-
--- a word in lower case, without a byte from A to Z, is a keyword of itself
-abbrev pub isLower : List ℕ → Bool
-isLower w = isKeyword w w
 
 -- flags with the bit p, where the word counts
 unfoldable pub with-flag : Bool → ℕ → ℕ → ℕ

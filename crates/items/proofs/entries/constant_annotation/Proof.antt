@@ -1,13 +1,13 @@
 use borrow.Author.Needs.{needs}
 use Rattle.items.proofs.entries.constant_annotation.Statement.{statement}
 use Rattle.items.proofs.entries.constant_annotation.Tie as tie
+use native.Mathlib.Omega.{arith}
 use Rattle.lexing.specs.strings.{annotation-escape, quoted-string}
 use Rattle.lexing.proofs.Slicing.{rest-self, begin, go, on, lose, fall, done, blank-took, word-took, tag-took, string-took, step-lost}
 use Rattle.items.specs.entries.{constant-annotation}
 use Rattle.items.proofs.optional.Laws.{skip-took, skip-lost}
 use Rattle.items.proofs.Dropping.{skip-is, skip-not}
 use Rattle.items.proofs.entries.Laws.{no-annotation, comma-onward}
-use native.Mathlib.Omega.{arith}
 
 whitespace0-requires : tie.Need-whitespace0-requires
 whitespace0-requires c κs = search needs

@@ -2,12 +2,13 @@ use borrow.Author.Needs.{needs}
 use Rattle.items.proofs.entries.constant_entry.Statement.{statement}
 use Rattle.items.proofs.entries.constant_entry.Tie as tie
 use native.Mathlib.Omega.{arith}
-use mathlib.Core.Path.{sym}
+use mathlib.Core.Path.{sym, refl}
 use Rattle.lexing.proofs.Slicing.{rest-self, begin, go, on, lose, fall, blank-took, word-took, tag-took, integer-took, step-lost, integer-lost}
 use Rattle.items.specs.entries.{constant-entry}
 use Rattle.items.specs.inner.entries.{entry-end}
 use Rattle.items.proofs.maturity.Laws.{maturity-took}
-use Rattle.items.proofs.entries.Laws.{end-took, end-lost, end-up, entry-is, entry-not}
+use Rattle.items.proofs.Answers.{read-is, read-not}
+use Rattle.items.proofs.entries.Laws.{end-took, end-lost, end-up}
 
 whitespace0-requires : tie.Need-whitespace0-requires
 whitespace0-requires c κs = search needs
@@ -41,7 +42,7 @@ step-lost-requires c κs = search needs
 
 returns : tie.Need-returns
 unfolding constant-entry
-returns c = entry-not _ _ _ _ (begin constant-entry _ _ (on _ (blank-took (rest-self _ _) (c .before .before .before .before .before .before .before .before .before .whitespace0 .ensures)) (go _ (maturity-took (c .before .before .before .before .before .before .before .before .rest-at .ensures) (c .before .before .before .before .before .before .before .api-maturity .ensures)) (on _ (blank-took (c .before .before .before .before .before .before .rest-at2 .ensures) (c .before .before .before .before .before .whitespace02 .ensures)) (lose _ _ (c .step-lost .result) (c .before .before .before .before .rest-at3 .ensures) (step-lost _ (c .step-lost .ensures) (c .before .enum-told .given .1) _ _ _ (c .before .before .before .parse-id .ensures)))))))
+returns c = read-not _ refl tt (begin constant-entry _ _ (on _ (blank-took (rest-self _ _) (c .before .before .before .before .before .before .before .before .before .whitespace0 .ensures)) (go _ (maturity-took (c .before .before .before .before .before .before .before .before .rest-at .ensures) (c .before .before .before .before .before .before .before .api-maturity .ensures)) (on _ (blank-took (c .before .before .before .before .before .before .rest-at2 .ensures) (c .before .before .before .before .before .whitespace02 .ensures)) (lose _ _ (c .step-lost .result) (c .before .before .before .before .rest-at3 .ensures) (step-lost _ (c .step-lost .ensures) (c .before .enum-told .given .1) _ _ _ (c .before .before .before .parse-id .ensures)))))))
 
 rest-at-requires-4 : tie.Need-rest-at-requires-4
 rest-at-requires-4 c κs = omega (arith, (word-took (c .before .before .before .before .rest-at3 .ensures) (c .before .name .given .1) (c .before .before .before .parse-id .ensures)) .up, (word-took (c .before .before .before .before .rest-at3 .ensures) (c .before .name .given .1) (c .before .before .before .parse-id .ensures)) .inside, c .before .before .before .before .rest-at3 .ensures .from)
@@ -66,7 +67,7 @@ step-lost-requires-2 c κs = search needs
 
 returns-2 : tie.Need-returns-2
 unfolding constant-entry
-returns-2 c = entry-not _ _ _ _ (begin constant-entry _ _ (on _ (blank-took (rest-self _ _) (c .before .before .before .before .before .before .before .before .before .before .before .before .before .before .before .before .whitespace0 .ensures)) (go _ (maturity-took (c .before .before .before .before .before .before .before .before .before .before .before .before .before .before .before .rest-at .ensures) (c .before .before .before .before .before .before .before .before .before .before .before .before .before .before .api-maturity .ensures)) (on _ (blank-took (c .before .before .before .before .before .before .before .before .before .before .before .before .before .rest-at2 .ensures) (c .before .before .before .before .before .before .before .before .before .before .before .before .whitespace02 .ensures)) (go _ (word-took (c .before .before .before .before .before .before .before .before .before .before .before .rest-at3 .ensures) (c .before .before .before .before .before .before .before .before .name .given .1) (c .before .before .before .before .before .before .before .before .before .before .parse-id .ensures)) (on _ (blank-took (c .before .before .before .before .before .before .rest-at4 .ensures) (c .before .before .before .before .before .whitespace03 .ensures)) (fall _ _ (c .step-lost2 .result) (c .before .before .before .before .rest-at5 .ensures) (step-lost _ (c .step-lost2 .ensures) (c .before .enum-told2 .given .1) _ _ _ (c .before .before .before .tag .ensures)))))))))
+returns-2 c = read-not _ refl tt (begin constant-entry _ _ (on _ (blank-took (rest-self _ _) (c .before .before .before .before .before .before .before .before .before .before .before .before .before .before .before .before .whitespace0 .ensures)) (go _ (maturity-took (c .before .before .before .before .before .before .before .before .before .before .before .before .before .before .before .rest-at .ensures) (c .before .before .before .before .before .before .before .before .before .before .before .before .before .before .api-maturity .ensures)) (on _ (blank-took (c .before .before .before .before .before .before .before .before .before .before .before .before .before .rest-at2 .ensures) (c .before .before .before .before .before .before .before .before .before .before .before .before .whitespace02 .ensures)) (go _ (word-took (c .before .before .before .before .before .before .before .before .before .before .before .rest-at3 .ensures) (c .before .before .before .before .before .before .before .before .name .given .1) (c .before .before .before .before .before .before .before .before .before .before .parse-id .ensures)) (on _ (blank-took (c .before .before .before .before .before .before .rest-at4 .ensures) (c .before .before .before .before .before .whitespace03 .ensures)) (fall _ _ (c .step-lost2 .result) (c .before .before .before .before .rest-at5 .ensures) (step-lost _ (c .step-lost2 .ensures) (c .before .enum-told2 .given .1) _ _ _ (c .before .before .before .tag .ensures)))))))))
 
 rest-at-requires-6 : tie.Need-rest-at-requires-6
 rest-at-requires-6 c κs = omega (arith, (tag-took (c .before .before .before .before .rest-at5 .ensures) (c .before .equals .given .1) 61 (c .before .before .before .tag .ensures)) .up, (tag-took (c .before .before .before .before .rest-at5 .ensures) (c .before .equals .given .1) 61 (c .before .before .before .tag .ensures)) .inside, c .before .before .before .before .rest-at5 .ensures .from)
@@ -91,7 +92,7 @@ number-lost-requires c κs = search needs
 
 returns-3 : tie.Need-returns-3
 unfolding constant-entry
-returns-3 c = entry-not _ _ _ _ (begin constant-entry _ _ (on _ (blank-took (rest-self _ _) (c .before .before .before .before .before .before .before .before .before .before .before .before .before .before .before .before .before .before .before .before .before .before .before .whitespace0 .ensures)) (go _ (maturity-took (c .before .before .before .before .before .before .before .before .before .before .before .before .before .before .before .before .before .before .before .before .before .before .rest-at .ensures) (c .before .before .before .before .before .before .before .before .before .before .before .before .before .before .before .before .before .before .before .before .before .api-maturity .ensures)) (on _ (blank-took (c .before .before .before .before .before .before .before .before .before .before .before .before .before .before .before .before .before .before .before .before .rest-at2 .ensures) (c .before .before .before .before .before .before .before .before .before .before .before .before .before .before .before .before .before .before .before .whitespace02 .ensures)) (go _ (word-took (c .before .before .before .before .before .before .before .before .before .before .before .before .before .before .before .before .before .before .rest-at3 .ensures) (c .before .before .before .before .before .before .before .before .before .before .before .before .before .before .before .name .given .1) (c .before .before .before .before .before .before .before .before .before .before .before .before .before .before .before .before .before .parse-id .ensures)) (on _ (blank-took (c .before .before .before .before .before .before .before .before .before .before .before .before .before .rest-at4 .ensures) (c .before .before .before .before .before .before .before .before .before .before .before .before .whitespace03 .ensures)) (on _ (tag-took (c .before .before .before .before .before .before .before .before .before .before .before .rest-at5 .ensures) (c .before .before .before .before .before .before .before .before .equals .given .1) 61 (c .before .before .before .before .before .before .before .before .before .before .tag .ensures)) (on _ (blank-took (c .before .before .before .before .before .before .rest-at6 .ensures) (c .before .before .before .before .before .whitespace04 .ensures)) (lose _ _ (c .number-lost .result) (c .before .before .before .before .rest-at7 .ensures) (integer-lost (c .number-lost .ensures) (c .before .enum-told3 .given .1) _ _ _ (c .before .before .before .positive-integer .ensures)))))))))))
+returns-3 c = read-not _ refl tt (begin constant-entry _ _ (on _ (blank-took (rest-self _ _) (c .before .before .before .before .before .before .before .before .before .before .before .before .before .before .before .before .before .before .before .before .before .before .before .whitespace0 .ensures)) (go _ (maturity-took (c .before .before .before .before .before .before .before .before .before .before .before .before .before .before .before .before .before .before .before .before .before .before .rest-at .ensures) (c .before .before .before .before .before .before .before .before .before .before .before .before .before .before .before .before .before .before .before .before .before .api-maturity .ensures)) (on _ (blank-took (c .before .before .before .before .before .before .before .before .before .before .before .before .before .before .before .before .before .before .before .before .rest-at2 .ensures) (c .before .before .before .before .before .before .before .before .before .before .before .before .before .before .before .before .before .before .before .whitespace02 .ensures)) (go _ (word-took (c .before .before .before .before .before .before .before .before .before .before .before .before .before .before .before .before .before .before .rest-at3 .ensures) (c .before .before .before .before .before .before .before .before .before .before .before .before .before .before .before .name .given .1) (c .before .before .before .before .before .before .before .before .before .before .before .before .before .before .before .before .before .parse-id .ensures)) (on _ (blank-took (c .before .before .before .before .before .before .before .before .before .before .before .before .before .rest-at4 .ensures) (c .before .before .before .before .before .before .before .before .before .before .before .before .whitespace03 .ensures)) (on _ (tag-took (c .before .before .before .before .before .before .before .before .before .before .before .rest-at5 .ensures) (c .before .before .before .before .before .before .before .before .equals .given .1) 61 (c .before .before .before .before .before .before .before .before .before .before .tag .ensures)) (on _ (blank-took (c .before .before .before .before .before .before .rest-at6 .ensures) (c .before .before .before .before .before .whitespace04 .ensures)) (lose _ _ (c .number-lost .result) (c .before .before .before .before .rest-at7 .ensures) (integer-lost (c .number-lost .ensures) (c .before .enum-told3 .given .1) _ _ _ (c .before .before .before .positive-integer .ensures)))))))))))
 
 rest-at-requires-8 : tie.Need-rest-at-requires-8
 rest-at-requires-8 c κs = omega (arith, (integer-took (c .before .before .before .before .rest-at7 .ensures) (c .before .value .given .1) (c .before .before .before .positive-integer .ensures)) .up, (integer-took (c .before .before .before .before .rest-at7 .ensures) (c .before .value .given .1) (c .before .before .before .positive-integer .ensures)) .inside, c .before .before .before .before .rest-at7 .ensures .from)
@@ -110,11 +111,11 @@ step-lost-requires-3 c κs = search needs
 
 returns-4 : tie.Need-returns-4
 unfolding constant-entry entry-end
-returns-4 c = entry-not _ _ _ _ (begin constant-entry _ _ (on _ (blank-took (rest-self _ _) (c .before .before .before .before .before .before .before .before .before .before .before .before .before .before .before .before .before .before .before .before .before .before .before .before .before .before .before .before .whitespace0 .ensures)) (go _ (maturity-took (c .before .before .before .before .before .before .before .before .before .before .before .before .before .before .before .before .before .before .before .before .before .before .before .before .before .before .before .rest-at .ensures) (c .before .before .before .before .before .before .before .before .before .before .before .before .before .before .before .before .before .before .before .before .before .before .before .before .before .before .api-maturity .ensures)) (on _ (blank-took (c .before .before .before .before .before .before .before .before .before .before .before .before .before .before .before .before .before .before .before .before .before .before .before .before .before .rest-at2 .ensures) (c .before .before .before .before .before .before .before .before .before .before .before .before .before .before .before .before .before .before .before .before .before .before .before .before .whitespace02 .ensures)) (go _ (word-took (c .before .before .before .before .before .before .before .before .before .before .before .before .before .before .before .before .before .before .before .before .before .before .before .rest-at3 .ensures) (c .before .before .before .before .before .before .before .before .before .before .before .before .before .before .before .before .before .before .before .before .name .given .1) (c .before .before .before .before .before .before .before .before .before .before .before .before .before .before .before .before .before .before .before .before .before .before .parse-id .ensures)) (on _ (blank-took (c .before .before .before .before .before .before .before .before .before .before .before .before .before .before .before .before .before .before .rest-at4 .ensures) (c .before .before .before .before .before .before .before .before .before .before .before .before .before .before .before .before .before .whitespace03 .ensures)) (on _ (tag-took (c .before .before .before .before .before .before .before .before .before .before .before .before .before .before .before .before .rest-at5 .ensures) (c .before .before .before .before .before .before .before .before .before .before .before .before .before .equals .given .1) 61 (c .before .before .before .before .before .before .before .before .before .before .before .before .before .before .before .tag .ensures)) (on _ (blank-took (c .before .before .before .before .before .before .before .before .before .before .before .rest-at6 .ensures) (c .before .before .before .before .before .before .before .before .before .before .whitespace04 .ensures)) (go _ (integer-took (c .before .before .before .before .before .before .before .before .before .rest-at7 .ensures) (c .before .before .before .before .before .before .value .given .1) (c .before .before .before .before .before .before .before .before .positive-integer .ensures)) (end-lost _ (c .before .before .before .before .rest-at8 .ensures) (c .step-lost3 .ensures) (c .before .enum-told4 .given .1) (c .before .before .before .entry-end .ensures)))))))))))
+returns-4 c = read-not _ refl tt (begin constant-entry _ _ (on _ (blank-took (rest-self _ _) (c .before .before .before .before .before .before .before .before .before .before .before .before .before .before .before .before .before .before .before .before .before .before .before .before .before .before .before .before .whitespace0 .ensures)) (go _ (maturity-took (c .before .before .before .before .before .before .before .before .before .before .before .before .before .before .before .before .before .before .before .before .before .before .before .before .before .before .before .rest-at .ensures) (c .before .before .before .before .before .before .before .before .before .before .before .before .before .before .before .before .before .before .before .before .before .before .before .before .before .before .api-maturity .ensures)) (on _ (blank-took (c .before .before .before .before .before .before .before .before .before .before .before .before .before .before .before .before .before .before .before .before .before .before .before .before .before .rest-at2 .ensures) (c .before .before .before .before .before .before .before .before .before .before .before .before .before .before .before .before .before .before .before .before .before .before .before .before .whitespace02 .ensures)) (go _ (word-took (c .before .before .before .before .before .before .before .before .before .before .before .before .before .before .before .before .before .before .before .before .before .before .before .rest-at3 .ensures) (c .before .before .before .before .before .before .before .before .before .before .before .before .before .before .before .before .before .before .before .before .name .given .1) (c .before .before .before .before .before .before .before .before .before .before .before .before .before .before .before .before .before .before .before .before .before .before .parse-id .ensures)) (on _ (blank-took (c .before .before .before .before .before .before .before .before .before .before .before .before .before .before .before .before .before .before .rest-at4 .ensures) (c .before .before .before .before .before .before .before .before .before .before .before .before .before .before .before .before .before .whitespace03 .ensures)) (on _ (tag-took (c .before .before .before .before .before .before .before .before .before .before .before .before .before .before .before .before .rest-at5 .ensures) (c .before .before .before .before .before .before .before .before .before .before .before .before .before .equals .given .1) 61 (c .before .before .before .before .before .before .before .before .before .before .before .before .before .before .before .tag .ensures)) (on _ (blank-took (c .before .before .before .before .before .before .before .before .before .before .before .rest-at6 .ensures) (c .before .before .before .before .before .before .before .before .before .before .whitespace04 .ensures)) (go _ (integer-took (c .before .before .before .before .before .before .before .before .before .rest-at7 .ensures) (c .before .before .before .before .before .before .value .given .1) (c .before .before .before .before .before .before .before .before .positive-integer .ensures)) (end-lost _ (c .before .before .before .before .rest-at8 .ensures) (c .step-lost3 .ensures) (c .before .enum-told4 .given .1) (c .before .before .before .entry-end .ensures)))))))))))
 
 returns-5 : tie.Need-returns-5
 unfolding constant-entry entry-end
-returns-5 c = entry-is _ _ _ _ _ (begin constant-entry _ _ (on _ (blank-took (rest-self _ _) (c .before .before .before .before .before .before .before .before .before .before .before .before .before .before .before .before .before .before .before .before .before .before .before .before .before .before .before .before .whitespace0 .ensures)) (go _ (maturity-took (c .before .before .before .before .before .before .before .before .before .before .before .before .before .before .before .before .before .before .before .before .before .before .before .before .before .before .before .rest-at .ensures) (c .before .before .before .before .before .before .before .before .before .before .before .before .before .before .before .before .before .before .before .before .before .before .before .before .before .before .api-maturity .ensures)) (on _ (blank-took (c .before .before .before .before .before .before .before .before .before .before .before .before .before .before .before .before .before .before .before .before .before .before .before .before .before .rest-at2 .ensures) (c .before .before .before .before .before .before .before .before .before .before .before .before .before .before .before .before .before .before .before .before .before .before .before .before .whitespace02 .ensures)) (go _ (word-took (c .before .before .before .before .before .before .before .before .before .before .before .before .before .before .before .before .before .before .before .before .before .before .before .rest-at3 .ensures) (c .before .before .before .before .before .before .before .before .before .before .before .before .before .before .before .before .before .before .before .before .name .given .1) (c .before .before .before .before .before .before .before .before .before .before .before .before .before .before .before .before .before .before .before .before .before .before .parse-id .ensures)) (on _ (blank-took (c .before .before .before .before .before .before .before .before .before .before .before .before .before .before .before .before .before .before .rest-at4 .ensures) (c .before .before .before .before .before .before .before .before .before .before .before .before .before .before .before .before .before .whitespace03 .ensures)) (on _ (tag-took (c .before .before .before .before .before .before .before .before .before .before .before .before .before .before .before .before .rest-at5 .ensures) (c .before .before .before .before .before .before .before .before .before .before .before .before .before .equals .given .1) 61 (c .before .before .before .before .before .before .before .before .before .before .before .before .before .before .before .tag .ensures)) (on _ (blank-took (c .before .before .before .before .before .before .before .before .before .before .before .rest-at6 .ensures) (c .before .before .before .before .before .before .before .before .before .before .whitespace04 .ensures)) (go _ (integer-took (c .before .before .before .before .before .before .before .before .before .rest-at7 .ensures) (c .before .before .before .before .before .before .value .given .1) (c .before .before .before .before .before .before .before .before .positive-integer .ensures)) (sym (end-took _ (c .before .before .before .before .rest-at8 .ensures) (c .before .last .given .1) (c .before .before .before .entry-end .ensures) .goes)))))))))))
+returns-5 c = read-is refl (begin constant-entry _ _ (on _ (blank-took (rest-self _ _) (c .before .before .before .before .before .before .before .before .before .before .before .before .before .before .before .before .before .before .before .before .before .before .before .before .before .before .before .before .whitespace0 .ensures)) (go _ (maturity-took (c .before .before .before .before .before .before .before .before .before .before .before .before .before .before .before .before .before .before .before .before .before .before .before .before .before .before .before .rest-at .ensures) (c .before .before .before .before .before .before .before .before .before .before .before .before .before .before .before .before .before .before .before .before .before .before .before .before .before .before .api-maturity .ensures)) (on _ (blank-took (c .before .before .before .before .before .before .before .before .before .before .before .before .before .before .before .before .before .before .before .before .before .before .before .before .before .rest-at2 .ensures) (c .before .before .before .before .before .before .before .before .before .before .before .before .before .before .before .before .before .before .before .before .before .before .before .before .whitespace02 .ensures)) (go _ (word-took (c .before .before .before .before .before .before .before .before .before .before .before .before .before .before .before .before .before .before .before .before .before .before .before .rest-at3 .ensures) (c .before .before .before .before .before .before .before .before .before .before .before .before .before .before .before .before .before .before .before .before .name .given .1) (c .before .before .before .before .before .before .before .before .before .before .before .before .before .before .before .before .before .before .before .before .before .before .parse-id .ensures)) (on _ (blank-took (c .before .before .before .before .before .before .before .before .before .before .before .before .before .before .before .before .before .before .rest-at4 .ensures) (c .before .before .before .before .before .before .before .before .before .before .before .before .before .before .before .before .before .whitespace03 .ensures)) (on _ (tag-took (c .before .before .before .before .before .before .before .before .before .before .before .before .before .before .before .before .rest-at5 .ensures) (c .before .before .before .before .before .before .before .before .before .before .before .before .before .equals .given .1) 61 (c .before .before .before .before .before .before .before .before .before .before .before .before .before .before .before .tag .ensures)) (on _ (blank-took (c .before .before .before .before .before .before .before .before .before .before .before .rest-at6 .ensures) (c .before .before .before .before .before .before .before .before .before .before .whitespace04 .ensures)) (go _ (integer-took (c .before .before .before .before .before .before .before .before .before .rest-at7 .ensures) (c .before .before .before .before .before .before .value .given .1) (c .before .before .before .before .before .before .before .before .positive-integer .ensures)) (sym (end-took _ (c .before .before .before .before .rest-at8 .ensures) (c .before .last .given .1) (c .before .before .before .entry-end .ensures) .goes)))))))))))
     (record { from = omega (arith, (blank-took (c .before .before .before .before .before .before .before .before .before .before .before .before .before .before .before .before .before .before .before .before .before .before .before .before .before .rest-at2 .ensures) (c .before .before .before .before .before .before .before .before .before .before .before .before .before .before .before .before .before .before .before .before .before .before .before .before .whitespace02 .ensures)) .up, c .before .before .before .before .before .before .before .before .before .before .before .before .before .before .before .before .before .before .before .before .before .before .before .before .before .rest-at2 .ensures .from); up = omega (arith, (word-took (c .before .before .before .before .before .before .before .before .before .before .before .before .before .before .before .before .before .before .before .before .before .before .before .rest-at3 .ensures) (c .before .before .before .before .before .before .before .before .before .before .before .before .before .before .before .before .before .before .before .before .name .given .1) (c .before .before .before .before .before .before .before .before .before .before .before .before .before .before .before .before .before .before .before .before .before .before .parse-id .ensures)) .up); inside = omega (arith, (blank-took (c .before .before .before .before .before .before .before .before .before .before .before .before .before .before .before .before .before .before .rest-at4 .ensures) (c .before .before .before .before .before .before .before .before .before .before .before .before .before .before .before .before .before .whitespace03 .ensures)) .up, (tag-took (c .before .before .before .before .before .before .before .before .before .before .before .before .before .before .before .before .rest-at5 .ensures) (c .before .before .before .before .before .before .before .before .before .before .before .before .before .equals .given .1) 61 (c .before .before .before .before .before .before .before .before .before .before .before .before .before .before .before .tag .ensures)) .up, (blank-took (c .before .before .before .before .before .before .before .before .before .before .before .rest-at6 .ensures) (c .before .before .before .before .before .before .before .before .before .before .whitespace04 .ensures)) .up, (integer-took (c .before .before .before .before .before .before .before .before .before .rest-at7 .ensures) (c .before .before .before .before .before .before .value .given .1) (c .before .before .before .before .before .before .before .before .positive-integer .ensures)) .up, end-up (c .before .last .given .1) (c .before .before .before .entry-end .ensures)); small = c .before .before .before .before .before .before .before .before .before .before .before .before .before .before .before .before .before .before .before .before .before .before .before .before .before .before .api-maturity .ensures .small })
 
 pub constant-entry-spec : {M : Type 1} → statement M

@@ -1,0 +1,65 @@
+use borrow.Author.Needs.{needs}
+use Rattle.items.proofs.choices.choice_after_doc_maturity.Statement.{statement}
+use Rattle.items.proofs.choices.choice_after_doc_maturity.Tie as tie
+use mathlib.Core.Path.{refl}
+use native.Mathlib.Omega.{arith}
+use Rattle.lexing.proofs.Slicing.{rest-self}
+use Rattle.items.specs.answers.choices.{choiceHeadLost}
+use Rattle.items.proofs.Answers.{read-took, read-lost}
+use Rattle.items.proofs.Headed.{headed-lost, headed-pass, headed-counted}
+use Rattle.items.proofs.Locality.{choice-head-consumes}
+use Rattle.items.proofs.counts.Laws.{count-took, count-lost}
+use Rattle.items.proofs.choices.Laws.{choice-head-onward, entries-list-onward, choice-headed}
+
+choice-head-requires : tie.Need-choice-head-requires
+choice-head-requires c κs = search needs
+
+enum-known-head : tie.Need-enum-known-head
+enum-known-head c = search needs
+
+enum-told : tie.Need-enum-told
+enum-told c = search needs
+
+choice-head-lost-requires : tie.Need-choice-head-lost-requires
+choice-head-lost-requires c κs = search needs
+
+returns : tie.Need-returns
+returns c = headed-lost (choice-headed _) _ (read-lost (c .before .before .before .choice-head .ensures) (c .before .enum-told .given .1) choiceHeadLost (c .choice-head-lost .ensures) refl)
+
+rest-at-requires : tie.Need-rest-at-requires
+rest-at-requires c κs = omega (arith, (read-took (c .before .before .before .choice-head .ensures) (c .before .head .given .1) (choice-head-onward _) (rest-self _ _) refl) .up, (read-took (c .before .before .before .choice-head .ensures) (c .before .head .given .1) (choice-head-onward _) (rest-self _ _) refl) .inside)
+
+constant-entries-list-requires : tie.Need-constant-entries-list-requires
+constant-entries-list-requires c κs = search needs
+
+enum-known-run : tie.Need-enum-known-run
+enum-known-run c = search needs
+
+enum-told-2 : tie.Need-enum-told-2
+enum-told-2 c = search needs
+
+returns-2 : tie.Need-returns-2
+returns-2 c = headed-pass (choice-headed _) (read-took (c .before .before .before .before .before .before .before .choice-head .ensures) (c .before .before .before .before .before .head .given .1) (choice-head-onward _) (rest-self _ _) refl) _ _ (c .enum-told2 .given .1) (c .before .before .before .rest-at .ensures) (count-lost _ (c .enum-told2 .given .1) _ _ (c .before .before .constant-entries-list .ensures))
+
+add-t11 : tie.Need-add-t11
+add-t11 c = let k = (count-took entries-list-onward (c .before .before .before .before .rest-at .ensures) (c .before .run .given .1) (c .before .before .before .constant-entries-list .ensures)) in omega (arith, k .few, k .step .inside, c .before .before .before .before .before .before .before .before .before .before .before .pre)
+
+returns-3 : tie.Need-returns-3
+returns-3 c = headed-counted (choice-headed _) (read-took (c .before .before .before .before .before .before .before .before .choice-head .ensures) (c .before .before .before .before .before .before .head .given .1) (choice-head-onward _) (rest-self _ _) refl) (choice-head-consumes _) (omega arith) (count-took entries-list-onward (c .before .before .before .before .rest-at .ensures) (c .before .run .given .1) (c .before .before .before .constant-entries-list .ensures))
+
+pub choice-after-doc-maturity-spec : {M : Type 1} → statement M
+choice-after-doc-maturity-spec =
+    tie.close
+    (tie.spec
+    choice-head-requires
+    enum-known-head
+    enum-told
+    choice-head-lost-requires
+    returns
+    rest-at-requires
+    constant-entries-list-requires
+    enum-known-run
+    enum-told-2
+    returns-2
+    add-t11
+    returns-3)

@@ -1,0 +1,3 @@
+-- Laws of the readers of endpoints.
+pub mod Places
+pub mod Laws

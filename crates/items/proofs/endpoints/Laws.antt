@@ -1,0 +1,193 @@
+-- Laws of names behind keywords, device types, defaults and instances of attributes.
+use mathlib.Core.Path.{_≡_, refl, sym, ap, _∙_, subst}
+use mathlib.Core.List.{List}
+use mathlib.Core.Bool.{Bool}
+use mathlib.Core.Option.{Option}
+use Prim.Native.Nat.{ℕ, suc, _+_, _-_, _≤_, _<_, max}
+use native.Mathlib.Omega.{arith}
+use lib.ListN.{drop, take}
+use Rattle.lexing.specs.reply.{Reply, ok, fail, stop, Parser, ret, _>>=_, _>>_, _or_, further, opt}
+use Rattle.lexing.specs.words.{Word, word}
+use Rattle.lexing.specs.integers.{signed, positive-integer, signed-integer}
+use Rattle.lexing.specs.blanks.{Doc, whitespace1}
+use Rattle.lexing.specs.strings.{Span, span, default-escape, default-string}
+use Rattle.lexing.specs.answers.{Answer, got, lost, reply, lostReply, Rest, lostOf, numberLost, numberReply, signedReply, spanTo, stringReply}
+use Rattle.lexing.specs.declared.answers.Lost.{Lost}
+use Rattle.lexing.specs.declared.answers.Lost.the-variants.{Fail, Stop}
+use Rattle.lexing.specs.declared.answers.Step.{Step}
+use Rattle.lexing.specs.declared.answers.Step.the-variants.{Next, Not}
+use Rattle.lexing.specs.declared.integers.Number.{Number}
+use Rattle.lexing.specs.declared.integers.Number.the-variants.{Value, NoNumber}
+use Rattle.lexing.specs.declared.integers.SignedNumber.{SignedNumber}
+use Rattle.lexing.specs.declared.integers.SignedNumber.the-variants.{Sized, NoSigned}
+use Rattle.lexing.proofs.Onward.{Onward}
+use Rattle.lexing.proofs.Locality.{chain-opt, chain-then}
+use Rattle.lexing.proofs.TokenLocality.{whitespace1-chain}
+use Rattle.lexing.proofs.Slicing.{Took, took, walks, rebase, begin, on, told-next, step-lost, integer-lost, or-next}
+use Rattle.items.specs.clusters.{mapped}
+use Rattle.items.specs.endpoints.{name-behind, device-version, Default as DefaultOf, number, signed-number, text, value-tries, default-attribute-value, attribute-handling-type}
+use Rattle.items.specs.answers.{NameIn, wordBetween}
+use Rattle.items.specs.answers.endpoints.{NamedTo, valueOf, valueLost, valueAnswer, ValueIn, ValueTo, DefaultIn, optionalValue, OptionalTo}
+use Rattle.items.specs.declared.endpoints.Named.{Named}
+use Rattle.items.specs.declared.endpoints.Named.the-variants.{Name}
+use Rattle.items.specs.declared.endpoints.DefaultValue.the-variants.{Number as Num, Signed as SignedValue, Truth, Text}
+use Rattle.items.specs.declared.endpoints.ValueRead.{ValueRead}
+use Rattle.items.specs.declared.endpoints.ValueRead.the-variants.{Read, NoValue}
+use Rattle.items.specs.declared.endpoints.Default.{Default}
+use Rattle.items.specs.declared.endpoints.Default.the-variants.{Absent, Present}
+use Rattle.items.specs.declared.endpoints.DefaultRead.{DefaultRead}
+use Rattle.items.proofs.Locality.{name-behind-local, device-version-local, value-tries-local, default-attribute-value-local, attribute-handling-type-local}
+use Rattle.items.proofs.Answers.{read-within, read-took, last-lost}
+use Rattle.items.proofs.WordBetween.{word-moved}
+use Rattle.items.proofs.optional.Laws.{opt-ok, opt-fail, opt-stop}
+use Rattle.items.proofs.endpoints.Places.{integer-place, signed-place, StringPlace, string-place}
+
+pub name-behind-on : (k j : List ℕ) → Onward (name-behind k j)
+name-behind-on k j = walks (name-behind-local k j .on-chain)
+
+pub device-version-on : Onward device-version
+device-version-on = walks (device-version-local .on-chain)
+
+pub handling-on : Onward attribute-handling-type
+handling-on = walks (attribute-handling-type-local .on-chain)
+
+pub values-on : Onward value-tries
+values-on = walks (value-tries-local .on-chain)
+
+pub default-on : Onward default-attribute-value
+default-on = walks (default-attribute-value-local .on-chain)
+
+pub optional-on : Onward (opt (whitespace1 >> default-attribute-value))
+optional-on = walks (chain-opt (chain-then whitespace1-chain (default-attribute-value-local .on-chain)))
+
+-- names
+module _ {m : Parser Word} {n : ℕ} {r : List ℕ} {a : Named} {x e c : ℕ} (h : NamedTo m a n r) (d : a ≡ Name x e c) where
+  pub named-in : NameIn n x e c
+  named-in = read-within h d
+
+  pub named-took : (w : Onward m) {b : ℕ} {u : List ℕ} → Rest b u n r → Took m b u n (wordBetween b u x e) c
+  named-took w {b} {u} q = rw (← word-moved b n u r x e q (named-in .from)) (read-took h d w q refl)
+
+-- a number that another reader than that of integers gives
+pub number-took : {m : Parser ℕ} (w : Onward m) {b n : ℕ} {u r : List ℕ} {a : Number} {v c : ℕ} → Rest b u n r → a ≡ Value v c → numberReply a n r ≡ m n r → Took m b u n v c
+number-took {m} w {b} {n} {u} {r} q e h = took w q (subst (λ (x : Number). numberReply x n r ≡ m n r) e h)
+
+-- choices: a try that fails at the start gives way to the next, and adds no place
+abbrev pub Past : {A : Type 0} → ℕ → Reply A → Type 0
+Past b (ok a c r) = Unit {0}
+Past b (fail p) = b ≤ p
+Past b (stop n p) = Unit {0}
+
+pub or-past : {A : Type 0} (m k : Parser A) (b : ℕ) (u : List ℕ) (X : Reply A) → fail b ≡ m b u → Past b X → X ≡ k b u → X ≡ (m or k) b u
+unfolding _or_ further
+or-past m k b u (ok a c r) d p e = or-next m k b u b a c r d e
+or-past m k b u (fail q) d p e = let z : q ≡ max b q = omega (arith, p) in rw (sym d, _or_) (rw (← e) (ap fail z))
+or-past m k b u (stop n q) d p e = rw (sym d, _or_) (rw (← e))
+
+pub or-stop : {A : Type 0} (m k : Parser A) (b : ℕ) (u : List ℕ) (n p : ℕ) → stop n p ≡ m b u → stop n p ≡ (m or k) b u
+unfolding _or_
+or-stop m k b u n p e = rw (sym e, _or_)
+
+mapped-ok : {A B : Type 0} (m : Parser A) (f : A → B) (b : ℕ) (u : List ℕ) (a : A) (c : ℕ) (r : List ℕ) → ok a c r ≡ m b u → ok (f a) c r ≡ mapped m f b u
+unfolding mapped _>>=_ ret
+mapped-ok m f b u a c r e = rw (sym e, mapped, _>>=_)
+
+mapped-lost : {A B : Type 0} (m : Parser A) (f : A → B) (b : ℕ) (u : List ℕ) (l : Lost) → lostReply l ≡ m b u → lostReply l ≡ mapped m f b u
+unfolding mapped _>>=_
+mapped-lost m f b u (Fail p) e = rw (sym e, mapped, _>>=_)
+mapped-lost m f b u (Stop n p) e = rw (sym e, mapped, _>>=_)
+
+-- the tries of a default's value
+module _ (b : ℕ) (u : List ℕ) {a : Number} (h : numberReply a b u ≡ positive-integer b u) where
+  pub number-try : {v c : ℕ} → a ≡ Value v c → ok (number v) c (drop (c - b) u) ≡ mapped positive-integer number b u
+  number-try {v} {c} e = mapped-ok positive-integer number b u v c (drop (c - b) u) (subst (λ (x : Number). numberReply x b u ≡ positive-integer b u) e h)
+
+  module _ {l l' : Lost} (d : l' ≡ numberLost a) (e : a ≡ NoNumber l) where
+    lost-integer : lostReply l' ≡ positive-integer b u
+    lost-integer = integer-lost d e b u (positive-integer b u) h
+
+    pub number-stop : {n p : ℕ} → l' ≡ Stop n p → stop n p ≡ mapped positive-integer number b u
+    number-stop {n} {p} z = mapped-lost positive-integer number b u (Stop n p) (subst (λ (x : Lost). lostReply x ≡ positive-integer b u) z lost-integer)
+
+    pub number-not : {p : ℕ} → l' ≡ Fail p → fail b ≡ mapped positive-integer number b u
+    number-not {p} z =
+        let k : fail p ≡ positive-integer b u = subst (λ (x : Lost). lostReply x ≡ positive-integer b u) z lost-integer in
+        let y : p ≡ b = rw (← k) at (integer-place b u) in
+        mapped-lost positive-integer number b u (Fail b) (rw y at k)
+
+signed-fails : (b : ℕ) (u : List ℕ) (l : Lost) → lostReply l ≡ signed-integer b u → fail b ≡ mapped signed-integer signed-number b u
+signed-fails b u (Fail p) k = let y : p ≡ b = rw (← k) at (signed-place b u) in mapped-lost signed-integer signed-number b u (Fail b) (rw y at k)
+signed-fails b u (Stop n p) k = absurd (rw (← k) at (signed-place b u))
+
+module _ (b : ℕ) (u : List ℕ) {a : SignedNumber} (h : signedReply a b u ≡ signed-integer b u) where
+  pub signed-try : {m : Bool} {v c : ℕ} → a ≡ Sized m v c → ok (signed-number (signed m v)) c (drop (c - b) u) ≡ mapped signed-integer signed-number b u
+  signed-try {m} {v} {c} e = mapped-ok signed-integer signed-number b u (signed m v) c (drop (c - b) u) (subst (λ (x : SignedNumber). signedReply x b u ≡ signed-integer b u) e h)
+
+  pub signed-not : (l : Lost) → a ≡ NoSigned l → fail b ≡ mapped signed-integer signed-number b u
+  signed-not l e = signed-fails b u l (subst (λ (x : SignedNumber). signedReply x b u ≡ signed-integer b u) e h)
+
+module _ (b : ℕ) (u : List ℕ) {a : Step} (h : stringReply a b u ≡ default-string b u) where
+  module _ {c : ℕ} (e : a ≡ Next c) where
+    read-string : ok (spanTo b c) c (drop (c - b) u) ≡ default-string b u
+    read-string = told-next (spanTo b) a c b u (default-string b u) e h
+
+    -- both quotes were read
+    pub text-long : suc b < c
+    unfolding default-string
+    text-long = rw (← read-string) at (string-place default-escape b u)
+
+    pub text-try : ok (text (span (b + 1) (c - 1 - (b + 1)))) c (drop (c - b) u) ≡ mapped default-string text b u
+    text-try = let z : b + 1 ≡ suc b = omega arith in rw z (mapped-ok default-string text b u (spanTo b c) c (drop (c - b) u) read-string)
+
+  module _ {l l' : Lost} (d : l' ≡ lostOf a) (e : a ≡ Not l) where
+    lost-string : lostReply l' ≡ default-string b u
+    lost-string = step-lost (spanTo b) d e b u (default-string b u) h
+
+    pub text-not : lostReply l' ≡ mapped default-string text b u
+    text-not = mapped-lost default-string text b u l' lost-string
+
+    string-past : (X : Reply Span) → StringPlace b X → (k : Lost) → lostReply k ≡ X → Past {A = DefaultOf} b (lostReply k)
+    string-past X p (Fail q) z = rw (← z) at p
+    string-past X p (Stop n q) z = tt
+
+    pub text-past : Past {A = DefaultOf} b (lostReply l')
+    unfolding default-string
+    text-past = string-past (default-string b u) (string-place default-escape b u) l' lost-string
+
+-- a value that may be absent
+value-told : (r : ValueRead) (l k x : Lost) → r ≡ NoValue k → l ≡ valueLost r → l ≡ x → r ≡ NoValue x
+value-told r l k x e d z = e ∙ ap NoValue (sym (d ∙ ap valueLost e) ∙ z)
+
+pub optional-at : (r : ValueRead) (b : ℕ) {x : ValueRead} → r ≡ x → optionalValue x b ≡ optionalValue r b
+optional-at r b e = sym (ap (λ (y : ValueRead). optionalValue y b) e)
+
+pub optional-told : (r : ValueRead) (b : ℕ) (l k x : Lost) → r ≡ NoValue k → l ≡ valueLost r → l ≡ x → optionalValue (NoValue x) b ≡ optionalValue r b
+optional-told r b l k x e d z = optional-at r b (value-told r l k x e d z)
+
+optional-to : {m : Parser DefaultOf} (a : ValueRead) (b : ℕ) (u : List ℕ) → ValueTo m a b u → OptionalTo m (optionalValue a b) b u
+optional-to {m} (Read v c) b u h = record { reads = opt-ok m b u (valueOf v) c (drop (c - b) u) (h .reads); within = h .within }
+optional-to {m} (NoValue (Fail p)) b u h = let z : b - b ≡ 0 = omega arith in record { reads = rw z (opt-fail m b u p (h .reads)); within = tt }
+optional-to {m} (NoValue (Stop n p)) b u h = record { reads = opt-stop m b u n p (h .reads); within = tt }
+
+pub optional-is : {m : Parser DefaultOf} (a : ValueRead) (x : DefaultRead) (b : ℕ) (u : List ℕ) → x ≡ optionalValue a b → ValueTo m a b u → OptionalTo m x b u
+optional-is {m} a x b u e h = subst (λ (y : DefaultRead). OptionalTo m y b u) (sym e) (optional-to a b u h)
+
+-- a value as the end of a sequence, and behind a blank
+pub value-end : {m : Parser DefaultOf} (w : Onward m) {b n : ℕ} {u r : List ℕ} (a : ValueRead) → Rest b u n r → ValueTo m a n r → reply (valueAnswer b u a) b u ≡ m n (drop (n - b) u)
+value-end w (Read v c) q h = sym (took w q (h .reads) .goes)
+value-end {m} w (NoValue l) q h = last-lost m l q (h .reads)
+
+pub value-within : (a : ValueRead) (b n : ℕ) → ValueIn n a → ValueIn b a
+value-within (Read v c) b n h = h
+value-within (NoValue l) b n h = tt
+
+pub value-behind : {b n : ℕ} {u r : List ℕ} {d : Doc} (a : ValueRead) → Took whitespace1 b u b d n → Rest b u n r → ValueTo default-attribute-value a n r → ValueTo (whitespace1 >> default-attribute-value) a b u
+value-behind {b} {n} {u} a t q h = record { reads = begin (whitespace1 >> default-attribute-value) b u (on default-attribute-value t (value-end default-on a q h)); within = value-within a b n (h .within) }
+
+-- the text goes on behind a default
+pub default-within : (d : Default) (c e : ℕ) → DefaultIn d c → c ≤ e → DefaultIn d e
+default-within Absent c e h k = tt
+default-within (Present (Num n)) c e h k = tt
+default-within (Present (SignedValue m n)) c e h k = tt
+default-within (Present (Truth x)) c e h k = tt
+default-within (Present (Text s)) c e h k = omega (arith, h, k)

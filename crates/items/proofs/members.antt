@@ -1,0 +1,2 @@
+-- Laws of the readers of events, commands and attributes.
+pub mod Laws

@@ -1,0 +1,204 @@
+-- Events, commands and attributes: one law for each way through a reader.
+use mathlib.Core.Path.{_≡_, refl, sym, ap, _∙_, subst}
+use mathlib.Core.Bool.{true, false}
+use mathlib.Core.Option.{Option, none, some}
+use mathlib.Core.List.{List}
+use Prim.Native.Nat.{ℕ, _+_, _-_, _≤_, _<_}
+use native.Mathlib.Omega.{arith}
+use native.Mathlib.Nat.{max-eq-left}
+use lib.Dec.{ltb}
+use lib.ListN.{length, drop, take}
+use borrow.Author.Tests.{lt-ltb, le-ltb}
+use Rattle.lexing.specs.reply.{Reply, ok, fail, stop, Parser, ret, _>>=_, _>>_, _or_, further, opt}
+use Rattle.lexing.specs.words.{Word, word, parse-id, keyword}
+use Rattle.lexing.specs.answers.{Answer, got, lost, Rest, lostReply, reply, lostOf, wordAt, wordReply}
+use Rattle.lexing.specs.declared.answers.Lost.{Lost}
+use Rattle.lexing.specs.declared.answers.Lost.the-variants.{Fail, Stop}
+use Rattle.lexing.specs.declared.answers.Step.{Step}
+use Rattle.lexing.specs.declared.answers.Step.the-variants.{Next, Not}
+use Rattle.lexing.specs.declared.blanks.DocSpan.{DocSpan}
+use Rattle.lexing.proofs.Onward.{Onward, parse-id-advances}
+use Rattle.lexing.proofs.Locality.{OnChain, chain-opt, chain-inside}
+use Rattle.lexing.proofs.TokenLocality.{parse-id-chain}
+use Rattle.lexing.proofs.Slicing.{Took, took, walks, told-not, rebase, begin, on}
+use Rattle.lexing.proofs.words.Laws.{Says, keyword-says}
+use Rattle.items.specs.members.{or-else, event-head, command-head, CommandTypes as CommandTypesOf, command-types, Command as CommandOf}
+use Rattle.items.specs.answers.{optionOf, wordBetween, optionalStep}
+use Rattle.items.specs.answers.members.{levelAnswer, levelLost, levelSmall, LevelTo, levelOr, EventHeadTo, optionalBetween, CommandHeadBetween, commandHeadAnswer, commandHeadWithin, CommandHeadTo, commandTypesAt, commandTypesAnswer, CommandTypesBetween, commandTypesWithin, CommandTypesTo, commandAt, CommandTo}
+use Rattle.items.specs.declared.members.Level.{Level}
+use Rattle.items.specs.declared.members.Level.the-variants.{Chosen, NoLevel}
+use Rattle.items.specs.declared.members.EventHeadRead.the-variants.{EventHead, NoEventHead}
+use Rattle.items.specs.declared.members.CommandHeadParts.{CommandHeadParts}
+use Rattle.items.specs.declared.members.CommandHeadRead.{CommandHeadRead}
+use Rattle.items.specs.declared.members.CommandHeadRead.the-variants.{CommandHead, NoCommandHead}
+use Rattle.items.specs.declared.members.CommandTypesParts.{CommandTypesParts}
+use Rattle.items.specs.declared.members.CommandTypesRead.{CommandTypesRead}
+use Rattle.items.specs.declared.members.CommandTypesRead.the-variants.{CommandTypes, NoCommandTypes}
+use Rattle.items.specs.declared.members.CommandParts.{CommandParts}
+use Rattle.items.specs.declared.members.CommandRead.the-variants.{Command, NoCommand}
+use Rattle.items.proofs.Answers.{read-within, read-took, read-lost}
+use Rattle.items.proofs.WordBetween.{word-moved}
+use Rattle.items.proofs.maturity.Laws.{fail-then}
+use Rattle.items.proofs.optional.Laws.{opt-ok, opt-fail, opt-stop}
+use Rattle.items.proofs.Locality.{command-types-inside}
+
+-- a choice of keywords: one that is not there fails at its start, and so do all
+keyword-lost : (k : List ℕ) (b : ℕ) (u : List ℕ) (l : Lost) → lostReply l ≡ keyword k b u → fail b ≡ keyword k b u
+keyword-lost k b u (Fail p) e = ap fail (sym (rw (← e) at (keyword-says k b u))) ∙ e
+keyword-lost k b u (Stop n p) e = absurd (rw (← e) at (keyword-says k b u))
+
+pub keyword-fails : (k : List ℕ) (v b : ℕ) (u : List ℕ) (a : Step) → wordReply a b u ≡ keyword k b u → (l : Lost) → a ≡ Not l → fail b ≡ (keyword k >> ret v) b u
+keyword-fails k v b u a h l e = fail-then k v b u b (keyword-lost k b u l (told-not (wordAt b u) a l b u (keyword k b u) e h))
+
+pub or-fails : {A : Type 0} (m k : Parser A) (b : ℕ) (u : List ℕ) → fail b ≡ m b u → fail b ≡ k b u → fail b ≡ (m or k) b u
+unfolding _or_ further
+or-fails m k b u d e = let l : b ≤ b = omega arith in rw (sym d, _or_) (rw (sym e, further, max-eq-left l))
+
+-- an optional part that is not there
+pub level-or-fail : (r : Level) (z b : ℕ) (l : Lost) (p : ℕ) → r ≡ NoLevel l → l ≡ Fail p → Chosen z b ≡ levelOr r z b
+level-or-fail r z b l p e f = sym (ap (λ (x : Level). levelOr x z b) (e ∙ ap NoLevel f))
+
+pub level-or-stop : (r : Level) (z b : ℕ) (l : Lost) (n p : ℕ) → r ≡ NoLevel l → l ≡ Stop n p → NoLevel (Stop n p) ≡ levelOr r z b
+level-or-stop r z b l n p e f = sym (ap (λ (x : Level). levelOr x z b) (e ∙ ap NoLevel f))
+
+-- a level, as a step of a sequence
+module _ {m : Parser ℕ} {a : Level} {n : ℕ} {r : List ℕ} (h : LevelTo m a n r) where
+  pub level-took : Onward m → {b : ℕ} {u : List ℕ} {v c : ℕ} → Rest b u n r → a ≡ Chosen v c → Took m b u n v c
+  level-took w q e = read-took h e w q refl
+
+  pub level-small : {v c : ℕ} → a ≡ Chosen v c → v < 4
+  level-small e = read-within h e
+
+  pub level-lost : {l l' : Lost} → l' ≡ levelLost a → a ≡ NoLevel l → lostReply l' ≡ m n r
+  level-lost e d = read-lost h d levelLost e refl
+
+-- an optional level, with what it is where it is absent
+pub record TookOr (m : Parser ℕ) (z b : ℕ) (u : List ℕ) (n v c : ℕ) : Type 0 where
+  pub granted : Option ℕ
+  pub is : or-else z granted ≡ v
+  pub small : v < 4
+  pub step : Took (opt m) b u n granted c
+
+level-or-at : (m : Parser ℕ) (z : ℕ) (a : Level) (n : ℕ) (r : List ℕ) (v c : ℕ) → z < 4 → reply (levelAnswer n r a) n r ≡ m n r → levelSmall n a → levelOr a z n ≡ Chosen v c
+    → (o : Option ℕ) × (or-else z o ≡ v) × (v < 4) × (ok o c (drop (c - n) r) ≡ opt m n r)
+unfolding or-else
+level-or-at m z (Chosen w e) n r v c l h s d =
+    let x : w ≡ v = cc in
+    let y : e ≡ c = cc in
+    (some w, x, omega arith, rw (← y) (opt-ok m n r w e (drop (e - n) r) h))
+level-or-at m z (NoLevel (Fail p)) n r v c l h s d =
+    let x : z ≡ v = cc in
+    let y : n ≡ c = cc in
+    let t : n - n ≡ 0 = omega arith in
+    (none, x, omega arith, rw (← y, t) (opt-fail m n r p h))
+level-or-at m z (NoLevel (Stop i p)) n r v c l h s d = let t : _≡_ {A = ℕ} 0 1 = cc in absurd (omega arith)
+
+level-or-not : (m : Parser ℕ) (z : ℕ) (a : Level) (n : ℕ) (r : List ℕ) (l : Lost) → reply (levelAnswer n r a) n r ≡ m n r → levelOr a z n ≡ NoLevel l → lostReply l ≡ opt m n r
+level-or-not m z (Chosen w e) n r l h d = let t : _≡_ {A = ℕ} 0 1 = cc in absurd (omega arith)
+level-or-not m z (NoLevel (Fail p)) n r l h d = let t : _≡_ {A = ℕ} 0 1 = cc in absurd (omega arith)
+level-or-not m z (NoLevel (Stop i p)) n r l h d = let x : Stop i p ≡ l = cc in subst (λ (y : Lost). lostReply y ≡ opt m n r) x (opt-stop m n r i p h)
+
+module _ {m : Parser ℕ} (z : ℕ) {a t : Level} {n : ℕ} {r : List ℕ} (h : LevelTo m a n r) (d : t ≡ levelOr a z n) where
+  pub level-or-took : OnChain m → z < 4 → {b : ℕ} {u : List ℕ} {v c : ℕ} → Rest b u n r → t ≡ Chosen v c → TookOr m z b u n v c
+  level-or-took w l {b} {u} {v} {c} q e =
+      let x = level-or-at m z a n r v c l (h .reads) (h .within) (sym d ∙ e) in
+      record { granted = x .0; is = x .1; small = x .2; step = took (walks (chain-opt w)) q (x .3) }
+
+  pub level-or-lost : {l l' : Lost} → l' ≡ levelLost t → t ≡ NoLevel l → lostReply l' ≡ opt m n r
+  level-or-lost {l} {l'} e f =
+      let x : l' ≡ l = e ∙ ap levelLost f in
+      ap (λ (y : Lost). lostReply y) x ∙ level-or-not m z a n r l (h .reads) (sym d ∙ f)
+
+-- a level behind another step
+pub level-after : {A : Type 0} {m : Parser A} {k : Parser ℕ} → Onward k → (a : Level) {x : A} {b n : ℕ} {u r : List ℕ} → Took m b u b x n → Rest b u n r → LevelTo k a n r → LevelTo (m >> k) a b u
+level-after {m = m} {k} w (Chosen v c) {b = b} {u = u} t q h = record { reads = begin (m >> k) b u (on k t (sym (took w q (h .reads) .goes))); within = h .within }
+level-after {m = m} {k} w (NoLevel l) {b = b} {n} {u} t q h = record { reads = begin (m >> k) b u (on k t (h .reads ∙ ap (k n) (q .same))); within = tt }
+
+-- events, up to the name
+pub event-head-is : (q y z v : ℕ) (o : Option ℕ) (b c : ℕ) (u : List ℕ) → q < 16 → y < 4 → v < 4 → or-else z o ≡ v
+    → ok (record { sensitive = q; rank = y; privilege = or-else z o }) c (drop (c - b) u) ≡ event-head b u → EventHeadTo (EventHead (record { sensitive = q; rank = y; privilege = v }) c) b u
+event-head-is q y z v o b c u f g h d e =
+    record {
+      reads = subst (λ (x : ℕ). ok (record { sensitive = q; rank = y; privilege = x }) c (drop (c - b) u) ≡ event-head b u) d e;
+      within = record { sensitive = f; rank = g; privilege = h };
+    }
+
+-- commands, up to the name
+pub command-head-is : (q z v : ℕ) (o : Option ℕ) (b n c : ℕ) (u : List ℕ) → q < 16 → v < 4 → b ≤ n → n ≤ c → or-else z o ≡ v
+    → ok (record { qualities = q; privilege = or-else z o; id = wordBetween b u n c }) c (drop (c - b) u) ≡ command-head b u → CommandHeadTo (CommandHead (record { qualities = q; privilege = v; name = n; end = c }) c) b u
+command-head-is q z v o b n c u f g h i d e =
+    record {
+      reads = subst (λ (x : ℕ). ok (record { qualities = q; privilege = x; id = wordBetween b u n c }) c (drop (c - b) u) ≡ command-head b u) d e;
+      within = record { qualities = f; privilege = g; name-from = h; name-to = i; before = omega arith };
+    }
+
+-- an optional word; it is absent where it is empty
+optional-word-at : (a : Step) (b n : ℕ) (u r : List ℕ) (c : ℕ) → Rest b u n r → wordReply a n r ≡ parse-id n r → optionalStep a n ≡ Next c → ok (optionalBetween b u n c) c (drop (c - n) r) ≡ opt parse-id n r
+optional-word-at (Next e) b n u r c q h d =
+    let y : e ≡ c = cc in
+    let k : ok (wordAt n r c) c (drop (c - n) r) ≡ parse-id n r = subst (λ (x : ℕ). ok (wordAt n r x) x (drop (x - n) r) ≡ parse-id n r) y h in
+    let l : n < c = rw (← k) at (parse-id-advances .reads n r) .2 in
+    rw (lt-ltb n c l, ← q .same) (opt-ok parse-id n r (wordAt n r c) c (drop (c - n) r) k)
+optional-word-at (Not (Fail p)) b n u r c q h d =
+    let y : n ≡ c = cc in
+    let z : ltb n n ≡ false = le-ltb n n (omega arith) in
+    let t : n - n ≡ 0 = omega arith in
+    rw (← y, z, t) (opt-fail parse-id n r p h)
+optional-word-at (Not (Stop i p)) b n u r c q h d = let t : _≡_ {A = ℕ} 0 1 = cc in absurd (omega arith)
+
+optional-word-not : (a : Step) (n : ℕ) (r : List ℕ) (l : Lost) → wordReply a n r ≡ parse-id n r → optionalStep a n ≡ Not l → lostReply l ≡ opt parse-id n r
+optional-word-not (Next e) n r l h d = let t : _≡_ {A = ℕ} 0 1 = cc in absurd (omega arith)
+optional-word-not (Not (Fail p)) n r l h d = let t : _≡_ {A = ℕ} 0 1 = cc in absurd (omega arith)
+optional-word-not (Not (Stop i p)) n r l h d = let x : Stop i p ≡ l = cc in subst (λ (y : Lost). lostReply y ≡ opt parse-id n r) x (opt-stop parse-id n r i p h)
+
+module _ (a : Step) {t : Step} (n : ℕ) (r : List ℕ) (h : wordReply a n r ≡ parse-id n r) (d : t ≡ optionalStep a n) where
+  pub optional-word-took : {b c : ℕ} {u : List ℕ} → Rest b u n r → t ≡ Next c → Took (opt parse-id) b u n (optionalBetween b u n c) c
+  optional-word-took {b} {c} {u} q e = took (walks (chain-opt parse-id-chain)) q (optional-word-at a b n u r c q h (sym d ∙ e))
+
+  pub optional-word-lost : {l l' : Lost} → l' ≡ lostOf t → t ≡ Not l → lostReply l' ≡ opt parse-id n r
+  optional-word-lost {l} {l'} e f =
+      let x : l' ≡ l = e ∙ ap lostOf f in
+      ap (λ (y : Lost). lostReply y) x ∙ optional-word-not a n r l h (sym d ∙ f)
+
+-- a command's types
+types-moved : {b n : ℕ} {u r : List ℕ} {c : ℕ} → Rest b u n r → (t : CommandTypesParts) → CommandTypesBetween n t c → commandTypesAt n r t ≡ commandTypesAt b u t
+types-moved {b} {n} {u} {r} q t w =
+    let f : Option Word → CommandTypesOf = λ x. record { from = x; to = wordBetween n r (t .output) (t .«output_end») } in
+    let g : Word → CommandTypesOf = λ x. record { from = optionalBetween b u (t .input) (t .«input_end»); to = x } in
+    ap f (ap (optionOf (ltb (t .input) (t .«input_end»))) (word-moved b n u r (t .input) (t .«input_end») q (w .input-from))) ∙
+    ap g (word-moved b n u r (t .output) (t .«output_end») q (omega arith))
+
+module _ {a : CommandTypesRead} {t : CommandTypesParts} {n c : ℕ} {r : List ℕ} (h : CommandTypesTo a n r) (e : a ≡ CommandTypes t c) where
+  pub command-types-within : CommandTypesBetween n t c
+  command-types-within = read-within h e
+
+  pub command-types-took : {b : ℕ} {u : List ℕ} → Rest b u n r → Took command-types b u n (commandTypesAt b u t) c
+  command-types-took {b} {u} q =
+      subst (λ (x : CommandTypesOf). Took command-types b u n x c) (types-moved q t command-types-within)
+      (read-took h e (walks (chain-inside command-types-inside)) q refl)
+
+-- commands
+abbrev pub commandParts : DocSpan → ℕ → ℕ → CommandHeadParts → CommandTypesParts → CommandParts
+commandParts d v k h t = record { doc = d; maturity = v; flags = h .qualities; access = h .privilege; name = h .name; end = h .end; input = t .input; «input_end» = t .«input_end»; output = t .output; «output_end» = t .«output_end»; code = k }
+
+pub command-head-within : {a : CommandHeadRead} {h : CommandHeadParts} {b c : ℕ} {u : List ℕ} → CommandHeadTo a b u → a ≡ CommandHead h c → CommandHeadBetween b h c
+command-head-within t e = read-within t e
+
+pub command-is : (m : Parser CommandOf) (d : DocSpan) (v k : ℕ) (h : CommandHeadParts) (t : CommandTypesParts) (b c1 c2 c : ℕ) (u : List ℕ)
+    → CommandHeadBetween b h c1 → CommandTypesBetween c1 t c2 → c2 ≤ c
+    → ok (commandAt b u (commandParts d v k h t)) c (drop (c - b) u) ≡ m b u → CommandTo m (Command (commandParts d v k h t) c) b u
+command-is m d v k h t b c1 c2 c u x y l e =
+    record {
+      reads = e;
+      within = record {
+        flags = x .qualities;
+        access = x .privilege;
+        name-from = x .name-from;
+        name-to = x .name-to;
+        input-from = omega (arith, x .before, y .input-from);
+        input-to = y .input-to;
+        output-from = y .output-from;
+        output-to = y .output-to;
+        before = omega (arith, y .before);
+      };
+    }

@@ -1,0 +1,127 @@
+use borrow.Author.Needs.{needs}
+use Rattle.items.proofs.members.command_head.Statement.{statement}
+use Rattle.items.proofs.members.command_head.Tie as tie
+use Rattle.items.specs.members.{command-head}
+use Rattle.items.proofs.members.Laws.{command-head-is, level-or-took, level-or-lost}
+use mathlib.Core.Path.{refl}
+use native.Mathlib.Omega.{arith}
+use Rattle.lexing.specs.bytes.{ascii}
+use Rattle.lexing.specs.answers.{wordAt}
+use Rattle.lexing.proofs.Slicing.{rest-self, begin, go, on, lose, fall, done, blank-took, set-took, word-took, keyword-took, step-lost}
+use Rattle.items.proofs.Answers.{read-not}
+use Rattle.lexing.proofs.Locality.{chain-inside, chain-then}
+use Rattle.lexing.proofs.TokenLocality.{whitespace0-chain}
+use Rattle.items.proofs.Locality.{access-to-inside}
+
+keywords-set-requires : tie.Need-keywords-set-requires
+keywords-set-requires c κs = search needs
+
+rest-at-requires : tie.Need-rest-at-requires
+rest-at-requires c κs = omega (arith, (set-took (rest-self _ _) (c .keywords-set .ensures)) .up, (set-took (rest-self _ _) (c .keywords-set .ensures)) .inside)
+
+whitespace0-requires : tie.Need-whitespace0-requires
+whitespace0-requires c κs = omega (arith, c .rest-at .ensures .size, c .before .before .before .pre)
+
+rest-at-requires-2 : tie.Need-rest-at-requires-2
+rest-at-requires-2 c κs = omega (arith, (blank-took (c .before .rest-at .ensures) (c .whitespace0 .ensures)) .up, (blank-took (c .before .rest-at .ensures) (c .whitespace0 .ensures)) .inside, c .before .rest-at .ensures .from)
+
+slice-aggregate-keyword : tie.Need-slice-aggregate-keyword
+slice-aggregate-keyword c = search needs
+
+keyword-requires : tie.Need-keyword-requires
+keyword-requires c κs = omega (arith, c .before .rest-at2 .ensures .size, c .before .before .before .before .before .before .pre)
+
+enum-known-command : tie.Need-enum-known-command
+enum-known-command c = search needs
+
+enum-told : tie.Need-enum-told
+enum-told c = search needs
+
+step-lost-requires : tie.Need-step-lost-requires
+step-lost-requires c κs = search needs
+
+returns : tie.Need-returns
+unfolding command-head
+returns c = read-not _ refl tt (begin (command-head) _ _ (go _ (set-took (rest-self _ _) (c .before .before .before .before .before .before .before .before .keywords-set .ensures)) (on _ (blank-took (c .before .before .before .before .before .before .before .rest-at .ensures) (c .before .before .before .before .before .before .whitespace0 .ensures)) (fall _ _ (c .step-lost .result) (c .before .before .before .before .before .rest-at2 .ensures) (step-lost (wordAt _ _) (c .step-lost .ensures) (c .before .enum-told .given .1) _ _ _ (c .before .before .before .keyword .ensures))))))
+
+rest-at-requires-3 : tie.Need-rest-at-requires-3
+rest-at-requires-3 c κs = omega (arith, (keyword-took (c .before .before .before .before .before .rest-at2 .ensures) (c .before .command .given .1) (ascii "command") (c .before .before .before .keyword .ensures)) .up, (keyword-took (c .before .before .before .before .before .rest-at2 .ensures) (c .before .command .given .1) (ascii "command") (c .before .before .before .keyword .ensures)) .inside, c .before .before .before .before .before .rest-at2 .ensures .from)
+
+invoke-access-requires : tie.Need-invoke-access-requires
+invoke-access-requires c κs = omega (arith, c .rest-at3 .ensures .size, c .before .before .before .before .before .before .before .before .before .before .before .pre)
+
+level-or-requires : tie.Need-level-or-requires
+level-or-requires c κs = search needs
+
+enum-known-access : tie.Need-enum-known-access
+enum-known-access c = search needs
+
+enum-told-2 : tie.Need-enum-told-2
+enum-told-2 c = search needs
+
+level-lost-requires : tie.Need-level-lost-requires
+level-lost-requires c κs = search needs
+
+returns-2 : tie.Need-returns-2
+unfolding command-head
+returns-2 c = read-not _ refl tt (begin (command-head) _ _ (go _ (set-took (rest-self _ _) (c .before .before .before .before .before .before .before .before .before .before .before .before .before .before .keywords-set .ensures)) (on _ (blank-took (c .before .before .before .before .before .before .before .before .before .before .before .before .before .rest-at .ensures) (c .before .before .before .before .before .before .before .before .before .before .before .before .whitespace0 .ensures)) (on _ (keyword-took (c .before .before .before .before .before .before .before .before .before .before .before .rest-at2 .ensures) (c .before .before .before .before .before .before .before .command .given .1) (ascii "command") (c .before .before .before .before .before .before .before .before .before .keyword .ensures)) (lose _ _ (c .level-lost .result) (c .before .before .before .before .before .rest-at3 .ensures) (level-or-lost 1 (c .before .before .before .before .invoke-access .ensures) (c .before .before .before .level-or .ensures) (c .level-lost .ensures) (c .before .enum-told2 .given .1)))))))
+
+rest-at-requires-4 : tie.Need-rest-at-requires-4
+rest-at-requires-4 c κs = omega (arith, ((level-or-took 1 (c .before .before .before .before .invoke-access .ensures) (c .before .before .before .level-or .ensures) (chain-then whitespace0-chain (chain-inside (access-to-inside (ascii "invoke")))) (omega arith) (c .before .before .before .before .before .rest-at3 .ensures) (c .before .access .given .1)) .step) .up, ((level-or-took 1 (c .before .before .before .before .invoke-access .ensures) (c .before .before .before .level-or .ensures) (chain-then whitespace0-chain (chain-inside (access-to-inside (ascii "invoke")))) (omega arith) (c .before .before .before .before .before .rest-at3 .ensures) (c .before .access .given .1)) .step) .inside, c .before .before .before .before .before .rest-at3 .ensures .from)
+
+whitespace0-requires-2 : tie.Need-whitespace0-requires-2
+whitespace0-requires-2 c κs = omega (arith, c .rest-at4 .ensures .size, c .before .before .before .before .before .before .before .before .before .before .before .before .before .before .before .before .before .pre)
+
+rest-at-requires-5 : tie.Need-rest-at-requires-5
+rest-at-requires-5 c κs = omega (arith, (blank-took (c .before .rest-at4 .ensures) (c .whitespace02 .ensures)) .up, (blank-took (c .before .rest-at4 .ensures) (c .whitespace02 .ensures)) .inside, c .before .rest-at4 .ensures .from)
+
+parse-id-requires : tie.Need-parse-id-requires
+parse-id-requires c κs = omega (arith, c .rest-at5 .ensures .size, c .before .before .before .before .before .before .before .before .before .before .before .before .before .before .before .before .before .before .before .pre)
+
+enum-known-id : tie.Need-enum-known-id
+enum-known-id c = search needs
+
+enum-told-3 : tie.Need-enum-told-3
+enum-told-3 c = search needs
+
+step-lost-requires-2 : tie.Need-step-lost-requires-2
+step-lost-requires-2 c κs = search needs
+
+returns-3 : tie.Need-returns-3
+unfolding command-head
+returns-3 c = read-not _ refl tt (begin (command-head) _ _ (go _ (set-took (rest-self _ _) (c .before .before .before .before .before .before .before .before .before .before .before .before .before .before .before .before .before .before .before .before .before .keywords-set .ensures)) (on _ (blank-took (c .before .before .before .before .before .before .before .before .before .before .before .before .before .before .before .before .before .before .before .before .rest-at .ensures) (c .before .before .before .before .before .before .before .before .before .before .before .before .before .before .before .before .before .before .before .whitespace0 .ensures)) (on _ (keyword-took (c .before .before .before .before .before .before .before .before .before .before .before .before .before .before .before .before .before .before .rest-at2 .ensures) (c .before .before .before .before .before .before .before .before .before .before .before .before .before .before .command .given .1) (ascii "command") (c .before .before .before .before .before .before .before .before .before .before .before .before .before .before .before .before .keyword .ensures)) (go _ ((level-or-took 1 (c .before .before .before .before .before .before .before .before .before .before .before .invoke-access .ensures) (c .before .before .before .before .before .before .before .before .before .before .level-or .ensures) (chain-then whitespace0-chain (chain-inside (access-to-inside (ascii "invoke")))) (omega arith) (c .before .before .before .before .before .before .before .before .before .before .before .before .rest-at3 .ensures) (c .before .before .before .before .before .before .before .before .access .given .1)) .step) (on _ (blank-took (c .before .before .before .before .before .before .rest-at4 .ensures) (c .before .before .before .before .before .whitespace02 .ensures)) (lose _ _ (c .step-lost2 .result) (c .before .before .before .before .rest-at5 .ensures) (step-lost (wordAt _ _) (c .step-lost2 .ensures) (c .before .enum-told3 .given .1) _ _ _ (c .before .before .before .parse-id .ensures)))))))))
+
+returns-4 : tie.Need-returns-4
+unfolding command-head
+returns-4 c = command-head-is _ 1 _ ((level-or-took 1 (c .before .before .before .before .before .before .before .before .before .before .before .invoke-access .ensures) (c .before .before .before .before .before .before .before .before .before .before .level-or .ensures) (chain-then whitespace0-chain (chain-inside (access-to-inside (ascii "invoke")))) (omega arith) (c .before .before .before .before .before .before .before .before .before .before .before .before .rest-at3 .ensures) (c .before .before .before .before .before .before .before .before .access .given .1)) .granted) _ _ _ _ (c .before .before .before .before .before .before .before .before .before .before .before .before .before .before .before .before .before .before .before .before .before .keywords-set .ensures .small) ((level-or-took 1 (c .before .before .before .before .before .before .before .before .before .before .before .invoke-access .ensures) (c .before .before .before .before .before .before .before .before .before .before .level-or .ensures) (chain-then whitespace0-chain (chain-inside (access-to-inside (ascii "invoke")))) (omega arith) (c .before .before .before .before .before .before .before .before .before .before .before .before .rest-at3 .ensures) (c .before .before .before .before .before .before .before .before .access .given .1)) .small) (omega (arith, (blank-took (c .before .before .before .before .before .before .rest-at4 .ensures) (c .before .before .before .before .before .whitespace02 .ensures)) .up, c .before .before .before .before .before .before .rest-at4 .ensures .from)) (omega (arith, (word-took (c .before .before .before .before .rest-at5 .ensures) (c .before .id .given .1) (c .before .before .before .parse-id .ensures)) .up)) ((level-or-took 1 (c .before .before .before .before .before .before .before .before .before .before .before .invoke-access .ensures) (c .before .before .before .before .before .before .before .before .before .before .level-or .ensures) (chain-then whitespace0-chain (chain-inside (access-to-inside (ascii "invoke")))) (omega arith) (c .before .before .before .before .before .before .before .before .before .before .before .before .rest-at3 .ensures) (c .before .before .before .before .before .before .before .before .access .given .1)) .is) (begin (command-head) _ _ (go _ (set-took (rest-self _ _) (c .before .before .before .before .before .before .before .before .before .before .before .before .before .before .before .before .before .before .before .before .before .keywords-set .ensures)) (on _ (blank-took (c .before .before .before .before .before .before .before .before .before .before .before .before .before .before .before .before .before .before .before .before .rest-at .ensures) (c .before .before .before .before .before .before .before .before .before .before .before .before .before .before .before .before .before .before .before .whitespace0 .ensures)) (on _ (keyword-took (c .before .before .before .before .before .before .before .before .before .before .before .before .before .before .before .before .before .before .rest-at2 .ensures) (c .before .before .before .before .before .before .before .before .before .before .before .before .before .before .command .given .1) (ascii "command") (c .before .before .before .before .before .before .before .before .before .before .before .before .before .before .before .before .keyword .ensures)) (go _ ((level-or-took 1 (c .before .before .before .before .before .before .before .before .before .before .before .invoke-access .ensures) (c .before .before .before .before .before .before .before .before .before .before .level-or .ensures) (chain-then whitespace0-chain (chain-inside (access-to-inside (ascii "invoke")))) (omega arith) (c .before .before .before .before .before .before .before .before .before .before .before .before .rest-at3 .ensures) (c .before .before .before .before .before .before .before .before .access .given .1)) .step) (on _ (blank-took (c .before .before .before .before .before .before .rest-at4 .ensures) (c .before .before .before .before .before .whitespace02 .ensures)) (go _ (word-took (c .before .before .before .before .rest-at5 .ensures) (c .before .id .given .1) (c .before .before .before .parse-id .ensures)) (done _ _ _ _))))))))
+
+pub command-head-spec : {M : Type 1} → statement M
+command-head-spec =
+    tie.close
+    (tie.spec
+    keywords-set-requires
+    rest-at-requires
+    whitespace0-requires
+    rest-at-requires-2
+    slice-aggregate-keyword
+    keyword-requires
+    enum-known-command
+    enum-told
+    step-lost-requires
+    returns
+    rest-at-requires-3
+    invoke-access-requires
+    level-or-requires
+    enum-known-access
+    enum-told-2
+    level-lost-requires
+    returns-2
+    rest-at-requires-4
+    whitespace0-requires-2
+    rest-at-requires-5
+    parse-id-requires
+    enum-known-id
+    enum-told-3
+    step-lost-requires-2
+    returns-3
+    returns-4)

@@ -1,0 +1,30 @@
+use borrow.Author.Needs.{needs}
+use Rattle.items.proofs.members.level_or.Statement.{statement}
+use Rattle.items.proofs.members.level_or.Tie as tie
+use Rattle.items.proofs.members.Laws.{level-or-fail, level-or-stop}
+
+enum-known-r : tie.Need-enum-known-r
+enum-known-r c = search needs
+
+enum-told : tie.Need-enum-told
+enum-told c = search needs
+
+returns : tie.Need-returns
+returns c = search needs
+
+enum-told-2 : tie.Need-enum-told-2
+enum-told-2 c = search needs
+
+enum-known-l : tie.Need-enum-known-l
+enum-known-l c = search needs
+
+returns-2 : tie.Need-returns-2
+returns-2 c = level-or-fail _ _ _ _ _ (c .before .before .before .r .given .1) (c .enum-told2 .given .1)
+
+returns-3 : tie.Need-returns-3
+returns-3 c = level-or-stop _ _ _ _ _ _ (c .before .before .before .before .r .given .1) (c .before .l .given .1)
+
+pub level-or-spec : {M : Type 1} → statement M
+level-or-spec =
+    tie.close
+    (tie.spec enum-known-r enum-told returns enum-told-2 enum-known-l returns-2 returns-3)

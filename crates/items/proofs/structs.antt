@@ -1,0 +1,2 @@
+-- Laws of the readers of fields and structs.
+pub mod Laws

@@ -1,0 +1,289 @@
+-- Fields, and structs.
+use mathlib.Core.Path.{_≡_, refl, sym, ap, _∙_, subst}
+use mathlib.Core.Bool.{Bool, true, false, false≢true}
+use mathlib.Core.Option.{Option, none, some}
+use mathlib.Core.List.{List, [], _∷_, map}
+use Prim.Native.Nat.{ℕ, _+_, _-_, _*_, _≤_, _<_, max}
+use native.Mathlib.Omega.{arith}
+use lib.Dec.{eqb}
+use lib.ListN.{take, drop}
+use Rattle.lexing.specs.bytes.{ascii, within, lower}
+use Rattle.lexing.specs.reply.{Reply, ok, fail, stop, Parser, ret, opt, _or_, further, pick}
+use Rattle.lexing.specs.words.{Word, word, bytesOf, isKeyword, isLower, keyword, any-keyword, tag}
+use Rattle.lexing.specs.word_sets.{same-bytes}
+use Rattle.lexing.specs.answers.{Rest, lostReply, wordAt, wordReply, numberReply, numberLost}
+use Rattle.lexing.specs.declared.answers.Lost.{Lost}
+use Rattle.lexing.specs.declared.answers.Lost.the-variants.{Fail, Stop}
+use Rattle.lexing.specs.declared.answers.Step.{Step}
+use Rattle.lexing.specs.declared.answers.Step.the-variants.{Next, Not}
+use Rattle.lexing.specs.declared.integers.Number.{Number}
+use Rattle.lexing.specs.declared.integers.Number.the-variants.{Value, NoNumber}
+use Rattle.lexing.proofs.Tests.{false-if}
+use Rattle.lexing.proofs.Locality.{chain-opt, chain-many0}
+use Rattle.lexing.proofs.TokenLocality.{any-keyword-chain}
+use Rattle.lexing.proofs.Onward.{Onward}
+use Rattle.lexing.proofs.Slicing.{Took, took, walks, reads-in, told-next, told-not}
+use Rattle.lexing.proofs.words.Laws.{keyword-says}
+use Rattle.lexing.proofs.word_sets.Laws.{same-eq, like-keyword}
+use Rattle.items.specs.entries.{present}
+use Rattle.items.specs.structs.{StructField as StructFieldOf, max-length, list-marker, parse-field, parse-struct-field, closed-field, fields-run, struct-fields, regular, response-code, struct-kind, struct-type-of, StructHead, struct-head, parse-struct-after-doc-maturity}
+use Rattle.items.specs.records.{bits, value, each, word-extent, plain, documented, field-record, struct-number, response-of, struct-records}
+use Rattle.items.specs.layout.{layout-20, record-words, catalogue-words, word-count}
+use Rattle.items.specs.answers.{optionOf, wordBetween, Front}
+use Rattle.items.specs.answers.structs.{fieldAt, fieldAnswer, fieldLost, FieldBetween, fieldWithin, FieldTo, structFieldAt, structFieldAnswer, structFieldLost, StructFieldBetween, structFieldWithin, StructFieldTo, typeOf, headAt, headAnswer, headLost, HeadBetween, headWithin, StructHeadTo}
+use Rattle.items.specs.inner.structs.{lengthReply, lengthLost, optionalLength, MarkerTo, kindBy, typeBy, struct-words, StructWordTo, codeReply}
+use Rattle.items.specs.declared.structs.FieldParts.{FieldParts}
+use Rattle.items.specs.declared.structs.FieldRead.{FieldRead}
+use Rattle.items.specs.declared.structs.FieldRead.the-variants.{Field, NoField}
+use Rattle.items.specs.declared.structs.StructFieldParts.{StructFieldParts}
+use Rattle.items.specs.declared.structs.StructFieldRead.{StructFieldRead}
+use Rattle.items.specs.declared.structs.StructFieldRead.the-variants.{StructField, NoStructField}
+use Rattle.items.specs.declared.structs.MaxLength.{MaxLength}
+use Rattle.items.specs.declared.structs.MaxLength.the-variants.{Length, NoLength}
+use Rattle.items.specs.declared.structs.Marker.{Marker}
+use Rattle.items.specs.declared.structs.StructKind.{StructKind}
+use Rattle.items.specs.declared.structs.StructKind.the-variants.{Regular, Request, Response, Shared}
+use Rattle.items.specs.declared.structs.StructWord.{StructWord}
+use Rattle.items.specs.declared.structs.StructHeadParts.{StructHeadParts}
+use Rattle.items.specs.declared.structs.StructHeadRead.{StructHeadRead}
+use Rattle.items.specs.declared.structs.StructHeadRead.the-variants.{Head, NoHead}
+use Rattle.items.proofs.Locality.{max-length-local, list-marker-local, parse-field-inside, parse-struct-field-inside, closed-field-inside, closed-field-consumes, struct-fields-local, struct-type-of-local, struct-head-local}
+use Rattle.items.proofs.RecordWords.{map-elementwise}
+use Rattle.items.proofs.Answers.{read-within, read-took, read-lost}
+use Rattle.items.proofs.Headed.{Headed}
+use Rattle.items.proofs.WordBetween.{word-moved}
+use Rattle.items.proofs.counts.Laws.{Counting, counting-more}
+use Rattle.items.proofs.optional.Laws.{opt-ok, opt-fail, opt-stop}
+
+-- the two ways of a length that is absent
+pub length-fail : (r : Number) (b : ℕ) (l k : Lost) (p : ℕ) → r ≡ NoNumber l → k ≡ numberLost r → k ≡ Fail p → Length false 0 b ≡ optionalLength r b
+length-fail r b l k p e f g =
+    let z : l ≡ Fail p = sym (f ∙ ap numberLost e) ∙ g in
+    sym (ap (λ (x : Number). optionalLength x b) (e ∙ ap NoNumber z))
+
+pub length-stop : (r : Number) (b : ℕ) (l k : Lost) (n p : ℕ) → r ≡ NoNumber l → k ≡ numberLost r → k ≡ Stop n p → NoLength (Stop n p) ≡ optionalLength r b
+length-stop r b l k n p e f g =
+    let z : l ≡ Stop n p = sym (f ∙ ap numberLost e) ∙ g in
+    sym (ap (λ (x : Number). optionalLength x b) (e ∙ ap NoNumber z))
+
+pub length-there : (r : Number) (b v c : ℕ) → r ≡ Value v c → Length true v c ≡ optionalLength r b
+length-there r b v c e = sym (ap (λ (x : Number). optionalLength x b) e)
+
+-- the answer of a length that may be absent
+optional-reads : (m : Parser ℕ) (a : Number) (b : ℕ) (u : List ℕ) → numberReply a b u ≡ m b u → lengthReply (optionalLength a b) b u ≡ opt m b u
+optional-reads m (Value v c) b u h = opt-ok m b u v c (drop (c - b) u) h
+optional-reads m (NoNumber (Fail p)) b u h = let z : b - b ≡ 0 = omega arith in rw z (opt-fail m b u p h)
+optional-reads m (NoNumber (Stop n p)) b u h = opt-stop m b u n p h
+
+module _ (n : ℕ) (r : List ℕ) (a : Number) {x : MaxLength} (h : numberReply a n r ≡ max-length n r) (d : x ≡ optionalLength a n) where
+  length-reads : lengthReply x n r ≡ opt max-length n r
+  length-reads = subst (λ (y : MaxLength). lengthReply y n r ≡ opt max-length n r) (sym d) (optional-reads max-length a n r h)
+
+  pub length-took : {b : ℕ} {u : List ℕ} {t : Bool} {v c : ℕ} → Rest b u n r → x ≡ Length t v c → Took (opt max-length) b u n (optionOf t v) c
+  length-took q e = took (walks (chain-opt (max-length-local .on-chain))) q (subst (λ (y : MaxLength). lengthReply y n r ≡ opt max-length n r) e length-reads)
+
+  pub length-none : {l l' : Lost} → l' ≡ lengthLost x → x ≡ NoLength l → lostReply l' ≡ opt max-length n r
+  length-none {l} {l'} e f =
+      let z : l' ≡ l = e ∙ ap lengthLost f in
+      ap (λ (y : Lost). lostReply y) z ∙ subst (λ (y : MaxLength). lengthReply y n r ≡ opt max-length n r) f length-reads
+
+-- a tag never stops
+tag-calm : (t b : ℕ) (u : List ℕ) (n p : ℕ) → stop n p ≡ tag t b u → ⊥
+unfolding tag
+tag-calm t b [] n p e = let z : _≡_ {A = ℕ} 0 1 = cc in omega arith
+tag-calm t b (x ∷ u) n p e = go (eqb x t) refl
+  where
+    go : (y : Bool) → eqb x t ≡ y → ⊥
+    go true q = let k = rw (q, tag) at e in let z : _≡_ {A = ℕ} 0 1 = cc in omega arith
+    go false q = let k = rw (q, tag) at e in let z : _≡_ {A = ℕ} 0 1 = cc in omega arith
+
+-- the two ways of a list's marker
+pub marker-none : (t n : ℕ) (r : List ℕ) (l : Lost) (b : ℕ) (u : List ℕ) → lostReply l ≡ tag t n r → lostReply l ≡ list-marker b u → MarkerTo (record { list = false; next = b }) b u
+marker-none t n r (Fail p) b u h e = let z : b - b ≡ 0 = omega arith in record { reads = rw z (opt-fail list-marker b u p e); up = omega arith; inside = omega arith }
+marker-none t n r (Stop i p) b u h e = absurd (tag-calm t n r i p h)
+
+pub marker-is : (b c : ℕ) (u : List ℕ) → ok tt c (drop (c - b) u) ≡ list-marker b u → MarkerTo (record { list = true; next = c }) b u
+marker-is b c u e =
+    let p = reads-in (walks (list-marker-local .on-chain)) b c u tt e in
+    record { reads = opt-ok list-marker b u tt c (drop (c - b) u) e; up = p .0; inside = p .1 }
+
+pub marker-took : {b n : ℕ} {u r : List ℕ} {t : Marker} → Rest b u n r → MarkerTo t n r → Took (opt list-marker) b u n (optionOf (t .list) tt) (t .next)
+marker-took q h = took (walks (chain-opt (list-marker-local .on-chain))) q (h .reads)
+
+present-is : (x : Bool) → present (optionOf {A = Unit {0}} x tt) ≡ x
+unfolding present
+present-is true = refl
+present-is false = refl
+
+-- the ways of a field
+pub field-is : (b : ℕ) (u : List ℕ) (f : FieldParts) (c : ℕ)
+    → ok (record { data-type = wordBetween b u (f .«type_at») (f .«type_end»); maximum = optionOf (f .«has_maximum») (f .maximum); name = wordBetween b u (f .name) (f .end); list = present (optionOf {A = Unit {0}} (f .list) tt); code = f .code }) c (drop (c - b) u) ≡ parse-field b u
+    → FieldBetween b f c → FieldTo (Field f c) b u
+field-is b u f c h w = record { reads = rw (present-is (f .list)) at h; within = w }
+
+-- a field, seen from the part's start
+field-moved : (b n : ℕ) (u r : List ℕ) (f : FieldParts) (c : ℕ) → Rest b u n r → FieldBetween n f c → fieldAt n r f ≡ fieldAt b u f
+field-moved b n u r f c q h =
+    ap (λ (w : Word). record { data-type = w; maximum = optionOf (f .«has_maximum») (f .maximum); name = wordBetween n r (f .name) (f .end); list = f .list; code = f .code }) (word-moved b n u r (f .«type_at») (f .«type_end») q (h .type-from))
+    ∙ ap (λ (w : Word). record { data-type = wordBetween b u (f .«type_at») (f .«type_end»); maximum = optionOf (f .«has_maximum») (f .maximum); name = w; list = f .list; code = f .code }) (word-moved b n u r (f .name) (f .end) q (omega (arith, h .type-from, h .type-to, h .name-from)))
+
+module _ {b n : ℕ} {u r : List ℕ} {a : FieldRead} (q : Rest b u n r) (h : FieldTo a n r) where
+  pub field-between : {f : FieldParts} {c : ℕ} → a ≡ Field f c → FieldBetween n f c
+  field-between e = read-within h e
+
+  pub field-took : {f : FieldParts} {c : ℕ} → a ≡ Field f c → Took parse-field b u n (fieldAt b u f) c
+  field-took {f} {c} e = rw (← field-moved b n u r f c q (field-between e)) (read-took h e (walks (parse-field-inside .on-chain)) q refl)
+
+  pub field-none : {l l' : Lost} → l' ≡ fieldLost a → a ≡ NoField l → lostReply l' ≡ parse-field n r
+  field-none e d = read-lost h d fieldLost e refl
+
+-- a field that was read further on, and the bytes behind it
+pub between-wider : {b n : ℕ} {f : FieldParts} {c d : ℕ} → b ≤ n → c ≤ d → FieldBetween n f c → FieldBetween b f d
+between-wider h k w = record { type-from = omega (arith, w .type-from); type-to = w .type-to; name-from = w .name-from; name-to = w .name-to; before = omega (arith, w .before) }
+
+module _ {m : Parser StructFieldOf} (w : Onward m) {b n : ℕ} {u r : List ℕ} {a : StructFieldRead} (q : Rest b u n r) (h : StructFieldTo m a n r) where
+  pub struct-field-between : {s : StructFieldParts} {c : ℕ} → a ≡ StructField s c → StructFieldBetween n s c
+  struct-field-between e = read-within h e
+
+  pub struct-field-took : {s : StructFieldParts} {c : ℕ} → a ≡ StructField s c → Took m b u n (structFieldAt b u s) c
+  struct-field-took {s} {c} e = rw (← field-moved b n u r (s .field) c q (struct-field-between e .between)) (read-took h e w q refl)
+
+  pub struct-field-none : {l l' : Lost} → l' ≡ structFieldLost a → a ≡ NoStructField l → lostReply l' ≡ m n r
+  struct-field-none e d = read-lost h d structFieldLost e refl
+
+pub parse-struct-field-on : Onward parse-struct-field
+parse-struct-field-on = walks (parse-struct-field-inside .on-chain)
+
+pub closed-field-on : Onward closed-field
+closed-field-on = walks (closed-field-inside .on-chain)
+
+pub fields-run-on : Onward fields-run
+unfolding fields-run
+fields-run-on = walks (chain-many0 (closed-field-inside .on-chain))
+
+-- four words a field
+field-words : (f : StructFieldOf) → word-count (field-record f ∷ []) ≡ 4
+unfolding word-count catalogue-words each record-words layout-20 field-record plain
+field-words f = refl
+
+-- a turn of the first pass
+pub count-field : {b c n d : ℕ} {u : List ℕ} (a : StructFieldOf) → Counting (map field-record) closed-field b u c n → Took closed-field b u c a d → Counting (map field-record) closed-field b u d (n + 4) × (c < d)
+count-field a i t = counting-more (map-elementwise field-record) closed-field closed-field-consumes a i t (field-words a) (λ h. omega arith)
+
+-- the word before a struct: in lower case it is the keyword, in another case it says nothing
+other-case : (w k : List ℕ) → isLower k ≡ true → isLower w ≡ false → same-bytes w k ≡ false
+other-case w k h e = false-if (same-bytes w k) (λ q. false≢true (sym e ∙ (ap (λ v. isLower v) (same-eq w k q) ∙ h)))
+
+other-kind : (w : List ℕ) → isLower w ≡ false → struct-kind w ≡ ret regular
+unfolding struct-kind pick isKeyword lower within
+other-kind w e = rw (other-case w (ascii "request") refl e, other-case w (ascii "response") refl e, other-case w (ascii "shared") refl e)
+
+pub request-kind : struct-kind (ascii "request") ≡ typeBy Request
+unfolding struct-kind pick same-bytes typeBy
+request-kind = refl
+
+pub response-kind : struct-kind (ascii "response") ≡ typeBy Response
+unfolding struct-kind pick same-bytes typeBy
+response-kind = refl
+
+pub shared-kind : struct-kind (ascii "shared") ≡ typeBy Shared
+unfolding struct-kind pick same-bytes typeBy
+shared-kind = refl
+
+kind-means : (w k : List ℕ) (x : StructKind) → isKeyword w k ≡ true → struct-kind k ≡ typeBy x → struct-kind w ≡ typeBy (kindBy (isLower w) x)
+unfolding typeBy
+kind-means w k x i s = go (isLower w) refl
+  where
+    go : (t : Bool) → isLower w ≡ t → struct-kind w ≡ typeBy (kindBy (isLower w) x)
+    go true e = rw e (ap struct-kind (same-eq w k (like-keyword w k i ∙ e)) ∙ s)
+    go false e = rw e (other-kind w e)
+
+-- the keyword k, which says the kind x
+pub word-is : (k : List ℕ) (x t : StructKind) (b c : ℕ) (u : List ℕ) (a : Step) → wordReply a b u ≡ keyword k b u → a ≡ Next c → struct-kind k ≡ typeBy x
+    → t ≡ kindBy (isLower (take (c - b) u)) x → ok (wordAt b u c) c (drop (c - b) u) ≡ any-keyword struct-words b u → StructWordTo (record { kind = t; next = c }) b u
+unfolding struct-type-of bytesOf
+word-is k x t b c u a h e s d r =
+    let z = told-next (wordAt b u) a c b u (keyword k b u) e h in
+    let i : isKeyword (take (c - b) u) k ≡ true = rw (← z) at (keyword-says k b u) in
+    let p = reads-in (walks (any-keyword-chain struct-words)) b c u (wordAt b u c) r in
+    record {
+      read = some (wordAt b u c);
+      reads = opt-ok (any-keyword struct-words) b u (wordAt b u c) c (drop (c - b) u) r;
+      means = rw d (kind-means (take (c - b) u) k x i s);
+      up = p .0;
+      inside = p .1;
+    }
+
+-- and none
+pub none-of : {A : Type 0} (m k : Parser A) (b : ℕ) (u : List ℕ) → (p : ℕ) × (fail p ≡ m b u) → (p : ℕ) × (fail p ≡ k b u) → (p : ℕ) × (fail p ≡ (m or k) b u)
+unfolding _or_ further
+none-of m k b u x y = (max (x .0) (y .0), rw (sym (x .1), _or_) (rw (← y .1)))
+
+pub keyword-missing : (k : List ℕ) (b : ℕ) (u : List ℕ) (a : Step) → wordReply a b u ≡ keyword k b u → (l : Lost) → a ≡ Not l → (p : ℕ) × (fail p ≡ keyword k b u)
+keyword-missing k b u a h (Fail p) e = (p, told-not (wordAt b u) a (Fail p) b u (keyword k b u) e h)
+keyword-missing k b u a h (Stop n p) e = absurd (rw (← told-not (wordAt b u) a (Stop n p) b u (keyword k b u) e h) at (keyword-says k b u))
+
+none-left : (b : ℕ) (u : List ℕ) → (p : ℕ) × (fail p ≡ any-keyword [] b u)
+unfolding any-keyword
+none-left b u = (b, refl)
+
+pub word-none : (b : ℕ) (u : List ℕ) → (p : ℕ) × (fail p ≡ keyword (ascii "request") b u) → (p : ℕ) × (fail p ≡ keyword (ascii "response") b u) → (p : ℕ) × (fail p ≡ keyword (ascii "shared") b u)
+    → StructWordTo (record { kind = Regular; next = b }) b u
+unfolding any-keyword struct-type-of typeBy
+word-none b u x y z =
+    let e = none-of _ _ b u x (none-of _ _ b u y (none-of _ _ b u z (none-left b u))) in
+    let o : b - b ≡ 0 = omega arith in
+    record { read = none; reads = rw o (opt-fail (any-keyword struct-words) b u (e .0) (e .1)); means = refl; up = omega arith; inside = omega arith }
+
+pub struct-word-took : {b n : ℕ} {u r : List ℕ} {t : StructWord} → Rest b u n r → (h : StructWordTo t n r) → Took (opt (any-keyword struct-words)) b u n (h .read) (t .next)
+struct-word-took q h = took (walks (chain-opt (any-keyword-chain struct-words))) q (h .reads)
+
+-- the code of a struct that has none
+pub no-code : (k : StructKind) (x : StructKind) (b : ℕ) (u : List ℕ) → k ≡ x → ok (typeOf x 0) b u ≡ typeBy x b u → codeReply k (Value 0 b) b u ≡ typeBy k b u
+no-code k x b u e h =
+    let z : b - b ≡ 0 = omega arith in
+    let y : codeReply x (Value 0 b) b u ≡ typeBy x b u = rw z h in
+    subst (λ (j : StructKind). codeReply j (Value 0 b) b u ≡ typeBy j b u) (sym e) y
+
+pub is-code : (k : StructKind) (b : ℕ) (u : List ℕ) (a : Number) → k ≡ Response → codeReply Response a b u ≡ response-code b u → codeReply k a b u ≡ typeBy k b u
+unfolding typeBy
+is-code k b u a e h = subst (λ (j : StructKind). codeReply j a b u ≡ typeBy j b u) (sym e) h
+
+module _ (k : Option Word) (x : StructKind) (s : struct-type-of k ≡ typeBy x) (n : ℕ) (r : List ℕ) (a : Number) (h : codeReply x a n r ≡ typeBy x n r) where
+  type-reads : codeReply x a n r ≡ struct-type-of k n r
+  type-reads = rw s h
+
+  pub type-took : {b : ℕ} {u : List ℕ} {v c : ℕ} → Rest b u n r → a ≡ Value v c → Took (struct-type-of k) b u n (typeOf x v) c
+  type-took {b} {u} {v} {c} q e = took (walks (struct-type-of-local k .on-chain)) q (subst (λ (y : Number). codeReply x y n r ≡ struct-type-of k n r) e type-reads)
+
+  pub type-none : {l l' : Lost} → l' ≡ numberLost a → a ≡ NoNumber l → lostReply l' ≡ struct-type-of k n r
+  type-none {l} {l'} e d =
+      let z : l' ≡ l = e ∙ ap numberLost d in
+      ap (λ (y : Lost). lostReply y) z ∙ subst (λ (y : Number). codeReply x y n r ≡ struct-type-of k n r) d type-reads
+
+head-moved : (b n : ℕ) (u r : List ℕ) (h : StructHeadParts) (c : ℕ) → Rest b u n r → HeadBetween n h c → headAt n r h ≡ headAt b u h
+head-moved b n u r h c q w = ap (λ (v : Word). record { head-type = typeOf (h .kind) (h .code); head-scoped = h .scoped; head-name = v }) (word-moved b n u r (h .name) (h .end) q (w .name-from))
+
+module _ {b n : ℕ} {u r : List ℕ} {a : StructHeadRead} (q : Rest b u n r) (h : StructHeadTo a n r) where
+  pub head-between : {s : StructHeadParts} {c : ℕ} → a ≡ Head s c → HeadBetween n s c
+  head-between e = read-within h e
+
+  pub head-took : {s : StructHeadParts} {c : ℕ} → a ≡ Head s c → Took struct-head b u n (headAt b u s) c
+  head-took {s} {c} e = rw (← head-moved b n u r s c q (head-between e)) (read-took h e (walks (struct-head-local .on-chain)) q refl)
+
+  pub head-none : {l l' : Lost} → l' ≡ headLost a → a ≡ NoHead l → lostReply l' ≡ struct-head n r
+  head-none e d = read-lost h d headLost e refl
+
+pub struct-fields-on : Onward struct-fields
+struct-fields-on = walks (struct-fields-local .on-chain)
+
+-- three words a struct, and those of its fields
+pub struct-headed : Headed {I = Front} (λ i. parse-struct-after-doc-maturity (i .doc) (i .maturity)) (λ i. struct-records (i .place)) struct-head struct-fields (map field-record) 3
+unfolding parse-struct-after-doc-maturity word-count catalogue-words each record-words layout-20 struct-records documented
+struct-headed = record {
+  make = λ i h l. record { doc = i .doc; maturity = i .maturity; struct-type = h .head-type; fabric-scoped = h .head-scoped; name = h .head-name; fields = l };
+  first = λ i h l. documented 5 (i .place) (i .maturity) (i .doc) (bits 2 (struct-number (h .head-type)) ∷ bits 1 (h .head-scoped) ∷ []) (word-extent (h .head-name)) 0 0 (value (response-of (h .head-type)) ∷ []);
+  reads = λ i. refl;
+  hands = λ i h l. refl;
+  size = λ i h l. refl;
+}

@@ -1,0 +1,41 @@
+use borrow.Author.Needs.{needs}
+use Rattle.items.proofs.structs.optional_length.Statement.{statement}
+use Rattle.items.proofs.structs.optional_length.Tie as tie
+use Rattle.items.proofs.structs.Laws.{length-there, length-fail, length-stop}
+
+enum-known-r : tie.Need-enum-known-r
+enum-known-r c = search needs
+
+returns : tie.Need-returns
+returns c = length-there _ _ _ _ (c .before .r .given .1)
+
+enum-told : tie.Need-enum-told
+enum-told c = search needs
+
+number-lost-requires : tie.Need-number-lost-requires
+number-lost-requires c κs = search needs
+
+enum-told-2 : tie.Need-enum-told-2
+enum-told-2 c = search needs
+
+enum-known-l : tie.Need-enum-known-l
+enum-known-l c = search needs
+
+returns-2 : tie.Need-returns-2
+returns-2 c = length-fail _ _ _ _ _ (c .before .before .before .enum-told .given .1) (c .before .before .number-lost .ensures) (c .enum-told2 .given .1)
+
+returns-3 : tie.Need-returns-3
+returns-3 c = length-stop _ _ _ _ _ _ (c .before .before .before .before .enum-told .given .1) (c .before .before .before .number-lost .ensures) (c .before .l .given .1)
+
+pub optional-length-spec : {M : Type 1} → statement M
+optional-length-spec =
+    tie.close
+    (tie.spec
+    enum-known-r
+    returns
+    enum-told
+    number-lost-requires
+    enum-told-2
+    enum-known-l
+    returns-2
+    returns-3)

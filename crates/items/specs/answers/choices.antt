@@ -1,0 +1,42 @@
+-- What the answers of the readers of enums and bitmaps say, as replies of the definitions.
+use Prim.Native.Nat.{ℕ, _≤_, _<_}
+use mathlib.Core.List.{List}
+use Rattle.lexing.specs.answers.{Answer, got, lost}
+use Rattle.lexing.specs.declared.answers.Lost.{Lost}
+use Rattle.lexing.specs.declared.answers.Lost.the-variants.{Fail}
+use Rattle.items.specs.entries.{ChoiceHead as ChoiceHeadOf, choice-head, choice-after-doc-maturity}
+use Rattle.items.specs.records.{choice-records}
+use Rattle.items.specs.answers.{ReadTo, wordBetween, Front, CountsTo}
+use Rattle.items.specs.declared.counts.Count.{Count}
+use Rattle.items.specs.declared.choices.ChoiceHeadParts.{ChoiceHeadParts}
+use Rattle.items.specs.declared.choices.ChoiceHeadRead.{ChoiceHeadRead}
+use Rattle.items.specs.declared.choices.ChoiceHeadRead.the-variants.{ChoiceHead, NoChoiceHead}
+
+-- an enum or a bitmap up to its entries
+abbrev pub choiceHeadAt : ℕ → List ℕ → ChoiceHeadParts → ChoiceHeadOf
+choiceHeadAt b u h = record { head-shared = h .shared; head-name = wordBetween b u (h .name) (h .end); head-base = wordBetween b u (h .«base_at») (h .«base_end») }
+
+abbrev pub choiceHeadAnswer : ℕ → List ℕ → ChoiceHeadRead → Answer ChoiceHeadOf
+choiceHeadAnswer b u (ChoiceHead h c) = got (choiceHeadAt b u h) c
+choiceHeadAnswer b u (NoChoiceHead l) = lost l
+
+abbrev pub choiceHeadLost : ChoiceHeadRead → Lost
+choiceHeadLost (ChoiceHead h c) = Fail c
+choiceHeadLost (NoChoiceHead l) = l
+
+pub record ChoiceHeadBetween (b : ℕ) (h : ChoiceHeadParts) (c : ℕ) : Type 0 where
+  pub name-from : b ≤ h .name
+  pub name-to : h .name < h .end
+  pub base-from : h .end ≤ h .«base_at»
+  pub base-to : h .«base_at» ≤ h .«base_end»
+  pub before : h .«base_end» ≤ c
+
+abbrev pub choiceHeadWithin : ℕ → ChoiceHeadRead → Type 0
+choiceHeadWithin b (ChoiceHead h c) = ChoiceHeadBetween b h c
+choiceHeadWithin b (NoChoiceHead l) = Unit {0}
+
+abbrev pub ChoiceHeadTo : List ℕ → ChoiceHeadRead → ℕ → List ℕ → Type 0
+ChoiceHeadTo k r b u = ReadTo choiceHeadAnswer choiceHeadWithin (choice-head k) r b u
+
+abbrev pub ChoiceCountTo : List ℕ → Count → ℕ → List ℕ → Type 0
+ChoiceCountTo k r b u = CountsTo {I = Front} (λ i. choice-records (i .kind) (i .place)) (λ i. choice-after-doc-maturity k (i .doc) (i .maturity)) r b u

@@ -1,0 +1,161 @@
+-- What the answers of the readers of endpoints say, as replies of the definitions.
+use Prim.Native.Nat.{ℕ, _+_, _≤_, _<_}
+use mathlib.Core.List.{List}
+use mathlib.Core.Option.{Option, none, some}
+use Rattle.lexing.specs.reply.{Parser, _>>_, opt}
+use Rattle.lexing.specs.words.{Word}
+use Rattle.lexing.specs.integers.{signed}
+use Rattle.lexing.specs.blanks.{whitespace1}
+use Rattle.lexing.specs.strings.{span}
+use Rattle.lexing.specs.answers.{Answer, got, lost}
+use Rattle.lexing.specs.declared.answers.Lost.{Lost}
+use Rattle.lexing.specs.declared.answers.Lost.the-variants.{Fail, Stop}
+use Rattle.items.specs.endpoints.{DeviceType as DeviceTypeOf, device-type, Default as DefaultOf, number, signed-number, truth, text, default-attribute-value, attribute-handling-type, AttributeInstance as AttributeInstanceOf, attribute-instantiation}
+use Rattle.items.specs.answers.{ReadTo, NameIn, wordBetween}
+use Rattle.items.specs.declared.endpoints.Named.{Named}
+use Rattle.items.specs.declared.endpoints.Named.the-variants.{Name, NoName}
+use Rattle.items.specs.declared.endpoints.DeviceTypeParts.{DeviceTypeParts}
+use Rattle.items.specs.declared.endpoints.DeviceTypeRead.{DeviceTypeRead}
+use Rattle.items.specs.declared.endpoints.DeviceTypeRead.the-variants.{DeviceType, NoDeviceType}
+use Rattle.items.specs.declared.endpoints.HandlingRead.{HandlingRead}
+use Rattle.items.specs.declared.endpoints.HandlingRead.the-variants.{Handling, NoHandling}
+use Rattle.items.specs.declared.endpoints.DefaultValue.{DefaultValue}
+use Rattle.items.specs.declared.endpoints.DefaultValue.the-variants.{Number, Signed, Truth, Text}
+use Rattle.items.specs.declared.endpoints.ValueRead.{ValueRead}
+use Rattle.items.specs.declared.endpoints.ValueRead.the-variants.{Read, NoValue}
+use Rattle.items.specs.declared.endpoints.Default.{Default}
+use Rattle.items.specs.declared.endpoints.Default.the-variants.{Absent, Present}
+use Rattle.items.specs.declared.endpoints.DefaultRead.{DefaultRead}
+use Rattle.items.specs.declared.endpoints.DefaultRead.the-variants.{Optional, NoDefault}
+use Rattle.items.specs.declared.endpoints.AttributeInstanceParts.{AttributeInstanceParts}
+use Rattle.items.specs.declared.endpoints.AttributeInstanceRead.{AttributeInstanceRead}
+use Rattle.items.specs.declared.endpoints.AttributeInstanceRead.the-variants.{AttributeInstance, NoAttributeInstance}
+
+-- names
+abbrev pub namedAnswer : ℕ → List ℕ → Named → Answer Word
+namedAnswer b u (Name n e c) = got (wordBetween b u n e) c
+namedAnswer b u (NoName l) = lost l
+
+abbrev pub namedLost : Named → Lost
+namedLost (Name n e c) = Fail c
+namedLost (NoName l) = l
+
+abbrev pub NamedIn : ℕ → Named → Type 0
+NamedIn b (Name n e c) = NameIn b n e c
+NamedIn b (NoName l) = Unit {0}
+
+abbrev pub NamedTo : Parser Word → Named → ℕ → List ℕ → Type 0
+NamedTo m r b u = ReadTo namedAnswer NamedIn m r b u
+
+-- device types
+abbrev pub deviceTypeAt : ℕ → List ℕ → DeviceTypeParts → DeviceTypeOf
+deviceTypeAt b u t = record { name = wordBetween b u (t .name) (t .end); code = t .code; version = t .version }
+
+abbrev pub deviceTypeAnswer : ℕ → List ℕ → DeviceTypeRead → Answer DeviceTypeOf
+deviceTypeAnswer b u (DeviceType t c) = got (deviceTypeAt b u t) c
+deviceTypeAnswer b u (NoDeviceType l) = lost l
+
+abbrev pub DeviceTypeIn : ℕ → DeviceTypeRead → Type 0
+DeviceTypeIn b (DeviceType t c) = NameIn b (t .name) (t .end) c
+DeviceTypeIn b (NoDeviceType l) = Unit {0}
+
+abbrev pub DeviceTypeTo : DeviceTypeRead → ℕ → List ℕ → Type 0
+DeviceTypeTo r b u = ReadTo deviceTypeAnswer DeviceTypeIn device-type r b u
+
+-- handlings
+abbrev pub handlingAnswer : ℕ → List ℕ → HandlingRead → Answer ℕ
+handlingAnswer b u (Handling h c) = got h c
+handlingAnswer b u (NoHandling l) = lost l
+
+abbrev pub handlingLost : HandlingRead → Lost
+handlingLost (Handling h c) = Fail c
+handlingLost (NoHandling l) = l
+
+abbrev pub HandlingIn : ℕ → HandlingRead → Type 0
+HandlingIn b (Handling h c) = h < 3
+HandlingIn b (NoHandling l) = Unit {0}
+
+abbrev pub HandlingTo : HandlingRead → ℕ → List ℕ → Type 0
+HandlingTo r b u = ReadTo handlingAnswer HandlingIn attribute-handling-type r b u
+
+-- values of defaults
+abbrev pub valueOf : DefaultValue → DefaultOf
+valueOf (Number n) = number n
+valueOf (Signed m n) = signed-number (signed m n)
+valueOf (Truth t) = truth t
+valueOf (Text s) = text (span (s .start) (s .length))
+
+-- a string's span ends before c
+abbrev pub SpanIn : DefaultValue → ℕ → Type 0
+SpanIn (Number n) c = Unit {0}
+SpanIn (Signed m n) c = Unit {0}
+SpanIn (Truth t) c = Unit {0}
+SpanIn (Text s) c = s .start + s .length < c
+
+abbrev pub valueAnswer : ℕ → List ℕ → ValueRead → Answer DefaultOf
+valueAnswer b u (Read v c) = got (valueOf v) c
+valueAnswer b u (NoValue l) = lost l
+
+abbrev pub valueLost : ValueRead → Lost
+valueLost (Read v c) = Fail c
+valueLost (NoValue l) = l
+
+abbrev pub ValueIn : ℕ → ValueRead → Type 0
+ValueIn b (Read v c) = SpanIn v c
+ValueIn b (NoValue l) = Unit {0}
+
+abbrev pub ValueTo : Parser DefaultOf → ValueRead → ℕ → List ℕ → Type 0
+ValueTo m r b u = ReadTo valueAnswer ValueIn m r b u
+
+-- defaults, which may be absent
+abbrev pub defaultOf : Default → Option DefaultOf
+defaultOf Absent = none
+defaultOf (Present v) = some (valueOf v)
+
+abbrev pub DefaultIn : Default → ℕ → Type 0
+DefaultIn Absent c = Unit {0}
+DefaultIn (Present v) c = SpanIn v c
+
+-- the answer of a value that stands at b: where it fails nothing is read
+abbrev pub optionalValue : ValueRead → ℕ → DefaultRead
+optionalValue (Read v c) b = Optional (Present v) c
+optionalValue (NoValue (Fail p)) b = Optional Absent b
+optionalValue (NoValue (Stop n p)) b = NoDefault (Stop n p)
+
+abbrev pub defaultAnswer : ℕ → List ℕ → DefaultRead → Answer (Option DefaultOf)
+defaultAnswer b u (Optional d c) = got (defaultOf d) c
+defaultAnswer b u (NoDefault l) = lost l
+
+abbrev pub defaultLost : DefaultRead → Lost
+defaultLost (Optional d c) = Fail c
+defaultLost (NoDefault l) = l
+
+abbrev pub DefaultReadIn : ℕ → DefaultRead → Type 0
+DefaultReadIn b (Optional d c) = DefaultIn d c
+DefaultReadIn b (NoDefault l) = Unit {0}
+
+abbrev pub OptionalTo : Parser DefaultOf → DefaultRead → ℕ → List ℕ → Type 0
+OptionalTo m r b u = ReadTo defaultAnswer DefaultReadIn (opt m) r b u
+
+abbrev pub DefaultTo : DefaultRead → ℕ → List ℕ → Type 0
+DefaultTo r b u = OptionalTo (whitespace1 >> default-attribute-value) r b u
+
+-- instances of attributes
+abbrev pub attributeInstanceAt : ℕ → List ℕ → AttributeInstanceParts → AttributeInstanceOf
+attributeInstanceAt b u a = record { handling = a .handling; name = wordBetween b u (a .name) (a .end); default = defaultOf (a .default) }
+
+abbrev pub attributeInstanceAnswer : ℕ → List ℕ → AttributeInstanceRead → Answer AttributeInstanceOf
+attributeInstanceAnswer b u (AttributeInstance a c) = got (attributeInstanceAt b u a) c
+attributeInstanceAnswer b u (NoAttributeInstance l) = lost l
+
+pub record InstanceIn (b : ℕ) (a : AttributeInstanceParts) (c : ℕ) : Type 0 where
+  pub small : a .handling < 3
+  pub named : NameIn b (a .name) (a .end) c
+  pub spanned : DefaultIn (a .default) c
+
+abbrev pub AttributeInstanceIn : ℕ → AttributeInstanceRead → Type 0
+AttributeInstanceIn b (AttributeInstance a c) = InstanceIn b a c
+AttributeInstanceIn b (NoAttributeInstance l) = Unit {0}
+
+abbrev pub AttributeInstanceTo : AttributeInstanceRead → ℕ → List ℕ → Type 0
+AttributeInstanceTo r b u = ReadTo attributeInstanceAnswer AttributeInstanceIn attribute-instantiation r b u

@@ -1,0 +1,38 @@
+-- What the answers of the readers of entries say, as replies of the definitions.
+use Prim.Native.Nat.{ℕ, _≤_, _<_}
+use mathlib.Core.List.{List}
+use Rattle.lexing.specs.reply.{Parser}
+use Rattle.lexing.specs.answers.{Answer, got, lost}
+use Rattle.lexing.specs.declared.answers.Lost.{Lost}
+use Rattle.lexing.specs.declared.answers.Lost.the-variants.{Fail}
+use Rattle.items.specs.entries.{Entry}
+use Rattle.items.specs.answers.{ReadTo, wordBetween}
+use Rattle.items.specs.declared.entries.EntryParts.{EntryParts}
+use Rattle.items.specs.declared.entries.EntryRead.{EntryRead}
+use Rattle.items.specs.declared.entries.EntryRead.the-variants.{Read, NoEntry}
+
+-- the entry that offsets stand for, in a part that starts at b
+abbrev pub entryAt : ℕ → List ℕ → EntryParts → Entry
+entryAt b u e = record { maturity = e .maturity; name = wordBetween b u (e .name) (e .end); code = e .code }
+
+abbrev pub entryAnswer : ℕ → List ℕ → EntryRead → Answer Entry
+entryAnswer b u (Read e c) = got (entryAt b u e) c
+entryAnswer b u (NoEntry l) = lost l
+
+abbrev pub entryLost : EntryRead → Lost
+entryLost (Read e c) = Fail c
+entryLost (NoEntry l) = l
+
+-- an entry that was read from b to c names bytes there
+pub record EntryBounds (b : ℕ) (e : EntryParts) (c : ℕ) : Type 0 where
+  pub from : b ≤ e .name
+  pub up : e .name ≤ e .end
+  pub inside : e .end ≤ c
+  pub small : e .maturity < 4
+
+abbrev pub EntryWithin : ℕ → EntryRead → Type 0
+EntryWithin b (Read e c) = EntryBounds b e c
+EntryWithin b (NoEntry l) = Unit {0}
+
+abbrev pub EntryTo : Parser Entry → EntryRead → ℕ → List ℕ → Type 0
+EntryTo m r b u = ReadTo entryAnswer EntryWithin m r b u

@@ -1,0 +1,167 @@
+-- Answers of the readers of events, commands and attributes.
+use Prim.Native.Nat.{ℕ, _≤_, _<_}
+use mathlib.Core.Option.{Option}
+use mathlib.Core.List.{List}
+use lib.Dec.{ltb}
+use Rattle.lexing.specs.reply.{Parser}
+use Rattle.lexing.specs.words.{Word}
+use Rattle.lexing.specs.answers.{Answer, got, lost, docOf}
+use Rattle.lexing.specs.declared.answers.Lost.{Lost}
+use Rattle.lexing.specs.declared.answers.Lost.the-variants.{Fail, Stop}
+use Rattle.items.specs.members.{EventHead as EventHeadOf, event-head, CommandHead as CommandHeadOf, command-head, CommandTypes as CommandTypesOf, command-types, Command as CommandOf}
+use Rattle.items.specs.answers.{optionOf, ReadTo, wordBetween}
+use Rattle.items.specs.declared.members.Level.{Level}
+use Rattle.items.specs.declared.members.Level.the-variants.{Chosen, NoLevel}
+use Rattle.items.specs.declared.members.EventHeadParts.{EventHeadParts}
+use Rattle.items.specs.declared.members.EventHeadRead.{EventHeadRead}
+use Rattle.items.specs.declared.members.EventHeadRead.the-variants.{EventHead, NoEventHead}
+use Rattle.items.specs.declared.members.CommandHeadParts.{CommandHeadParts}
+use Rattle.items.specs.declared.members.CommandHeadRead.{CommandHeadRead}
+use Rattle.items.specs.declared.members.CommandHeadRead.the-variants.{CommandHead, NoCommandHead}
+use Rattle.items.specs.declared.members.CommandTypesParts.{CommandTypesParts}
+use Rattle.items.specs.declared.members.CommandTypesRead.{CommandTypesRead}
+use Rattle.items.specs.declared.members.CommandTypesRead.the-variants.{CommandTypes, NoCommandTypes}
+use Rattle.items.specs.declared.members.CommandParts.{CommandParts}
+use Rattle.items.specs.declared.members.CommandRead.{CommandRead}
+use Rattle.items.specs.declared.members.CommandRead.the-variants.{Command, NoCommand}
+
+-- the number of a keyword out of at most four
+abbrev pub levelAnswer : ℕ → List ℕ → Level → Answer ℕ
+levelAnswer b u (Chosen v c) = got v c
+levelAnswer b u (NoLevel l) = lost l
+
+abbrev pub levelLost : Level → Lost
+levelLost (Chosen v c) = Fail c
+levelLost (NoLevel l) = l
+
+abbrev pub levelSmall : ℕ → Level → Type 0
+levelSmall b (Chosen v c) = v < 4
+levelSmall b (NoLevel l) = Unit {0}
+
+abbrev pub LevelTo : Parser ℕ → Level → ℕ → List ℕ → Type 0
+LevelTo m r b u = ReadTo levelAnswer levelSmall m r b u
+
+-- an optional one that stands at b: where it fails it is z
+abbrev pub levelOr : Level → ℕ → ℕ → Level
+levelOr (Chosen v c) z b = Chosen v c
+levelOr (NoLevel (Fail p)) z b = Chosen z b
+levelOr (NoLevel (Stop n p)) z b = NoLevel (Stop n p)
+
+-- up to an event's name
+abbrev pub eventHeadOf : EventHeadParts → EventHeadOf
+eventHeadOf h = record { sensitive = h .sensitive; rank = h .rank; privilege = h .privilege }
+
+abbrev pub eventHeadAnswer : ℕ → List ℕ → EventHeadRead → Answer EventHeadOf
+eventHeadAnswer b u (EventHead h c) = got (eventHeadOf h) c
+eventHeadAnswer b u (NoEventHead l) = lost l
+
+abbrev pub eventHeadLost : EventHeadRead → Lost
+eventHeadLost (EventHead h c) = Fail c
+eventHeadLost (NoEventHead l) = l
+
+pub record SmallEventHead (h : EventHeadParts) : Type 0 where
+  pub sensitive : h .sensitive < 16
+  pub rank : h .rank < 4
+  pub privilege : h .privilege < 4
+
+abbrev pub eventHeadSmall : ℕ → EventHeadRead → Type 0
+eventHeadSmall b (EventHead h c) = SmallEventHead h
+eventHeadSmall b (NoEventHead l) = Unit {0}
+
+abbrev pub EventHeadTo : EventHeadRead → ℕ → List ℕ → Type 0
+EventHeadTo r b u = ReadTo eventHeadAnswer eventHeadSmall event-head r b u
+
+-- an optional word is absent where it is empty
+abbrev pub optionalBetween : ℕ → List ℕ → ℕ → ℕ → Option Word
+optionalBetween b u o e = optionOf (ltb o e) (wordBetween b u o e)
+
+-- up to a command's name
+abbrev pub commandHeadAt : ℕ → List ℕ → CommandHeadParts → CommandHeadOf
+commandHeadAt b u h = record { qualities = h .qualities; privilege = h .privilege; id = wordBetween b u (h .name) (h .end) }
+
+abbrev pub commandHeadAnswer : ℕ → List ℕ → CommandHeadRead → Answer CommandHeadOf
+commandHeadAnswer b u (CommandHead h c) = got (commandHeadAt b u h) c
+commandHeadAnswer b u (NoCommandHead l) = lost l
+
+abbrev pub commandHeadLost : CommandHeadRead → Lost
+commandHeadLost (CommandHead h c) = Fail c
+commandHeadLost (NoCommandHead l) = l
+
+pub record CommandHeadBetween (b : ℕ) (h : CommandHeadParts) (c : ℕ) : Type 0 where
+  pub qualities : h .qualities < 16
+  pub privilege : h .privilege < 4
+  pub name-from : b ≤ h .name
+  pub name-to : h .name ≤ h .end
+  pub before : h .end ≤ c
+
+abbrev pub commandHeadWithin : ℕ → CommandHeadRead → Type 0
+commandHeadWithin b (CommandHead h c) = CommandHeadBetween b h c
+commandHeadWithin b (NoCommandHead l) = Unit {0}
+
+abbrev pub CommandHeadTo : CommandHeadRead → ℕ → List ℕ → Type 0
+CommandHeadTo r b u = ReadTo commandHeadAnswer commandHeadWithin command-head r b u
+
+-- a command's input and output
+abbrev pub commandTypesAt : ℕ → List ℕ → CommandTypesParts → CommandTypesOf
+commandTypesAt b u t = record { from = optionalBetween b u (t .input) (t .«input_end»); to = wordBetween b u (t .output) (t .«output_end») }
+
+abbrev pub commandTypesAnswer : ℕ → List ℕ → CommandTypesRead → Answer CommandTypesOf
+commandTypesAnswer b u (CommandTypes t c) = got (commandTypesAt b u t) c
+commandTypesAnswer b u (NoCommandTypes l) = lost l
+
+abbrev pub commandTypesLost : CommandTypesRead → Lost
+commandTypesLost (CommandTypes t c) = Fail c
+commandTypesLost (NoCommandTypes l) = l
+
+pub record CommandTypesBetween (b : ℕ) (t : CommandTypesParts) (c : ℕ) : Type 0 where
+  pub input-from : b ≤ t .input
+  pub input-to : t .input ≤ t .«input_end»
+  pub output-from : t .«input_end» ≤ t .output
+  pub output-to : t .output ≤ t .«output_end»
+  pub before : t .«output_end» ≤ c
+
+abbrev pub commandTypesWithin : ℕ → CommandTypesRead → Type 0
+commandTypesWithin b (CommandTypes t c) = CommandTypesBetween b t c
+commandTypesWithin b (NoCommandTypes l) = Unit {0}
+
+abbrev pub CommandTypesTo : CommandTypesRead → ℕ → List ℕ → Type 0
+CommandTypesTo r b u = ReadTo commandTypesAnswer commandTypesWithin command-types r b u
+
+-- a command
+abbrev pub commandAt : ℕ → List ℕ → CommandParts → CommandOf
+commandAt b u p = record {
+  doc = docOf (p .doc);
+  maturity = p .maturity;
+  flags = p .flags;
+  access = p .access;
+  name = wordBetween b u (p .name) (p .end);
+  input = optionalBetween b u (p .input) (p .«input_end»);
+  output = wordBetween b u (p .output) (p .«output_end»);
+  code = p .code;
+}
+
+abbrev pub commandAnswer : ℕ → List ℕ → CommandRead → Answer CommandOf
+commandAnswer b u (Command p c) = got (commandAt b u p) c
+commandAnswer b u (NoCommand l) = lost l
+
+abbrev pub commandLost : CommandRead → Lost
+commandLost (Command p c) = Fail c
+commandLost (NoCommand l) = l
+
+pub record CommandBetween (b : ℕ) (p : CommandParts) (c : ℕ) : Type 0 where
+  pub flags : p .flags < 16
+  pub access : p .access < 4
+  pub name-from : b ≤ p .name
+  pub name-to : p .name ≤ p .end
+  pub input-from : p .end ≤ p .input
+  pub input-to : p .input ≤ p .«input_end»
+  pub output-from : p .«input_end» ≤ p .output
+  pub output-to : p .output ≤ p .«output_end»
+  pub before : p .«output_end» ≤ c
+
+abbrev pub commandWithin : ℕ → CommandRead → Type 0
+commandWithin b (Command p c) = CommandBetween b p c
+commandWithin b (NoCommand l) = Unit {0}
+
+abbrev pub CommandTo : Parser CommandOf → CommandRead → ℕ → List ℕ → Type 0
+CommandTo m r b u = ReadTo commandAnswer commandWithin m r b u

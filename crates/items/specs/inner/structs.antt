@@ -1,0 +1,83 @@
+-- What the private functions of the readers of fields and structs promise.
+use Prim.Native.Nat.{ℕ, _+_, _≤_}
+use mathlib.Core.Path.{_≡_}
+use mathlib.Core.Bool.{Bool, true, false}
+use mathlib.Core.Option.{Option}
+use mathlib.Core.List.{List, [], _∷_}
+use lib.ListN.{length}
+use Rattle.lexing.specs.bytes.{ascii}
+use Rattle.lexing.specs.reply.{Reply, Parser, ret, opt}
+use Rattle.lexing.specs.words.{Word, any-keyword}
+use Rattle.lexing.specs.answers.{Answer, got, lost, reply}
+use Rattle.lexing.specs.declared.answers.Lost.{Lost}
+use Rattle.lexing.specs.declared.answers.Lost.the-variants.{Fail, Stop}
+use Rattle.lexing.specs.declared.integers.Number.{Number}
+use Rattle.lexing.specs.declared.integers.Number.the-variants.{Value, NoNumber}
+use Rattle.items.specs.structs.{list-marker, StructType, regular, request, shared, response-code, struct-type-of}
+use Rattle.items.specs.answers.{optionOf}
+use Rattle.items.specs.answers.structs.{typeOf}
+use Rattle.items.specs.declared.structs.MaxLength.{MaxLength}
+use Rattle.items.specs.declared.structs.MaxLength.the-variants.{Length, NoLength}
+use Rattle.items.specs.declared.structs.Marker.{Marker}
+use Rattle.items.specs.declared.structs.StructKind.{StructKind}
+use Rattle.items.specs.declared.structs.StructKind.the-variants.{Regular, Request, Response, Shared}
+use Rattle.items.specs.declared.structs.StructWord.{StructWord}
+
+-- a length that may be absent
+abbrev pub lengthAnswer : MaxLength → Answer (Option ℕ)
+lengthAnswer (Length h v c) = got (optionOf h v) c
+lengthAnswer (NoLength l) = lost l
+
+abbrev pub lengthReply : MaxLength → ℕ → List ℕ → Reply (Option ℕ)
+lengthReply r b u = reply (lengthAnswer r) b u
+
+abbrev pub lengthLost : MaxLength → Lost
+lengthLost (Length h v c) = Fail c
+lengthLost (NoLength l) = l
+
+-- of a number that may be absent at b
+abbrev pub optionalLength : Number → ℕ → MaxLength
+optionalLength (Value v c) b = Length true v c
+optionalLength (NoNumber (Fail p)) b = Length false 0 b
+optionalLength (NoNumber (Stop n p)) b = NoLength (Stop n p)
+
+-- the marker of a list and where it ends
+pub record MarkerTo (r : Marker) (b : ℕ) (u : List ℕ) : Type 0 where
+  pub reads : reply (got (optionOf (r .list) tt) (r .next)) b u ≡ opt list-marker b u
+  pub up : b ≤ r .next
+  pub inside : r .next ≤ b + length u
+
+-- the kind that a word says
+abbrev pub kindBy : Bool → StructKind → StructKind
+kindBy true k = k
+kindBy false k = Regular
+
+-- what a kind reads behind the struct's name
+unfoldable pub typeBy : StructKind → Parser StructType
+typeBy Regular = ret regular
+typeBy Request = ret request
+typeBy Response = response-code
+typeBy Shared = ret shared
+
+-- the words that may stand before a struct
+abbrev pub struct-words : List (List ℕ)
+struct-words = ascii "request" ∷ ascii "response" ∷ ascii "shared" ∷ []
+
+-- the word before a struct, by the kind that it says
+pub record StructWordTo (r : StructWord) (b : ℕ) (u : List ℕ) : Type 0 where
+  pub read : Option Word
+  pub reads : reply (got read (r .next)) b u ≡ opt (any-keyword struct-words) b u
+  pub means : struct-type-of read ≡ typeBy (r .kind)
+  pub up : b ≤ r .next
+  pub inside : r .next ≤ b + length u
+
+-- the type of a struct whose code was read
+abbrev pub codeAnswer : StructKind → Number → Answer StructType
+codeAnswer k (Value v c) = got (typeOf k v) c
+codeAnswer k (NoNumber l) = lost l
+
+abbrev pub codeReply : StructKind → Number → ℕ → List ℕ → Reply StructType
+codeReply k r b u = reply (codeAnswer k r) b u
+
+abbrev pub responseReply : Number → ℕ → List ℕ → Reply StructType
+responseReply r b u = codeReply Response r b u

@@ -1,0 +1,126 @@
+// Enums and bitmaps: one but for the keyword.
+ghost use mathlib.Core.Path.{_≡_};
+ghost use Prim.Native.Nat.{_+_, _≤_};
+ghost use lib.ListN.{length};
+ghost use Rattle.items.specs.entries.{shared-before};
+ghost use Rattle.items.specs.layout.{text-limit};
+ghost use Rattle.items.specs.answers.{Skips};
+ghost use Rattle.items.specs.answers.choices.{choiceHeadLost, ChoiceHeadTo, ChoiceCountTo};
+use crate::counts::Count;
+use crate::entries::constant_entries_list;
+use crate::optional::is_there;
+use crate::optional::optional;
+use lexing::answers::Lost;
+use lexing::answers::Step;
+use lexing::answers::step_lost;
+use lexing::blanks::Gap;
+use lexing::blanks::gap_lost;
+use lexing::blanks::whitespace0;
+use lexing::blanks::whitespace1;
+use lexing::parts::rest_at;
+use lexing::words::keyword;
+use lexing::words::parse_id;
+use lexing::words::tag;
+
+// Up to the entries: whether it is shared, and the offsets of its name and of its base type and behind them.
+pub struct ChoiceHeadParts {
+    pub shared: bool,
+    pub name: usize,
+    pub end: usize,
+    pub base_at: usize,
+    pub base_end: usize,
+}
+
+pub enum ChoiceHeadRead {
+    ChoiceHead(ChoiceHeadParts, usize),
+    NoChoiceHead(Lost),
+}
+
+fn shared_before(part: &[u8], base: usize) -> Step
+    requires { ⌜ base + length (now part) ≤ text-limit ⌝ }
+    ensures { λ r. ⌜ Skips shared-before r base (now (part .entry)) ⌝ }
+{
+    let word = keyword(part, base, b"shared");
+    let Step::Next(c1) = word else {
+        return Step::Not(step_lost(word));
+    };
+    let gap = whitespace1(rest_at(part, base, c1), c1);
+    let Gap::Passed(w) = gap else {
+        return Step::Not(gap_lost(gap));
+    };
+    Step::Next(w.next)
+}
+
+pub fn choice_head(part: &[u8], base: usize, key: &[u8]) -> ChoiceHeadRead
+    requires { ⌜ base + length (now part) ≤ text-limit ⌝ }
+    ensures { λ r. ⌜ ChoiceHeadTo (now (key .entry)) r base (now (part .entry)) ⌝ }
+{
+    let s = shared_before(part, base);
+    let shared = is_there(s);
+    let o = optional(s, base);
+    let Step::Next(c1) = o else {
+        return ChoiceHeadRead::NoChoiceHead(step_lost(o));
+    };
+    let word = keyword(rest_at(part, base, c1), c1, key);
+    let Step::Next(c2) = word else {
+        return ChoiceHeadRead::NoChoiceHead(step_lost(word));
+    };
+    let gap = whitespace1(rest_at(part, base, c2), c2);
+    let Gap::Passed(w1) = gap else {
+        return ChoiceHeadRead::NoChoiceHead(gap_lost(gap));
+    };
+    let c3 = w1.next;
+    let name = parse_id(rest_at(part, base, c3), c3);
+    let Step::Next(c4) = name else {
+        return ChoiceHeadRead::NoChoiceHead(step_lost(name));
+    };
+    let w2 = whitespace0(rest_at(part, base, c4), c4);
+    let c5 = w2.next;
+    let colon = tag(rest_at(part, base, c5), c5, b':');
+    let Step::Next(c6) = colon else {
+        return ChoiceHeadRead::NoChoiceHead(step_lost(colon));
+    };
+    let w3 = whitespace0(rest_at(part, base, c6), c6);
+    let c7 = w3.next;
+    let kind = parse_id(rest_at(part, base, c7), c7);
+    let Step::Next(c8) = kind else {
+        return ChoiceHeadRead::NoChoiceHead(step_lost(kind));
+    };
+    let w4 = whitespace0(rest_at(part, base, c8), c8);
+    let c9 = w4.next;
+    ChoiceHeadRead::ChoiceHead(
+        ChoiceHeadParts {
+            shared,
+            name: c3,
+            end: c4,
+            base_at: c7,
+            base_end: c8,
+        },
+        c9,
+    )
+}
+
+pub fn choice_head_lost(r: ChoiceHeadRead) -> Lost
+    ensures { λ x. ⌜ x ≡ choiceHeadLost r ⌝ }
+{
+    match r {
+        ChoiceHeadRead::ChoiceHead(_, c) => Lost::Fail(c),
+        ChoiceHeadRead::NoChoiceHead(l) => l,
+    }
+}
+
+// The first pass over an enum or a bitmap: three words, and those of its entries.
+pub fn choice_after_doc_maturity(part: &[u8], base: usize, key: &[u8]) -> Count
+    requires { ⌜ base + length (now part) ≤ text-limit ⌝ }
+    ensures { λ r. ⌜ ChoiceCountTo (now (key .entry)) r base (now (part .entry)) ⌝ }
+{
+    let head = choice_head(part, base, key);
+    let ChoiceHeadRead::ChoiceHead(_, c1) = head else {
+        return Count::NoCount(choice_head_lost(head));
+    };
+    let run = constant_entries_list(rest_at(part, base, c1), c1);
+    let Count::Words(n, c2) = run else {
+        return run;
+    };
+    Count::Words(n + 3, c2)
+}

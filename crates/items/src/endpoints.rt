@@ -1,0 +1,387 @@
+// What stands in an endpoint: names behind keywords, device types, instances of attributes.
+ghost use mathlib.Core.Path.{_≡_};
+ghost use Prim.Native.Nat.{_+_, _≤_};
+ghost use lib.ListN.{length};
+ghost use Rattle.lexing.specs.answers.{numberReply};
+ghost use Rattle.items.specs.layout.{text-limit};
+ghost use Rattle.items.specs.endpoints.{name-behind, named-after, device-version, value-tries, default-attribute-value};
+ghost use Rattle.items.specs.answers.endpoints.{NamedTo, namedLost, DeviceTypeTo, HandlingTo, handlingLost, ValueTo, valueLost, optionalValue, DefaultTo, defaultLost, AttributeInstanceTo};
+use lexing::answers::Lost;
+use lexing::answers::Step;
+use lexing::answers::step_lost;
+use lexing::blanks::Gap;
+use lexing::blanks::gap_lost;
+use lexing::blanks::whitespace0;
+use lexing::blanks::whitespace1;
+use lexing::integers::Number;
+use lexing::integers::SignedNumber;
+use lexing::integers::number_lost;
+use lexing::integers::positive_integer;
+use lexing::integers::signed_integer;
+use lexing::parts::rest_at;
+use lexing::strings::default_string;
+use lexing::words::keyword;
+use lexing::words::parse_id;
+use lexing::words::tag;
+
+// Where a name starts and ends, and the offset behind all that was read.
+pub enum Named {
+    Name(usize, usize, usize),
+    NoName(Lost),
+}
+
+// A device type: where its name starts and ends, its code and its version.
+pub struct DeviceTypeParts {
+    pub name: usize,
+    pub end: usize,
+    pub code: u64,
+    pub version: u64,
+}
+
+pub enum DeviceTypeRead {
+    DeviceType(DeviceTypeParts, usize),
+    NoDeviceType(Lost),
+}
+
+// How an attribute is held: ram, callback, persist = 0 to 2.
+pub enum HandlingRead {
+    Handling(u8, usize),
+    NoHandling(Lost),
+}
+
+// The bytes between two quotes.
+pub struct SpanParts {
+    pub start: usize,
+    pub length: usize,
+}
+
+// A default; a signed one is said to be negative or not, with its magnitude.
+pub enum DefaultValue {
+    Number(u64),
+    Signed(bool, u64),
+    Truth(bool),
+    Text(SpanParts),
+}
+
+pub enum ValueRead {
+    Read(DefaultValue, usize),
+    NoValue(Lost),
+}
+
+pub enum Default {
+    Absent,
+    Present(DefaultValue),
+}
+
+pub enum DefaultRead {
+    Optional(Default, usize),
+    NoDefault(Lost),
+}
+
+// An instance of an attribute: its handling, where its name starts and ends, its default.
+pub struct AttributeInstanceParts {
+    pub handling: u8,
+    pub name: usize,
+    pub end: usize,
+    pub default: Default,
+}
+
+pub enum AttributeInstanceRead {
+    AttributeInstance(AttributeInstanceParts, usize),
+    NoAttributeInstance(Lost),
+}
+
+// Two keywords and the name behind them.
+pub fn name_behind(part: &[u8], base: usize, first: &[u8], second: &[u8]) -> Named
+    requires { ⌜ base + length (now part) ≤ text-limit ⌝ }
+    ensures { λ r. ⌜ NamedTo (name-behind (now (first .entry)) (now (second .entry))) r base (now (part .entry)) ⌝ }
+{
+    let one = keyword(part, base, first);
+    let Step::Next(c1) = one else {
+        return Named::NoName(step_lost(one));
+    };
+    let gap1 = whitespace1(rest_at(part, base, c1), c1);
+    let Gap::Passed(w1) = gap1 else {
+        return Named::NoName(gap_lost(gap1));
+    };
+    let c2 = w1.next;
+    let two = keyword(rest_at(part, base, c2), c2, second);
+    let Step::Next(c3) = two else {
+        return Named::NoName(step_lost(two));
+    };
+    let gap2 = whitespace1(rest_at(part, base, c3), c3);
+    let Gap::Passed(w2) = gap2 else {
+        return Named::NoName(gap_lost(gap2));
+    };
+    let c4 = w2.next;
+    let name = parse_id(rest_at(part, base, c4), c4);
+    let Step::Next(c5) = name else {
+        return Named::NoName(step_lost(name));
+    };
+    Named::Name(c4, c5, c5)
+}
+
+pub fn named_lost(r: Named) -> Lost
+    ensures { λ x. ⌜ x ≡ namedLost r ⌝ }
+{
+    match r {
+        Named::Name(_, _, c) => Lost::Fail(c),
+        Named::NoName(l) => l,
+    }
+}
+
+// The same with a semicolon.
+pub fn named_after(part: &[u8], base: usize, first: &[u8], second: &[u8]) -> Named
+    requires { ⌜ base + length (now part) ≤ text-limit ⌝ }
+    ensures { λ r. ⌜ NamedTo (named-after (now (first .entry)) (now (second .entry))) r base (now (part .entry)) ⌝ }
+{
+    let named = name_behind(part, base, first, second);
+    let Named::Name(name, end, c1) = named else {
+        return Named::NoName(named_lost(named));
+    };
+    let w = whitespace0(rest_at(part, base, c1), c1);
+    let c2 = w.next;
+    let semicolon = tag(rest_at(part, base, c2), c2, b';');
+    let Step::Next(c3) = semicolon else {
+        return Named::NoName(step_lost(semicolon));
+    };
+    Named::Name(name, end, c3)
+}
+
+// A device type from its comma on.
+fn device_version(part: &[u8], base: usize) -> Number
+    requires { ⌜ base + length (now part) ≤ text-limit ⌝ }
+    ensures { λ r. ⌜ numberReply r base (now (part .entry)) ≡ device-version base (now (part .entry)) ⌝ }
+{
+    let w1 = whitespace0(part, base);
+    let c1 = w1.next;
+    let comma = tag(rest_at(part, base, c1), c1, b',');
+    let Step::Next(c2) = comma else {
+        return Number::NoNumber(step_lost(comma));
+    };
+    let w2 = whitespace0(rest_at(part, base, c2), c2);
+    let c3 = w2.next;
+    let key = keyword(rest_at(part, base, c3), c3, b"version");
+    let Step::Next(c4) = key else {
+        return Number::NoNumber(step_lost(key));
+    };
+    let w3 = whitespace0(rest_at(part, base, c4), c4);
+    let c5 = w3.next;
+    let number = positive_integer(rest_at(part, base, c5), c5);
+    let Number::Value(v, c6) = number else {
+        return Number::NoNumber(number_lost(number));
+    };
+    let w4 = whitespace0(rest_at(part, base, c6), c6);
+    let c7 = w4.next;
+    let semicolon = tag(rest_at(part, base, c7), c7, b';');
+    let Step::Next(c8) = semicolon else {
+        return Number::NoNumber(step_lost(semicolon));
+    };
+    Number::Value(v, c8)
+}
+
+pub fn device_type(part: &[u8], base: usize) -> DeviceTypeRead
+    requires { ⌜ base + length (now part) ≤ text-limit ⌝ }
+    ensures { λ r. ⌜ DeviceTypeTo r base (now (part .entry)) ⌝ }
+{
+    let named = name_behind(part, base, b"device", b"type");
+    let Named::Name(name, end, c1) = named else {
+        return DeviceTypeRead::NoDeviceType(named_lost(named));
+    };
+    let w1 = whitespace0(rest_at(part, base, c1), c1);
+    let c2 = w1.next;
+    let equals = tag(rest_at(part, base, c2), c2, b'=');
+    let Step::Next(c3) = equals else {
+        return DeviceTypeRead::NoDeviceType(step_lost(equals));
+    };
+    let w2 = whitespace0(rest_at(part, base, c3), c3);
+    let c4 = w2.next;
+    let number = positive_integer(rest_at(part, base, c4), c4);
+    let Number::Value(code, c5) = number else {
+        return DeviceTypeRead::NoDeviceType(number_lost(number));
+    };
+    let last = device_version(rest_at(part, base, c5), c5);
+    let Number::Value(version, c6) = last else {
+        return DeviceTypeRead::NoDeviceType(number_lost(last));
+    };
+    let t = DeviceTypeParts {
+        name,
+        end,
+        code,
+        version,
+    };
+    DeviceTypeRead::DeviceType(t, c6)
+}
+
+// Where none stands it fails at its start, as each keyword does.
+pub fn attribute_handling_type(part: &[u8], base: usize) -> HandlingRead
+    requires { ⌜ base + length (now part) ≤ text-limit ⌝ }
+    ensures { λ r. ⌜ HandlingTo r base (now (part .entry)) ⌝ }
+{
+    let ram = keyword(part, base, b"ram");
+    if let Step::Next(c) = ram {
+        return HandlingRead::Handling(0, c);
+    }
+    let callback = keyword(part, base, b"callback");
+    if let Step::Next(c) = callback {
+        return HandlingRead::Handling(1, c);
+    }
+    let persist = keyword(part, base, b"persist");
+    if let Step::Next(c) = persist {
+        return HandlingRead::Handling(2, c);
+    }
+    HandlingRead::NoHandling(Lost::Fail(base))
+}
+
+pub fn handling_lost(r: HandlingRead) -> Lost
+    ensures { λ x. ⌜ x ≡ handlingLost r ⌝ }
+{
+    match r {
+        HandlingRead::Handling(_, c) => Lost::Fail(c),
+        HandlingRead::NoHandling(l) => l,
+    }
+}
+
+// The value of a default. Each try but the last fails at its start, so the place of the last is the furthest.
+fn value_tries(part: &[u8], base: usize) -> ValueRead
+    requires { ⌜ base + length (now part) ≤ text-limit ⌝ }
+    ensures { λ r. ⌜ ValueTo value-tries r base (now (part .entry)) ⌝ }
+{
+    let number = positive_integer(part, base);
+    if let Number::Value(v, c) = number {
+        return ValueRead::Read(DefaultValue::Number(v), c);
+    }
+    let lost = number_lost(number);
+    if let Lost::Stop(n, p) = lost {
+        return ValueRead::NoValue(Lost::Stop(n, p));
+    }
+    let signed = signed_integer(part, base);
+    if let SignedNumber::Sized(negative, v, c) = signed {
+        return ValueRead::Read(DefaultValue::Signed(negative, v), c);
+    }
+    let yes = keyword(part, base, b"true");
+    if let Step::Next(c) = yes {
+        return ValueRead::Read(DefaultValue::Truth(true), c);
+    }
+    let no = keyword(part, base, b"false");
+    if let Step::Next(c) = no {
+        return ValueRead::Read(DefaultValue::Truth(false), c);
+    }
+    let string = default_string(part, base);
+    let Step::Next(c) = string else {
+        return ValueRead::NoValue(step_lost(string));
+    };
+    let start = base + 1;
+    let length = c - 1 - start;
+    ValueRead::Read(DefaultValue::Text(SpanParts { start, length }), c)
+}
+
+pub fn default_attribute_value(part: &[u8], base: usize) -> ValueRead
+    requires { ⌜ base + length (now part) ≤ text-limit ⌝ }
+    ensures { λ r. ⌜ ValueTo default-attribute-value r base (now (part .entry)) ⌝ }
+{
+    let key = keyword(part, base, b"default");
+    let Step::Next(c1) = key else {
+        return ValueRead::NoValue(step_lost(key));
+    };
+    let w1 = whitespace0(rest_at(part, base, c1), c1);
+    let c2 = w1.next;
+    let equals = tag(rest_at(part, base, c2), c2, b'=');
+    let Step::Next(c3) = equals else {
+        return ValueRead::NoValue(step_lost(equals));
+    };
+    let w2 = whitespace0(rest_at(part, base, c3), c3);
+    let c4 = w2.next;
+    value_tries(rest_at(part, base, c4), c4)
+}
+
+pub fn value_lost(r: ValueRead) -> Lost
+    ensures { λ x. ⌜ x ≡ valueLost r ⌝ }
+{
+    match r {
+        ValueRead::Read(_, c) => Lost::Fail(c),
+        ValueRead::NoValue(l) => l,
+    }
+}
+
+// A value that may be absent, at an offset: where it fails nothing is read, and a stop goes on.
+fn optional_value(r: ValueRead, base: usize) -> DefaultRead
+    ensures { λ x. ⌜ x ≡ optionalValue r base ⌝ }
+{
+    if let ValueRead::Read(v, c) = r {
+        return DefaultRead::Optional(Default::Present(v), c);
+    }
+    let l = value_lost(r);
+    match l {
+        Lost::Fail(_) => DefaultRead::Optional(Default::Absent, base),
+        Lost::Stop(n, p) => DefaultRead::NoDefault(Lost::Stop(n, p)),
+    }
+}
+
+// A blank and a default, or nothing.
+fn optional_default(part: &[u8], base: usize) -> DefaultRead
+    requires { ⌜ base + length (now part) ≤ text-limit ⌝ }
+    ensures { λ r. ⌜ DefaultTo r base (now (part .entry)) ⌝ }
+{
+    let gap = whitespace1(part, base);
+    let Gap::Passed(w) = gap else {
+        return optional_value(ValueRead::NoValue(gap_lost(gap)), base);
+    };
+    let c1 = w.next;
+    let value = default_attribute_value(rest_at(part, base, c1), c1);
+    optional_value(value, base)
+}
+
+fn default_lost(r: DefaultRead) -> Lost
+    ensures { λ x. ⌜ x ≡ defaultLost r ⌝ }
+{
+    match r {
+        DefaultRead::Optional(_, c) => Lost::Fail(c),
+        DefaultRead::NoDefault(l) => l,
+    }
+}
+
+pub fn attribute_instantiation(part: &[u8], base: usize) -> AttributeInstanceRead
+    requires { ⌜ base + length (now part) ≤ text-limit ⌝ }
+    ensures { λ r. ⌜ AttributeInstanceTo r base (now (part .entry)) ⌝ }
+{
+    let held = attribute_handling_type(part, base);
+    let HandlingRead::Handling(handling, c1) = held else {
+        return AttributeInstanceRead::NoAttributeInstance(handling_lost(held));
+    };
+    let gap1 = whitespace1(rest_at(part, base, c1), c1);
+    let Gap::Passed(w1) = gap1 else {
+        return AttributeInstanceRead::NoAttributeInstance(gap_lost(gap1));
+    };
+    let c2 = w1.next;
+    let key = keyword(rest_at(part, base, c2), c2, b"attribute");
+    let Step::Next(c3) = key else {
+        return AttributeInstanceRead::NoAttributeInstance(step_lost(key));
+    };
+    let gap2 = whitespace1(rest_at(part, base, c3), c3);
+    let Gap::Passed(w2) = gap2 else {
+        return AttributeInstanceRead::NoAttributeInstance(gap_lost(gap2));
+    };
+    let name = w2.next;
+    let word = parse_id(rest_at(part, base, name), name);
+    let Step::Next(end) = word else {
+        return AttributeInstanceRead::NoAttributeInstance(step_lost(word));
+    };
+    let optional = optional_default(rest_at(part, base, end), end);
+    let DefaultRead::Optional(default, c6) = optional else {
+        return AttributeInstanceRead::NoAttributeInstance(default_lost(optional));
+    };
+    let w3 = whitespace0(rest_at(part, base, c6), c6);
+    let c7 = w3.next;
+    let semicolon = tag(rest_at(part, base, c7), c7, b';');
+    let Step::Next(c8) = semicolon else {
+        return AttributeInstanceRead::NoAttributeInstance(step_lost(semicolon));
+    };
+    let a = AttributeInstanceParts {
+        handling,
+        name,
+        end,
+        default,
+    };
+    AttributeInstanceRead::AttributeInstance(a, c8)
+}

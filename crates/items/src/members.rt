@@ -1,0 +1,395 @@
+// Events, commands and attributes.
+ghost use mathlib.Core.Path.{_≡_};
+ghost use Prim.Native.Nat.{_+_, _≤_};
+ghost use lib.ListN.{length};
+ghost use Rattle.lexing.specs.answers.{docOf};
+ghost use Rattle.items.specs.layout.{text-limit};
+ghost use Rattle.items.specs.members.{access-privilege, event-priority, access-to, invoke-access, parse-command-after-doc-maturity};
+ghost use Rattle.items.specs.answers.members.{levelLost, LevelTo, levelOr, EventHeadTo, commandHeadLost, CommandHeadTo, commandTypesLost, CommandTypesTo, CommandTo};
+use crate::optional::optional;
+use lexing::answers::Lost;
+use lexing::answers::Step;
+use lexing::answers::step_lost;
+use lexing::blanks::DocSpan;
+use lexing::blanks::Gap;
+use lexing::blanks::gap_lost;
+use lexing::blanks::whitespace0;
+use lexing::blanks::whitespace1;
+use lexing::integers::Number;
+use lexing::integers::number_lost;
+use lexing::integers::positive_integer;
+use lexing::parts::rest_at;
+use lexing::word_sets::keywords_set;
+use lexing::words::keyword;
+use lexing::words::parse_id;
+use lexing::words::tag;
+
+// The number of a keyword out of at most four and the offset behind it, or why there is none.
+pub enum Level {
+    Chosen(u8, usize),
+    NoLevel(Lost),
+}
+
+// Up to an event's name: its flag, its priority and the privilege to read it.
+pub struct EventHeadParts {
+    pub sensitive: u8,
+    pub rank: u8,
+    pub privilege: u8,
+}
+
+pub enum EventHeadRead {
+    EventHead(EventHeadParts, usize),
+    NoEventHead(Lost),
+}
+
+// Up to a command's name: its flags, the privilege to invoke it, the offsets of its name and behind it.
+pub struct CommandHeadParts {
+    pub qualities: u8,
+    pub privilege: u8,
+    pub name: usize,
+    pub end: usize,
+}
+
+pub enum CommandHeadRead {
+    CommandHead(CommandHeadParts, usize),
+    NoCommandHead(Lost),
+}
+
+// A command's input and output, each by the offset of its name and the one behind it; they are the same where there is no input.
+pub struct CommandTypesParts {
+    pub input: usize,
+    pub input_end: usize,
+    pub output: usize,
+    pub output_end: usize,
+}
+
+pub enum CommandTypesRead {
+    CommandTypes(CommandTypesParts, usize),
+    NoCommandTypes(Lost),
+}
+
+pub struct CommandParts {
+    pub doc: DocSpan,
+    pub maturity: u8,
+    pub flags: u8,
+    pub access: u8,
+    pub name: usize,
+    pub end: usize,
+    pub input: usize,
+    pub input_end: usize,
+    pub output: usize,
+    pub output_end: usize,
+    pub code: u64,
+}
+
+pub enum CommandRead {
+    Command(CommandParts, usize),
+    NoCommand(Lost),
+}
+
+// view, operate, manage, administer = 0 to 3
+pub fn access_privilege(part: &[u8], base: usize) -> Level
+    requires { ⌜ base + length (now part) ≤ text-limit ⌝ }
+    ensures { λ r. ⌜ LevelTo access-privilege r base (now (part .entry)) ⌝ }
+{
+    let view = keyword(part, base, b"view");
+    if let Step::Next(c) = view {
+        return Level::Chosen(0, c);
+    }
+    let operate = keyword(part, base, b"operate");
+    if let Step::Next(c) = operate {
+        return Level::Chosen(1, c);
+    }
+    let manage = keyword(part, base, b"manage");
+    if let Step::Next(c) = manage {
+        return Level::Chosen(2, c);
+    }
+    let administer = keyword(part, base, b"administer");
+    if let Step::Next(c) = administer {
+        return Level::Chosen(3, c);
+    }
+    Level::NoLevel(Lost::Fail(base))
+}
+
+// critical, info, debug = 0 to 2
+pub fn event_priority(part: &[u8], base: usize) -> Level
+    requires { ⌜ base + length (now part) ≤ text-limit ⌝ }
+    ensures { λ r. ⌜ LevelTo event-priority r base (now (part .entry)) ⌝ }
+{
+    let info = keyword(part, base, b"info");
+    if let Step::Next(c) = info {
+        return Level::Chosen(1, c);
+    }
+    let critical = keyword(part, base, b"critical");
+    if let Step::Next(c) = critical {
+        return Level::Chosen(0, c);
+    }
+    let debug = keyword(part, base, b"debug");
+    if let Step::Next(c) = debug {
+        return Level::Chosen(2, c);
+    }
+    Level::NoLevel(Lost::Fail(base))
+}
+
+pub fn level_lost(r: Level) -> Lost
+    ensures { λ x. ⌜ x ≡ levelLost r ⌝ }
+{
+    match r {
+        Level::Chosen(_, c) => Lost::Fail(c),
+        Level::NoLevel(l) => l,
+    }
+}
+
+// The answer of an optional part that stands at an offset: where it fails it is z, and nothing is read; a stop goes on.
+fn level_or(r: Level, z: u8, base: usize) -> Level
+    ensures { λ x. ⌜ x ≡ levelOr r z base ⌝ }
+{
+    let Level::NoLevel(l) = r else {
+        return r;
+    };
+    match l {
+        Lost::Fail(_) => Level::Chosen(z, base),
+        Lost::Stop(n, p) => Level::NoLevel(Lost::Stop(n, p)),
+    }
+}
+
+// `access(KEY: privilege)`
+pub fn access_to(part: &[u8], base: usize, key: &[u8]) -> Level
+    requires { ⌜ base + length (now part) ≤ text-limit ⌝ }
+    ensures { λ r. ⌜ LevelTo (access-to (now (key .entry))) r base (now (part .entry)) ⌝ }
+{
+    let access = keyword(part, base, b"access");
+    let Step::Next(c1) = access else {
+        return Level::NoLevel(step_lost(access));
+    };
+    let w1 = whitespace0(rest_at(part, base, c1), c1);
+    let c2 = w1.next;
+    let opening = tag(rest_at(part, base, c2), c2, b'(');
+    let Step::Next(c3) = opening else {
+        return Level::NoLevel(step_lost(opening));
+    };
+    let w2 = whitespace0(rest_at(part, base, c3), c3);
+    let c4 = w2.next;
+    let operation = keyword(rest_at(part, base, c4), c4, key);
+    let Step::Next(c5) = operation else {
+        return Level::NoLevel(step_lost(operation));
+    };
+    let colon = tag(rest_at(part, base, c5), c5, b':');
+    let Step::Next(c6) = colon else {
+        return Level::NoLevel(step_lost(colon));
+    };
+    let w3 = whitespace0(rest_at(part, base, c6), c6);
+    let c7 = w3.next;
+    let granted = access_privilege(rest_at(part, base, c7), c7);
+    let Level::Chosen(p, c8) = granted else {
+        return Level::NoLevel(level_lost(granted));
+    };
+    let w4 = whitespace0(rest_at(part, base, c8), c8);
+    let c9 = w4.next;
+    let closing = tag(rest_at(part, base, c9), c9, b')');
+    let Step::Next(c10) = closing else {
+        return Level::NoLevel(step_lost(closing));
+    };
+    Level::Chosen(p, c10)
+}
+
+pub fn event_head(part: &[u8], base: usize) -> EventHeadRead
+    requires { ⌜ base + length (now part) ≤ text-limit ⌝ }
+    ensures { λ r. ⌜ EventHeadTo r base (now (part .entry)) ⌝ }
+{
+    let q = keywords_set(part, base, 2);
+    let c1 = q.next;
+    let w1 = whitespace0(rest_at(part, base, c1), c1);
+    let c2 = w1.next;
+    let priority = event_priority(rest_at(part, base, c2), c2);
+    let Level::Chosen(rank, c3) = priority else {
+        return EventHeadRead::NoEventHead(level_lost(priority));
+    };
+    let gap1 = whitespace1(rest_at(part, base, c3), c3);
+    let Gap::Passed(w2) = gap1 else {
+        return EventHeadRead::NoEventHead(gap_lost(gap1));
+    };
+    let c4 = w2.next;
+    let event = keyword(rest_at(part, base, c4), c4, b"event");
+    let Step::Next(c5) = event else {
+        return EventHeadRead::NoEventHead(step_lost(event));
+    };
+    let gap2 = whitespace1(rest_at(part, base, c5), c5);
+    let Gap::Passed(w3) = gap2 else {
+        return EventHeadRead::NoEventHead(gap_lost(gap2));
+    };
+    let c6 = w3.next;
+    let access = level_or(access_to(rest_at(part, base, c6), c6, b"read"), 0, c6);
+    let Level::Chosen(privilege, c7) = access else {
+        return EventHeadRead::NoEventHead(level_lost(access));
+    };
+    let sensitive = q.flags;
+    EventHeadRead::EventHead(
+        EventHeadParts {
+            sensitive,
+            rank,
+            privilege,
+        },
+        c7,
+    )
+}
+
+fn invoke_access(part: &[u8], base: usize) -> Level
+    requires { ⌜ base + length (now part) ≤ text-limit ⌝ }
+    ensures { λ r. ⌜ LevelTo invoke-access r base (now (part .entry)) ⌝ }
+{
+    let w = whitespace0(part, base);
+    let c1 = w.next;
+    access_to(rest_at(part, base, c1), c1, b"invoke")
+}
+
+pub fn command_head(part: &[u8], base: usize) -> CommandHeadRead
+    requires { ⌜ base + length (now part) ≤ text-limit ⌝ }
+    ensures { λ r. ⌜ CommandHeadTo r base (now (part .entry)) ⌝ }
+{
+    let q = keywords_set(part, base, 3);
+    let c1 = q.next;
+    let w1 = whitespace0(rest_at(part, base, c1), c1);
+    let c2 = w1.next;
+    let command = keyword(rest_at(part, base, c2), c2, b"command");
+    let Step::Next(c3) = command else {
+        return CommandHeadRead::NoCommandHead(step_lost(command));
+    };
+    let access = level_or(invoke_access(rest_at(part, base, c3), c3), 1, c3);
+    let Level::Chosen(privilege, c4) = access else {
+        return CommandHeadRead::NoCommandHead(level_lost(access));
+    };
+    let w2 = whitespace0(rest_at(part, base, c4), c4);
+    let c5 = w2.next;
+    let id = parse_id(rest_at(part, base, c5), c5);
+    let Step::Next(c6) = id else {
+        return CommandHeadRead::NoCommandHead(step_lost(id));
+    };
+    let qualities = q.flags;
+    CommandHeadRead::CommandHead(
+        CommandHeadParts {
+            qualities,
+            privilege,
+            name: c5,
+            end: c6,
+        },
+        c6,
+    )
+}
+
+pub fn command_head_lost(r: CommandHeadRead) -> Lost
+    ensures { λ x. ⌜ x ≡ commandHeadLost r ⌝ }
+{
+    match r {
+        CommandHeadRead::CommandHead(_, c) => Lost::Fail(c),
+        CommandHeadRead::NoCommandHead(l) => l,
+    }
+}
+
+// `(input) : output`
+pub fn command_types(part: &[u8], base: usize) -> CommandTypesRead
+    requires { ⌜ base + length (now part) ≤ text-limit ⌝ }
+    ensures { λ r. ⌜ CommandTypesTo r base (now (part .entry)) ⌝ }
+{
+    let w1 = whitespace0(part, base);
+    let c1 = w1.next;
+    let opening = tag(rest_at(part, base, c1), c1, b'(');
+    let Step::Next(c2) = opening else {
+        return CommandTypesRead::NoCommandTypes(step_lost(opening));
+    };
+    let w2 = whitespace0(rest_at(part, base, c2), c2);
+    let input = w2.next;
+    let from = optional(parse_id(rest_at(part, base, input), input), input);
+    let Step::Next(input_end) = from else {
+        return CommandTypesRead::NoCommandTypes(step_lost(from));
+    };
+    let w3 = whitespace0(rest_at(part, base, input_end), input_end);
+    let c5 = w3.next;
+    let closing = tag(rest_at(part, base, c5), c5, b')');
+    let Step::Next(c6) = closing else {
+        return CommandTypesRead::NoCommandTypes(step_lost(closing));
+    };
+    let w4 = whitespace0(rest_at(part, base, c6), c6);
+    let c7 = w4.next;
+    let colon = tag(rest_at(part, base, c7), c7, b':');
+    let Step::Next(c8) = colon else {
+        return CommandTypesRead::NoCommandTypes(step_lost(colon));
+    };
+    let w5 = whitespace0(rest_at(part, base, c8), c8);
+    let output = w5.next;
+    let to = parse_id(rest_at(part, base, output), output);
+    let Step::Next(output_end) = to else {
+        return CommandTypesRead::NoCommandTypes(step_lost(to));
+    };
+    CommandTypesRead::CommandTypes(
+        CommandTypesParts {
+            input,
+            input_end,
+            output,
+            output_end,
+        },
+        output_end,
+    )
+}
+
+pub fn command_types_lost(r: CommandTypesRead) -> Lost
+    ensures { λ x. ⌜ x ≡ commandTypesLost r ⌝ }
+{
+    match r {
+        CommandTypesRead::CommandTypes(_, c) => Lost::Fail(c),
+        CommandTypesRead::NoCommandTypes(l) => l,
+    }
+}
+
+pub fn parse_command_after_doc_maturity(
+    part: &[u8],
+    base: usize,
+    doc: DocSpan,
+    maturity: u8,
+) -> CommandRead
+    requires { ⌜ base + length (now part) ≤ text-limit ⌝ }
+    ensures { λ r. ⌜ CommandTo (parse-command-after-doc-maturity (docOf doc) maturity) r base (now (part .entry)) ⌝ }
+{
+    let head = command_head(part, base);
+    let CommandHeadRead::CommandHead(h, c1) = head else {
+        return CommandRead::NoCommand(command_head_lost(head));
+    };
+    let types = command_types(rest_at(part, base, c1), c1);
+    let CommandTypesRead::CommandTypes(t, c2) = types else {
+        return CommandRead::NoCommand(command_types_lost(types));
+    };
+    let w1 = whitespace0(rest_at(part, base, c2), c2);
+    let c3 = w1.next;
+    let equals = tag(rest_at(part, base, c3), c3, b'=');
+    let Step::Next(c4) = equals else {
+        return CommandRead::NoCommand(step_lost(equals));
+    };
+    let w2 = whitespace0(rest_at(part, base, c4), c4);
+    let c5 = w2.next;
+    let number = positive_integer(rest_at(part, base, c5), c5);
+    let Number::Value(code, c6) = number else {
+        return CommandRead::NoCommand(number_lost(number));
+    };
+    let w3 = whitespace0(rest_at(part, base, c6), c6);
+    let c7 = w3.next;
+    let semicolon = tag(rest_at(part, base, c7), c7, b';');
+    let Step::Next(c8) = semicolon else {
+        return CommandRead::NoCommand(step_lost(semicolon));
+    };
+    CommandRead::Command(
+        CommandParts {
+            doc,
+            maturity,
+            flags: h.qualities,
+            access: h.privilege,
+            name: h.name,
+            end: h.end,
+            input: t.input,
+            input_end: t.input_end,
+            output: t.output,
+            output_end: t.output_end,
+            code,
+        },
+        c8,
+    )
+}

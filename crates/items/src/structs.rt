@@ -1,0 +1,468 @@
+// Fields and structs.
+ghost use mathlib.Core.Path.{_≡_};
+ghost use mathlib.Core.List.{map};
+ghost use Prim.Native.Nat.{_+_, _≤_};
+ghost use lib.ListN.{length, take};
+ghost use Rattle.lexing.specs.words.{isLower};
+ghost use Rattle.lexing.specs.answers.{numberReply};
+ghost use Rattle.items.specs.layout.{text-limit};
+ghost use Rattle.items.specs.records.{field-record};
+ghost use Rattle.items.specs.structs.{max-length, parse-struct-field, closed-field, fields-run, struct-fields, response-code};
+ghost use Rattle.items.specs.answers.{CountTo};
+ghost use Rattle.items.specs.answers.structs.{FieldTo, fieldLost, StructFieldTo, structFieldLost, StructHeadTo, headLost, StructCountTo};
+ghost use Rattle.items.specs.inner.structs.{optionalLength, lengthLost, MarkerTo, kindBy, StructWordTo, codeReply, responseReply, typeBy};
+use crate::counts::Count;
+use crate::counts::count_end;
+use crate::maturity::api_maturity;
+use lexing::answers::Lost;
+use lexing::answers::Step;
+use lexing::answers::step_lost;
+use lexing::blanks::Gap;
+use lexing::blanks::gap_lost;
+use lexing::blanks::whitespace0;
+use lexing::blanks::whitespace1;
+use lexing::integers::Number;
+use lexing::integers::number_lost;
+use lexing::integers::positive_integer;
+use lexing::parts::rest_at;
+use lexing::word_sets::is_lower;
+use lexing::word_sets::keywords_set;
+use lexing::words::keyword;
+use lexing::words::parse_id;
+use lexing::words::tag;
+
+// A field: where its type's name starts and ends, its largest length where it has one, where its name starts and ends, whether it is a list, its code.
+pub struct FieldParts {
+    pub type_at: usize,
+    pub type_end: usize,
+    pub has_maximum: bool,
+    pub maximum: u64,
+    pub name: usize,
+    pub end: usize,
+    pub list: bool,
+    pub code: u64,
+}
+
+pub enum FieldRead {
+    Field(FieldParts, usize),
+    NoField(Lost),
+}
+
+// A field of a struct; flags: optional, nullable, fabric sensitive.
+pub struct StructFieldParts {
+    pub maturity: u8,
+    pub flags: u8,
+    pub field: FieldParts,
+}
+
+pub enum StructFieldRead {
+    StructField(StructFieldParts, usize),
+    NoStructField(Lost),
+}
+
+// What the word before a struct makes of it; only a response has a code.
+pub enum StructKind {
+    Regular,
+    Request,
+    Response,
+    Shared,
+}
+
+// A struct up to its fields: its kind, whether it is fabric scoped, where its name starts and ends, the code of a response.
+pub struct StructHeadParts {
+    pub kind: StructKind,
+    pub scoped: u8,
+    pub name: usize,
+    pub end: usize,
+    pub code: u64,
+}
+
+pub enum StructHeadRead {
+    Head(StructHeadParts, usize),
+    NoHead(Lost),
+}
+
+// The kind that the word before a struct says, and the offset behind it.
+struct StructWord {
+    kind: StructKind,
+    next: usize,
+}
+
+// Whether there is a largest length, and which, and the offset behind it.
+enum MaxLength {
+    Length(bool, u64, usize),
+    NoLength(Lost),
+}
+
+// Whether a field is a list, and the offset behind the marker.
+struct Marker {
+    list: bool,
+    next: usize,
+}
+
+fn max_length(part: &[u8], base: usize) -> Number
+    requires { ⌜ base + length (now part) ≤ text-limit ⌝ }
+    ensures { λ r. ⌜ numberReply r base (now (part .entry)) ≡ max-length base (now (part .entry)) ⌝ }
+{
+    let w1 = whitespace0(part, base);
+    let c1 = w1.next;
+    let less = tag(rest_at(part, base, c1), c1, b'<');
+    let Step::Next(c2) = less else {
+        return Number::NoNumber(step_lost(less));
+    };
+    let w2 = whitespace0(rest_at(part, base, c2), c2);
+    let c3 = w2.next;
+    let number = positive_integer(rest_at(part, base, c3), c3);
+    let Number::Value(v, c4) = number else {
+        return Number::NoNumber(number_lost(number));
+    };
+    let w3 = whitespace0(rest_at(part, base, c4), c4);
+    let c5 = w3.next;
+    let greater = tag(rest_at(part, base, c5), c5, b'>');
+    let Step::Next(c6) = greater else {
+        return Number::NoNumber(step_lost(greater));
+    };
+    Number::Value(v, c6)
+}
+
+// A length that may be absent, at an offset: where it fails nothing is read, and a stop goes on.
+fn optional_length(r: Number, base: usize) -> MaxLength
+    ensures { λ x. ⌜ x ≡ optionalLength r base ⌝ }
+{
+    if let Number::Value(v, c) = r {
+        return MaxLength::Length(true, v, c);
+    }
+    let l = number_lost(r);
+    match l {
+        Lost::Fail(_) => MaxLength::Length(false, 0, base),
+        Lost::Stop(n, p) => MaxLength::NoLength(Lost::Stop(n, p)),
+    }
+}
+
+fn length_lost(r: MaxLength) -> Lost
+    ensures { λ x. ⌜ x ≡ lengthLost r ⌝ }
+{
+    match r {
+        MaxLength::Length(_, _, c) => Lost::Fail(c),
+        MaxLength::NoLength(l) => l,
+    }
+}
+
+// The marker of a list, which may be absent.
+fn list_marker(part: &[u8], base: usize) -> Marker
+    requires { ⌜ base + length (now part) ≤ text-limit ⌝ }
+    ensures { λ r. ⌜ MarkerTo r base (now (part .entry)) ⌝ }
+{
+    let absent = Marker {
+        list: false,
+        next: base,
+    };
+    let bracket = tag(part, base, b'[');
+    let Step::Next(c1) = bracket else {
+        return absent;
+    };
+    let w1 = whitespace0(rest_at(part, base, c1), c1);
+    let c2 = w1.next;
+    let close = tag(rest_at(part, base, c2), c2, b']');
+    let Step::Next(c3) = close else {
+        return absent;
+    };
+    let w2 = whitespace0(rest_at(part, base, c3), c3);
+    Marker {
+        list: true,
+        next: w2.next,
+    }
+}
+
+pub fn parse_field(part: &[u8], base: usize) -> FieldRead
+    requires { ⌜ base + length (now part) ≤ text-limit ⌝ }
+    ensures { λ r. ⌜ FieldTo r base (now (part .entry)) ⌝ }
+{
+    let w1 = whitespace0(part, base);
+    let c1 = w1.next;
+    let data_type = parse_id(rest_at(part, base, c1), c1);
+    let Step::Next(c2) = data_type else {
+        return FieldRead::NoField(step_lost(data_type));
+    };
+    let length = optional_length(max_length(rest_at(part, base, c2), c2), c2);
+    let MaxLength::Length(has_maximum, maximum, c3) = length else {
+        return FieldRead::NoField(length_lost(length));
+    };
+    let gap = whitespace1(rest_at(part, base, c3), c3);
+    let Gap::Passed(w2) = gap else {
+        return FieldRead::NoField(gap_lost(gap));
+    };
+    let c4 = w2.next;
+    let name = parse_id(rest_at(part, base, c4), c4);
+    let Step::Next(c5) = name else {
+        return FieldRead::NoField(step_lost(name));
+    };
+    let w3 = whitespace0(rest_at(part, base, c5), c5);
+    let c6 = w3.next;
+    let marker = list_marker(rest_at(part, base, c6), c6);
+    let c7 = marker.next;
+    let equals = tag(rest_at(part, base, c7), c7, b'=');
+    let Step::Next(c8) = equals else {
+        return FieldRead::NoField(step_lost(equals));
+    };
+    let w4 = whitespace0(rest_at(part, base, c8), c8);
+    let c9 = w4.next;
+    let number = positive_integer(rest_at(part, base, c9), c9);
+    let Number::Value(code, c10) = number else {
+        return FieldRead::NoField(number_lost(number));
+    };
+    FieldRead::Field(
+        FieldParts {
+            type_at: c1,
+            type_end: c2,
+            has_maximum,
+            maximum,
+            name: c4,
+            end: c5,
+            list: marker.list,
+            code,
+        },
+        c10,
+    )
+}
+
+fn field_lost(r: FieldRead) -> Lost
+    ensures { λ x. ⌜ x ≡ fieldLost r ⌝ }
+{
+    match r {
+        FieldRead::Field(_, c) => Lost::Fail(c),
+        FieldRead::NoField(l) => l,
+    }
+}
+
+pub fn parse_struct_field(part: &[u8], base: usize) -> StructFieldRead
+    requires { ⌜ base + length (now part) ≤ text-limit ⌝ }
+    ensures { λ r. ⌜ StructFieldTo parse-struct-field r base (now (part .entry)) ⌝ }
+{
+    let w1 = whitespace0(part, base);
+    let c1 = w1.next;
+    let m = api_maturity(rest_at(part, base, c1), c1);
+    let c2 = m.next;
+    let w2 = whitespace0(rest_at(part, base, c2), c2);
+    let c3 = w2.next;
+    let set = keywords_set(rest_at(part, base, c3), c3, 0);
+    let c4 = set.next;
+    let r = parse_field(rest_at(part, base, c4), c4);
+    let FieldRead::Field(field, c5) = r else {
+        return StructFieldRead::NoStructField(field_lost(r));
+    };
+    StructFieldRead::StructField(
+        StructFieldParts {
+            maturity: m.level,
+            flags: set.flags,
+            field,
+        },
+        c5,
+    )
+}
+
+pub fn struct_field_lost(r: StructFieldRead) -> Lost
+    ensures { λ x. ⌜ x ≡ structFieldLost r ⌝ }
+{
+    match r {
+        StructFieldRead::StructField(_, c) => Lost::Fail(c),
+        StructFieldRead::NoStructField(l) => l,
+    }
+}
+
+// A field of a struct and the semicolon behind it.
+fn closed_field(part: &[u8], base: usize) -> StructFieldRead
+    requires { ⌜ base + length (now part) ≤ text-limit ⌝ }
+    ensures { λ r. ⌜ StructFieldTo closed-field r base (now (part .entry)) ⌝ }
+{
+    let w1 = whitespace0(part, base);
+    let c1 = w1.next;
+    let r = parse_struct_field(rest_at(part, base, c1), c1);
+    let StructFieldRead::StructField(field, c2) = r else {
+        return StructFieldRead::NoStructField(struct_field_lost(r));
+    };
+    let w2 = whitespace0(rest_at(part, base, c2), c2);
+    let c3 = w2.next;
+    let semicolon = tag(rest_at(part, base, c3), c3, b';');
+    let Step::Next(c4) = semicolon else {
+        return StructFieldRead::NoStructField(step_lost(semicolon));
+    };
+    StructFieldRead::StructField(field, c4)
+}
+
+// The first pass over fields: four words each.
+fn count_fields(part: &[u8], base: usize) -> Count
+    requires { ⌜ base + length (now part) ≤ text-limit ⌝ }
+    ensures { λ r. ⌜ CountTo (map field-record) fields-run r base (now (part .entry)) ⌝ }
+{
+    let mut c = base;
+    let mut n = 0;
+    loop {
+        let r = closed_field(rest_at(part, base, c), c);
+        let StructFieldRead::StructField(_, next) = r else {
+            return count_end(struct_field_lost(r), n, c);
+        };
+        c = next;
+        n += 4;
+    }
+}
+
+// The first pass over the fields between braces.
+pub fn struct_fields(part: &[u8], base: usize) -> Count
+    requires { ⌜ base + length (now part) ≤ text-limit ⌝ }
+    ensures { λ r. ⌜ CountTo (map field-record) struct-fields r base (now (part .entry)) ⌝ }
+{
+    let brace = tag(part, base, b'{');
+    let Step::Next(c1) = brace else {
+        return Count::NoCount(step_lost(brace));
+    };
+    let run = count_fields(rest_at(part, base, c1), c1);
+    let Count::Words(n, c2) = run else {
+        return run;
+    };
+    let w = whitespace0(rest_at(part, base, c2), c2);
+    let c3 = w.next;
+    let close = tag(rest_at(part, base, c3), c3, b'}');
+    let Step::Next(c4) = close else {
+        return Count::NoCount(step_lost(close));
+    };
+    Count::Words(n, c4)
+}
+
+// The kind that a word of n bytes says: only in lower case it counts.
+fn kind_by(part: &[u8], n: usize, kind: StructKind) -> StructKind
+    requires { ⌜ n ≤ length (now part) ⌝ }
+    ensures { λ r. ⌜ r ≡ kindBy (isLower (take n (now (part .entry)))) kind ⌝ }
+{
+    if is_lower(part, n) {
+        return kind;
+    }
+    StructKind::Regular
+}
+
+// The word before a struct, which may be absent.
+fn struct_word(part: &[u8], base: usize) -> StructWord
+    requires { ⌜ base + length (now part) ≤ text-limit ⌝ }
+    ensures { λ r. ⌜ StructWordTo r base (now (part .entry)) ⌝ }
+{
+    let request = keyword(part, base, b"request");
+    if let Step::Next(c) = request {
+        let kind = kind_by(part, c - base, StructKind::Request);
+        return StructWord { kind, next: c };
+    }
+    let response = keyword(part, base, b"response");
+    if let Step::Next(c) = response {
+        let kind = kind_by(part, c - base, StructKind::Response);
+        return StructWord { kind, next: c };
+    }
+    let shared = keyword(part, base, b"shared");
+    if let Step::Next(c) = shared {
+        let kind = kind_by(part, c - base, StructKind::Shared);
+        return StructWord { kind, next: c };
+    }
+    StructWord {
+        kind: StructKind::Regular,
+        next: base,
+    }
+}
+
+fn response_code(part: &[u8], base: usize) -> Number
+    requires { ⌜ base + length (now part) ≤ text-limit ⌝ }
+    ensures { λ r. ⌜ responseReply r base (now (part .entry)) ≡ response-code base (now (part .entry)) ⌝ }
+{
+    let equals = tag(part, base, b'=');
+    let Step::Next(c1) = equals else {
+        return Number::NoNumber(step_lost(equals));
+    };
+    let w1 = whitespace0(rest_at(part, base, c1), c1);
+    let c2 = w1.next;
+    let number = positive_integer(rest_at(part, base, c2), c2);
+    let Number::Value(code, c3) = number else {
+        return Number::NoNumber(number_lost(number));
+    };
+    let w2 = whitespace0(rest_at(part, base, c3), c3);
+    Number::Value(code, w2.next)
+}
+
+// The code of a response; other structs have none, and nothing is read.
+fn struct_code(part: &[u8], base: usize, kind: StructKind) -> Number
+    requires { ⌜ base + length (now part) ≤ text-limit ⌝ }
+    ensures { λ r. ⌜ codeReply kind r base (now (part .entry)) ≡ typeBy kind base (now (part .entry)) ⌝ }
+{
+    match kind {
+        StructKind::Regular => Number::Value(0, base),
+        StructKind::Request => Number::Value(0, base),
+        StructKind::Response => response_code(part, base),
+        StructKind::Shared => Number::Value(0, base),
+    }
+}
+
+// A struct up to its fields.
+pub fn struct_head(part: &[u8], base: usize) -> StructHeadRead
+    requires { ⌜ base + length (now part) ≤ text-limit ⌝ }
+    ensures { λ r. ⌜ StructHeadTo r base (now (part .entry)) ⌝ }
+{
+    let word = struct_word(part, base);
+    let kind = word.kind;
+    let c1 = word.next;
+    let w1 = whitespace0(rest_at(part, base, c1), c1);
+    let c2 = w1.next;
+    let set = keywords_set(rest_at(part, base, c2), c2, 1);
+    let c3 = set.next;
+    let w2 = whitespace0(rest_at(part, base, c3), c3);
+    let c4 = w2.next;
+    let key = keyword(rest_at(part, base, c4), c4, b"struct");
+    let Step::Next(c5) = key else {
+        return StructHeadRead::NoHead(step_lost(key));
+    };
+    let gap = whitespace1(rest_at(part, base, c5), c5);
+    let Gap::Passed(w3) = gap else {
+        return StructHeadRead::NoHead(gap_lost(gap));
+    };
+    let c6 = w3.next;
+    let name = parse_id(rest_at(part, base, c6), c6);
+    let Step::Next(c7) = name else {
+        return StructHeadRead::NoHead(step_lost(name));
+    };
+    let w4 = whitespace0(rest_at(part, base, c7), c7);
+    let c8 = w4.next;
+    let number = struct_code(rest_at(part, base, c8), c8, kind);
+    let Number::Value(code, c9) = number else {
+        return StructHeadRead::NoHead(number_lost(number));
+    };
+    StructHeadRead::Head(
+        StructHeadParts {
+            kind,
+            scoped: set.flags,
+            name: c6,
+            end: c7,
+            code,
+        },
+        c9,
+    )
+}
+
+pub fn head_lost(r: StructHeadRead) -> Lost
+    ensures { λ x. ⌜ x ≡ headLost r ⌝ }
+{
+    match r {
+        StructHeadRead::Head(_, c) => Lost::Fail(c),
+        StructHeadRead::NoHead(l) => l,
+    }
+}
+
+// The first pass over a struct: three words, and those of its fields.
+pub fn parse_struct_after_doc_maturity(part: &[u8], base: usize) -> Count
+    requires { ⌜ base + length (now part) ≤ text-limit ⌝ }
+    ensures { λ r. ⌜ StructCountTo r base (now (part .entry)) ⌝ }
+{
+    let head = struct_head(part, base);
+    let StructHeadRead::Head(_, c1) = head else {
+        return Count::NoCount(head_lost(head));
+    };
+    let fields = struct_fields(rest_at(part, base, c1), c1);
+    let Count::Words(n, c2) = fields else {
+        return fields;
+    };
+    Count::Words(n + 3, c2)
+}
