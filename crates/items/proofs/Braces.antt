@@ -10,8 +10,14 @@ use Rattle.lexing.specs.blanks.{Doc, whitespace0}
 use Rattle.lexing.specs.answers.{Rest, lostReply}
 use Rattle.lexing.specs.declared.answers.Lost.{Lost}
 use Rattle.lexing.specs.declared.answers.Lost.the-variants.{Fail, Stop}
-use Rattle.lexing.proofs.Slicing.{Took, begin, go, on, lose, fall, done, rest-self, rest-from}
+use Rattle.lexing.proofs.Runs.{suf-length}
+use Rattle.lexing.proofs.Onward.{Onward}
+use Rattle.lexing.proofs.Slicing.{Took, begin, go, on, lose, fall, done, rest-self, rest-from, suf-drop}
 use Rattle.items.specs.entries.{enclosed, where-missing, braces}
+use Rattle.items.specs.records.{Record}
+use Rattle.items.specs.answers.{Room, Written}
+use Rattle.items.specs.declared.writing.Wrote.{Wrote}
+use Rattle.items.proofs.writing.Laws.{no-room, written-took}
 
 -- the closing brace
 module _ {b n : ℕ} {u : List ℕ} {d : Doc} {c : ℕ} (t : Took whitespace0 b u n d c) where
@@ -51,3 +57,71 @@ module _ {A : Type 0} (m : Parser A) (b : ℕ) (u : List ℕ) where
       pub braces-read : {c : ℕ} → Took (tag 125) b u c₃ tt c → ok a c (drop (c - b) u) ≡ braces m b u
       unfolding braces enclosed
       braces-read {c} t = begin (braces m) b u (on _ t₁ (go _ t₂ (on _ (close-took t₃ _ t) (done a b c u))))
+
+-- a sequence that was read, taken apart
+pub record Step {A B : Type 0} (m : Parser A) (k : A → Parser B) (v : B) (e : ℕ) (s : List ℕ) (c : ℕ) (r : List ℕ) : Type 0 where
+  pub value : A
+  pub next : ℕ
+  pub is : ok value next (drop (next - c) r) ≡ m c r
+  pub then : ok v e s ≡ k value next (drop (next - c) r)
+
+rest-is : {A : Type 0} {m : Parser A} (w : Onward m) (c d : ℕ) (r t : List ℕ) (a : A) → m c r ≡ ok a d t → t ≡ drop (d - c) r
+rest-is w c d r t a e =
+    let p = rw e at (w .onward c r) in
+    let z : length r - length t ≡ d - c = omega (arith, p .1, suf-length (p .0)) in
+    suf-drop (p .0) ∙ ap (λ (n : ℕ). drop n r) z
+
+pub taken : {A B : Type 0} (m : Parser A) (k : A → Parser B) → Onward m → (v : B) (e : ℕ) (s : List ℕ) (c : ℕ) (r : List ℕ) → ok v e s ≡ (m >>= k) c r → Step m k v e s c r
+unfolding _>>=_
+taken {A} {B} m k w v e s c r h = go (m c r) refl
+  where
+    go : (x : Reply A) → m c r ≡ x → Step m k v e s c r
+    go (ok a d t) z =
+        let y = rest-is w c d r t a z in
+        let i : ok v e s ≡ k a d t = rw (z, _>>=_) at h in
+        record { value = a; next = d; is = rw (← y) (sym z); then = rw (← y) i }
+    go (fail p) z = let i : ok v e s ≡ fail p = rw (z, _>>=_) at h in let y : _≡_ {A = ℕ} 0 1 = cc in absurd (omega arith)
+    go (stop n p) z = let i : ok v e s ≡ stop n p = rw (z, _>>=_) at h in let y : _≡_ {A = ℕ} 0 1 = cc in absurd (omega arith)
+
+-- the value behind a step that is dropped
+then-value : {A B : Type 0} (m : Parser A) (b : B) (v : B) (e : ℕ) (s : List ℕ) (c : ℕ) (r : List ℕ) → ok v e s ≡ (m >> ret b) c r → v ≡ b
+unfolding _>>_ _>>=_ ret
+then-value {A} m b v e s c r h = go (m c r) refl
+  where
+    go : (x : Reply A) → m c r ≡ x → v ≡ b
+    go (ok a d t) z = let i : ok v e s ≡ ok b d t = rw (z, _>>_, _>>=_) at h in cc
+    go (fail p) z = let i : ok v e s ≡ fail p = rw (z, _>>_, _>>=_) at h in let y : _≡_ {A = ℕ} 0 1 = cc in absurd (omega arith)
+    go (stop n p) z = let i : ok v e s ≡ stop n p = rw (z, _>>_, _>>=_) at h in let y : _≡_ {A = ℕ} 0 1 = cc in absurd (omega arith)
+
+-- what follows a step
+pub follows : {A B : Type 0} {m : Parser A} (k : Parser B) {X : Reply B} {b : ℕ} {u : List ℕ} {n : ℕ} {a : A} {c : ℕ} → Took m b u n a c → X ≡ (m >> k) n (drop (n - b) u) → X ≡ k c (drop (c - b) u)
+unfolding _>>_ _>>=_
+follows k t e = rw (t .goes, _>>_, _>>=_) at e
+
+pub follows-with : {A B : Type 0} {m : Parser A} (k : A → Parser B) {X : Reply B} {b : ℕ} {u : List ℕ} {n : ℕ} {a : A} {c : ℕ} → Took m b u n a c → X ≡ (m >>= k) n (drop (n - b) u) → X ≡ k a c (drop (c - b) u)
+unfolding _>>=_
+follows-with k t e = rw (t .goes, _>>=_) at e
+
+-- the second pass between braces
+module _ {A : Type 0} {records : A → List Record} (m : Parser A) {b : ℕ} {u : List ℕ} {p n : ℕ} (room : Room records (braces m) b u p n) where
+  pub braces-open : (l : Lost) → lostReply l ≡ tag 123 b u → ⊥
+  braces-open l e = no-room room l (braces-unopened m b u l e)
+
+  module _ (w : Onward m) {c₁ : ℕ} (t₁ : Took (tag 123) b u b tt c₁) {r : List ℕ} (q : Rest b u c₁ r) where
+    pub braces-room : Room records m c₁ r p n
+    unfolding braces enclosed
+    braces-room =
+        let close : A → Parser A = λ a. catch (whitespace0 >> tag 125) (λ p. failAt (where-missing a p)) >> ret a in
+        let v = room .value in
+        let s = drop (room .next - b) u in
+        let y : ok v (room .next) s ≡ (tag 123 >> (m >>= close)) b (drop (b - b) u) = room .is ∙ ap (braces m b) (rest-self b u .same) in
+        let x = taken m close w v (room .next) s c₁ (drop (c₁ - b) u) (follows (m >>= close) t₁ y) in
+        let z = then-value (catch (whitespace0 >> tag 125) (λ p. failAt (where-missing (x .value) p))) (x .value) v (room .next) s (x .next) (drop (x .next - c₁) (drop (c₁ - b) u)) (x .then) in
+        record { value = x .value; next = x .next; is = rw (q .same) (x .is); fits = rw (← z) (room .fits) }
+
+    -- no closing brace
+    pub braces-close : {o : Wrote} {old new : List ℕ} (h : Written records m c₁ r p o old new) {d : Doc} {c₃ : ℕ} → Took whitespace0 b u (o .next) d c₃ → (l : Lost) {r' : List ℕ} → Rest b u c₃ r' → lostReply l ≡ tag 125 c₃ r' → ⊥
+    braces-close h t l q' e = no-room room l (braces-unclosed m b u t₁ (written-took w q h) t l q' e)
+
+    pub braces-written : {o : Wrote} {old new : List ℕ} (h : Written records m c₁ r p o old new) {d : Doc} {c₃ : ℕ} → Took whitespace0 b u (o .next) d c₃ → {c : ℕ} → Took (tag 125) b u c₃ tt c → Written records (braces m) b u p (record { next = c; to = o .to }) old new
+    braces-written h t t₄ = record { value = h .value; is = braces-read m b u t₁ (written-took w q h) t t₄; place = h .place; bytes = h .bytes }

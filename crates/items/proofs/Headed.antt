@@ -7,14 +7,19 @@ use lib.ListN.{length, drop, length-drop}
 use Rattle.lexing.specs.reply.{Reply, ok, Parser, ret, _>>=_}
 use Rattle.lexing.specs.answers.{Rest, lostReply}
 use Rattle.lexing.specs.declared.answers.Lost.{Lost}
+use Rattle.lexing.proofs.Onward.{Onward}
 use Rattle.lexing.proofs.Locality.{Consumes}
 use Rattle.lexing.proofs.Slicing.{Took, begin, go, done, lose, rest-self}
 use Rattle.items.specs.records.{Record}
-use Rattle.items.specs.layout.{word-count}
-use Rattle.items.specs.answers.{CountTo, CountsTo}
+use Rattle.items.specs.layout.{layout-20, catalogue-bytes, word-count}
+use Rattle.items.specs.buffers.{put}
+use Rattle.items.specs.answers.{CountTo, CountsTo, Room, Written}
+use Rattle.items.specs.declared.writing.Wrote.{Wrote}
 use Rattle.items.specs.declared.counts.Count.{Count}
 use Rattle.items.specs.declared.counts.Count.the-variants.{Words, NoCount}
-use Rattle.items.proofs.RecordWords.{word-count-append}
+use Rattle.items.proofs.RecordWords.{word-count-append, catalogue-bytes-append, catalogue-bytes-length}
+use Rattle.items.proofs.Braces.{Step, taken, follows-with}
+use Rattle.items.proofs.writing.Laws.{put-before, no-room, written-took}
 use Rattle.items.proofs.counts.Laws.{Counted, count-is, count-not, count-pass}
 
 pub record Headed {I H L A : Type 0} (m : I → Parser A) (records : I → A → List Record) (head : Parser H) (list : Parser L) (rs : L → List Record) (k : ℕ) : Type 0 where
@@ -58,3 +63,45 @@ module _ {I H L A : Type 0} {m : I → Parser A} {records : I → A → List Rec
                 count-is (records i) (m i) b u (d .make i h (f .value)) (n + k) e z (omega (arith, f .few, further-on w b≤b t, f .step .up, s))
                 (whole i (begin (steps i) b u (go _ t (go _ (f .step) (done _ _ _ _)))));
           }
+
+    -- The second pass, where the head was read and there is room for the whole.
+    module _ (i : I) {p n : ℕ} (room : Room (records i) (m i) b u p n) where
+      pub headed-found : (l : Lost) → lostReply l ≡ head b u → ⊥
+      headed-found l e = no-room room l (whole i (begin (steps i) b u (lose head _ l (rest-self b u) e)))
+
+      module _ (w : Onward list) {h : H} {c : ℕ} (t : Took head b u b h c) where
+        -- the list, seen from the whole
+        inner : Step list (λ l. ret (d .make i h l)) (room .value) (room .next) (drop (room .next - b) u) c (drop (c - b) u)
+        inner =
+            let y : ok (room .value) (room .next) (drop (room .next - b) u) ≡ steps i b (drop (b - b) u) = room .is ∙ (ap (λ (f : Parser A). f b u) (d .reads i) ∙ ap (steps i b) (rest-self b u .same)) in
+            taken list (λ l. ret (d .make i h l)) w (room .value) (room .next) (drop (room .next - b) u) c (drop (c - b) u) (follows-with (λ h. list >>= λ l. ret (d .make i h l)) t y)
+
+        inner-is : room .value ≡ d .make i h (inner .value)
+        unfolding ret
+        inner-is = let z = inner .then in cc
+
+        pub headed-room : {r : List ℕ} → Rest b u c r → Room rs list c r (p + 8 * k) n
+        headed-room q =
+            let f : word-count (records i (room .value)) ≡ word-count (rs (inner .value)) + k = ap (λ v. word-count (records i v)) inner-is ∙ headed-words i h (inner .value) in
+            record { value = inner .value; next = inner .next; is = subst (λ (x : List ℕ). ok (inner .value) (inner .next) (drop (inner .next - c) x) ≡ list c x) (sym (q .same)) (inner .is); fits = omega (arith, room .fits, f) }
+
+        -- the list's records are written, and then the first one before them
+        pub headed-written : {r : List ℕ} → Rest b u c r → {o : Wrote} {old mid new : List ℕ} (g : Written rs list c r (p + 8 * k) o old mid) → n ≡ length old → new ≡ put p (catalogue-bytes layout-20 (d .first i h (g .value) ∷ [])) mid → Written (records i) (m i) b u p o old new
+        headed-written q {o} {old} {mid} {new} g same e =
+            let s = written-took w q g in
+            let a = d .make i h (g .value) in
+            let is : ok a (o .next) (drop (o .next - b) u) ≡ m i b u = whole i (begin (steps i) b u (go _ t (go _ s (done _ _ _ _)))) in
+            let y : room .value ≡ a = let z = room .is ∙ sym is in cc in
+            let f = headed-words i h (g .value) in
+            let z : word-count (records i (room .value)) ≡ word-count (records i a) = ap (λ v. word-count (records i v)) y in
+            let k₁ = catalogue-bytes-length (d .first i h (g .value) ∷ []) in
+            let k₂ = catalogue-bytes-length (rs (g .value)) in
+            let x = d .size i h (g .value) in
+            record {
+              value = a;
+              is = is;
+              place = omega (arith, g .place, f);
+              bytes = rw (d .hands i h (g .value), catalogue-bytes-append layout-20 (d .first i h (g .value) ∷ []) (rs (g .value))) (
+                  put-before p (p + 8 * k) (catalogue-bytes layout-20 (d .first i h (g .value) ∷ [])) (catalogue-bytes layout-20 (rs (g .value))) old mid new (omega (arith, k₁, x)) (omega (arith, k₂, room .fits, z, f, same)) (g .bytes) e
+                  );
+            }

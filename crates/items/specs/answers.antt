@@ -10,23 +10,27 @@ use mathlib.Core.Bool.{Bool, true, false}
 use mathlib.Core.Option.{Option, none, some}
 use mathlib.Core.List.{List, [], _∷_}
 use lib.ListN.{length, take, drop}
-use Rattle.lexing.specs.reply.{Parser, Reply, ok, fail, stop}
+use Rattle.lexing.specs.reply.{Parser, ok}
 use Rattle.lexing.specs.words.{Word, word}
 use Rattle.lexing.specs.blanks.{Doc}
-use Rattle.lexing.specs.answers.{Answer, got, lost, reply, stepAnswer}
+use Rattle.lexing.specs.answers.{Answer, got, lost, reply, stepAnswer, docOf}
 use Rattle.lexing.specs.declared.answers.Lost.{Lost}
 use Rattle.lexing.specs.declared.answers.Lost.the-variants.{Fail, Stop}
 use Rattle.lexing.specs.declared.answers.Step.{Step}
 use Rattle.lexing.specs.declared.answers.Step.the-variants.{Next, Not}
+use Rattle.lexing.specs.declared.blanks.DocSpan.{DocSpan}
+use Rattle.lexing.specs.declared.blanks.DocSpan.the-variants.{Absent, At}
 use Rattle.items.specs.entries.{api-maturity}
 use Rattle.items.specs.clusters.{mapped}
 use Rattle.items.specs.records.{Record, bits}
-use Rattle.items.specs.layout.{layout-20, catalogue-bytes, word-count, packed}
+use Rattle.items.specs.layout.{layout-20, catalogue-bytes, word-count, packed, text-limit}
 use Rattle.items.specs.buffers.{put}
 use Rattle.items.specs.declared.counts.Count.{Count}
 use Rattle.items.specs.declared.counts.Count.the-variants.{Words, NoCount}
 use Rattle.items.specs.declared.maturity.Maturity.{Maturity}
 use Rattle.items.specs.declared.writing.First.{First}
+use Rattle.items.specs.declared.writing.Wrote.{Wrote}
+use Rattle.items.specs.declared.writing.FrontParts.{FrontParts}
 
 -- a value that may be absent
 abbrev pub optionOf : {A : Type 0} → Bool → A → Option A
@@ -111,21 +115,18 @@ countEnd (Stop i p) n c = NoCount (Stop i p)
 -- The second pass.
 
 -- a declaration is accepted, and there is room for its records in n bytes from a place on
-abbrev pub Room : {A : Type 0} → (A → List Record) → Reply A → ℕ → ℕ → Type 0
-Room records (ok a c r) at n = at + 8 * word-count (records a) ≤ n
-Room records (fail p) at n = ⊥
-Room records (stop i p) at n = ⊥
+pub record Room {A : Type 0} (records : A → List Record) (m : Parser A) (b : ℕ) (u : List ℕ) (at n : ℕ) : Type 0 where
+  pub value : A
+  pub next : ℕ
+  pub is : ok value next (drop (next - b) u) ≡ m b u
+  pub fits : at + 8 * word-count (records value) ≤ n
 
--- records, written over a buffer from a place on; to is the place behind them
-pub record Puts (l : List Record) (at to : ℕ) (old new : List ℕ) : Type 0 where
-  pub place : to ≡ at + 8 * word-count l
-  pub bytes : new ≡ put at (catalogue-bytes layout-20 l) old
-
--- the records of a declaration
-abbrev pub Written : {A : Type 0} → (A → List Record) → Reply A → ℕ → ℕ → List ℕ → List ℕ → Type 0
-Written records (ok a c r) at to old new = Puts (records a) at to old new
-Written records (fail p) at to old new = ⊥
-Written records (stop i p) at to old new = ⊥
+-- its records are written from a place on; the answer is where reading and writing stand then
+pub record Written {A : Type 0} (records : A → List Record) (m : Parser A) (b : ℕ) (u : List ℕ) (at : ℕ) (w : Wrote) (old new : List ℕ) : Type 0 where
+  pub value : A
+  pub is : ok value (w .next) (drop (w .next - b) u) ≡ m b u
+  pub place : w .to ≡ at + 8 * word-count (records value)
+  pub bytes : new ≡ put at (catalogue-bytes layout-20 (records value)) old
 
 -- the first word of a record, and what fits it
 abbrev pub first-of : First → ℕ
@@ -153,3 +154,28 @@ pub record Fits (f : First) : Type 0 where
   pub size-fits : f .size < 1048576
   pub privilege-fits : f .privilege < 4
   pub further-fits : f .further < 4
+
+-- the word of a span
+abbrev pub spanWord : ℕ → ℕ → ℕ
+spanWord o n = packed 0 (bits 20 o ∷ bits 20 n ∷ bits 24 0 ∷ [])
+
+-- the word and the bit of a doc comment, and what fits them
+abbrev pub docWord : DocSpan → ℕ
+docWord Absent = 0
+docWord (At o n) = spanWord o n
+
+abbrev pub docBit : DocSpan → ℕ
+docBit Absent = 0
+docBit (At o n) = 1
+
+abbrev pub DocFits : DocSpan → Type 0
+DocFits Absent = Unit {0}
+DocFits (At o n) = (o ≤ text-limit) × (n ≤ text-limit)
+
+pub record FrontFits (f : FrontParts) : Type 0 where
+  pub place-fits : f .place < 4
+  pub maturity-fits : f .maturity < 4
+  pub doc-fits : DocFits (f .doc)
+
+abbrev pub frontOf : FrontParts → Front
+frontOf f = record { kind = f .kind; place = f .place; doc = docOf (f .doc); maturity = f .maturity }

@@ -17,6 +17,7 @@ use crate::counts::count_end;
 use crate::maturity::api_maturity;
 use crate::optional::optional;
 use crate::writing::First;
+use crate::writing::Wrote;
 use crate::writing::first_word;
 use crate::writing::put_word;
 use lexing::answers::Lost;
@@ -276,18 +277,18 @@ fn put_entry(out: &mut [u8], at: usize, e: EntryParts)
     put_word(out, at + 8, e.code);
 }
 
-// The second pass over entries: their records, written from a place on; the answer is the place behind them.
-pub fn write_entries(part: &[u8], base: usize, out: &mut [u8], at: usize) -> usize
+// The second pass over entries: their records, written from a place on.
+pub fn write_entries(part: &[u8], base: usize, out: &mut [u8], at: usize) -> Wrote
     requires { ⌜ base + length (now part) ≤ text-limit ⌝ }
-    requires { ⌜ Room (map entry-record) (constant-entries base (now part)) at (length (now out)) ⌝ }
-    ensures { λ r. ⌜ Written (map entry-record) (constant-entries base (now (part .entry))) at r (now (out .entry)) (now (out .exit)) ⌝ }
+    requires { ⌜ Room (map entry-record) constant-entries base (now part) at (length (now out)) ⌝ }
+    ensures { λ r. ⌜ Written (map entry-record) constant-entries base (now (part .entry)) at r (now (out .entry)) (now (out .exit)) ⌝ }
 {
     let mut c = base;
     let mut to = at;
     loop {
         let r = blank_entry(rest_at(part, base, c), c);
         let EntryRead::Read(e, next) = r else {
-            return to;
+            return Wrote { next: c, to };
         };
         put_entry(out, to, e);
         c = next;

@@ -2,9 +2,12 @@
 ghost use mathlib.Core.Path.{_≡_};
 ghost use Prim.Native.Nat.{_+_, _≤_};
 ghost use lib.ListN.{length};
-ghost use Rattle.items.specs.layout.{big-endian};
+ghost use mathlib.Core.List.{[], _∷_};
+ghost use Rattle.lexing.specs.word_sets.{bit};
+ghost use Rattle.items.specs.layout.{big-endian, words-bytes, text-limit};
 ghost use Rattle.items.specs.buffers.{put};
-ghost use Rattle.items.specs.answers.{Fits, first-of};
+ghost use Rattle.items.specs.answers.{Fits, first-of, spanWord, DocFits, docWord, docBit};
+use lexing::blanks::DocSpan;
 
 // What the first word of a record holds, from its top; the flags are seven bits, and an absent name is zeros.
 pub struct First {
@@ -17,6 +20,12 @@ pub struct First {
     pub size: usize,
     pub privilege: u8,
     pub further: u8,
+}
+
+// Where reading and writing stand.
+pub struct Wrote {
+    pub next: usize,
+    pub to: usize,
 }
 
 pub fn first_word(f: First) -> u64
@@ -32,6 +41,64 @@ pub fn first_word(f: First) -> u64
         + f.size as u64 * 16
         + f.privilege as u64 * 4
         + f.further as u64
+}
+
+// What stands before a declaration, and its record's kind and place.
+pub struct FrontParts {
+    pub kind: u8,
+    pub place: u8,
+    pub doc: DocSpan,
+    pub maturity: u8,
+}
+
+// A span: its offset and its length in twenty bits each from the top.
+pub fn span_word(offset: usize, size: usize) -> u64
+    requires { ⌜ offset ≤ text-limit ⌝ }
+    requires { ⌜ size ≤ text-limit ⌝ }
+    ensures { λ r. ⌜ r ≡ spanWord offset size ⌝ }
+{
+    offset as u64 * 0x1000_0000_0000 + size as u64 * 0x100_0000
+}
+
+fn doc_word(doc: DocSpan) -> u64
+    requires { ⌜ DocFits doc ⌝ }
+    ensures { λ r. ⌜ r ≡ docWord doc ⌝ }
+{
+    match doc {
+        DocSpan::Absent => 0,
+        DocSpan::At(offset, size) => span_word(offset, size),
+    }
+}
+
+// Whether there is a doc comment.
+pub fn doc_bit(doc: DocSpan) -> u8
+    ensures { λ r. ⌜ r ≡ docBit doc ⌝ }
+{
+    match doc {
+        DocSpan::Absent => 0,
+        DocSpan::At(_, _) => 1,
+    }
+}
+
+// A flag as a bit.
+pub fn flag(b: bool) -> u8
+    ensures { λ r. ⌜ r ≡ bit b ⌝ }
+{
+    if b {
+        return 1;
+    }
+    0
+}
+
+// The first two words of a record that can have a doc comment: its own, and the doc comment's span.
+pub fn put_documented(out: &mut [u8], at: usize, first: First, doc: DocSpan)
+    requires { ⌜ at + 16 ≤ length (now out) ⌝ }
+    requires { ⌜ Fits first ⌝ }
+    requires { ⌜ DocFits doc ⌝ }
+    ensures { λ _. ⌜ now (out .exit) ≡ put at (words-bytes (first-of first ∷ docWord doc ∷ [])) (now (out .entry)) ⌝ }
+{
+    put_word(out, at, first_word(first));
+    put_word(out, at + 8, doc_word(doc));
 }
 
 // A word as eight bytes, the most significant first.

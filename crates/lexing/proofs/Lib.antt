@@ -15,6 +15,8 @@ pub mod TokenLocality
 -- what a reader's answer gives its caller; loops of the code against `many0` and `iter`
 pub mod Slicing
 pub mod Repetition
+-- the doc comment of a run of blanks stands in the run
+pub mod DocPlace
 -- what a first word rules out
 pub mod FirstWord
 pub mod KnownAnswers

@@ -29,7 +29,7 @@ use Rattle.items.specs.declared.entries.EntryRead.{EntryRead}
 use Rattle.items.specs.declared.entries.EntryRead.the-variants.{Read, NoEntry}
 use Rattle.items.proofs.Locality.{punct-local, constant-annotation-local, constant-annotation-consumes, constant-annotations-list-inside, constant-entry-inside, blank-entry-inside, blank-entry-consumes}
 use Rattle.items.proofs.Answers.{read-within, read-took, read-lost}
-use Rattle.items.proofs.WordBetween.{word-moved}
+use Rattle.items.proofs.WordBetween.{word-moved, extent-between}
 use Rattle.items.proofs.RecordWords.{map-elementwise}
 use Rattle.items.proofs.counts.Laws.{Counting, counting-more}
 use Rattle.items.proofs.writing.Laws.{put-one, put-more, Writing, writing-fits, writing-more, writing-ends}
@@ -138,13 +138,11 @@ put-entry e p w l l₁ l₂ h z e₁ e₂ = rw (parts-words e, ← z) (put-more 
 
 -- the record of an entry that was read
 pub entry-parts : (b : ℕ) (u : List ℕ) (e : EntryParts) → b ≤ e .name → e .name ≤ e .end → e .end ≤ b + length u → parts-record e ≡ entry-record (entryAt b u e)
-unfolding entry-record word-extent
-entry-parts b u e h k l =
-    let z : length (take (e .end - e .name) (drop (e .name - b) u)) ≡ e .end - e .name = length-take-le (e .end - e .name) (drop (e .name - b) u) (omega (arith, length-drop (e .name - b) u)) in
-    ap (λ (n : ℕ). plain 4 (e .maturity) [] (at (e .name) n) (value (e .code) ∷ [])) (sym z)
+unfolding entry-record
+entry-parts b u e h k l = rw (extent-between b u (e .name) (e .end) h k l)
 
 -- a turn of the second pass
-module _ (b : ℕ) (u : List ℕ) (p : ℕ) (old : List ℕ) (room : Room (map entry-record) (many0 blank-entry b u) p (length old)) {c to : ℕ} {new : List ℕ} (i : Writing (map entry-record) blank-entry b u c p old new to)
+module _ (b : ℕ) (u : List ℕ) (p : ℕ) (old : List ℕ) (room : Room (map entry-record) (many0 blank-entry) b u p (length old)) {c to : ℕ} {new : List ℕ} (i : Writing (map entry-record) blank-entry b u c p old new to)
     {r : List ℕ} {a : EntryRead} (q : Rest b u c r) (h : EntryTo blank-entry a c r) where
   module _ (e : EntryParts) (d : ℕ) (z : a ≡ Read e d) where
     pub entry-fits : (to + 16 ≤ length new) × ((c < d) × (d ≤ b + length u))
@@ -157,7 +155,7 @@ module _ (b : ℕ) (u : List ℕ) (p : ℕ) (old : List ℕ) (room : Room (map e
         let y = entry-parts b u e (omega (arith, v .from, q .from)) (v .up) (omega (arith, v .inside, f .1 .1)) in
         writing-more (map-elementwise entry-record) blank-entry b u p old room i blank-entry-consumes (entry-took blank-entry-onward q h e d z) 2 (entry-words (entryAt b u e)) new' (g ∙ ap (λ (x : Record). put to (catalogue-bytes layout-20 (x ∷ [])) new) y)
 
-  pub write-ends : (l : Lost) → a ≡ NoEntry l → Written (map entry-record) (many0 blank-entry b u) p to old new
+  pub write-ends : (l : Lost) → a ≡ NoEntry l → Written (map entry-record) (many0 blank-entry) b u p (record { next = c; to = to }) old new
   write-ends l z = writing-ends (map-elementwise entry-record) blank-entry b u p old room i blank-entry-consumes (entryLost a) q (entry-lost blank-entry-onward q h l (entryLost a) refl z)
 
 pub entries-onward : Onward constant-entries

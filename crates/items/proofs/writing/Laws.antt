@@ -1,23 +1,27 @@
 -- Words written over a buffer, one behind the other.
-use mathlib.Core.Path.{_≡_, refl, sym, ap, _∙_}
-use mathlib.Core.List.{List, [], _∷_, _++_, append-assoc, append-nil}
+use mathlib.Core.Path.{_≡_, refl, sym, ap, _∙_, subst}
+use mathlib.Core.List.{List, [], _∷_, _++_, map, append-assoc, append-nil}
 use Prim.Native.Nat.{ℕ, _+_, _-_, _*_, _/_, _%_, _≤_, _<_}
 use native.Mathlib.Omega.{arith}
 use native.Mathlib.Numerals.{towards-suc}
 use native.Mathlib.Nat.{add-assoc, add-zero, div-div-eq-div-mul}
 use lib.ListN.{length, drop, take, set, length-drop, length-append, take-append-drop}
-use lib.Seq.{sets, sets-eq, take-at, length-take-le, drop-append-add, drop-drop}
+use lib.Seq.{sets, sets-eq, take-at, drop-at, take-take, take-append-le, length-take-le, drop-append-add, drop-drop}
 use Rattle.lexing.specs.reply.{Reply, ok, fail, stop, Parser, many0}
-use Rattle.lexing.specs.answers.{Rest, lostReply}
+use Rattle.lexing.specs.answers.{Rest, lostReply, docOf}
 use Rattle.lexing.specs.declared.answers.Lost.{Lost}
 use Rattle.lexing.specs.declared.answers.Lost.the-variants.{Fail, Stop}
+use Rattle.lexing.specs.declared.blanks.DocSpan.{DocSpan}
+use Rattle.lexing.specs.declared.blanks.DocSpan.the-variants.{Absent, At}
 use Rattle.lexing.proofs.Locality.{Consumes}
-use Rattle.lexing.proofs.Slicing.{Took}
+use Rattle.lexing.proofs.Onward.{Onward}
+use Rattle.lexing.proofs.Slicing.{Took, took}
 use Rattle.lexing.proofs.Repetition.{before, ManyAt, manyEnd, many0-start, many0-step, many0-ends}
-use Rattle.items.specs.records.{Record}
-use Rattle.items.specs.layout.{layout-20, big-endian, words-bytes, catalogue-bytes, word-count}
+use Rattle.items.specs.records.{Extent, Bits, Further, Record, each, doc-extent, doc-bit, plain, documented}
+use Rattle.items.specs.layout.{packed, from-top, offset, size, layout-20, further-word, record-words, big-endian, words-bytes, catalogue-words, catalogue-bytes, word-count, text-limit}
 use Rattle.items.specs.buffers.{put}
-use Rattle.items.specs.answers.{Room, Puts, Written}
+use Rattle.items.specs.answers.{Room, Written, first-of, docWord, docBit, DocFits}
+use Rattle.items.specs.declared.writing.Wrote.{Wrote}
 use Rattle.items.proofs.RecordWords.{big-endian-length, words-bytes-append, words-bytes-length, words-bytes-one, catalogue-bytes-none, catalogue-bytes-length, word-count-none, Elementwise, word-count-more, catalogue-bytes-more, word-count-grows}
 
 put-8 : (l : List ℕ) (i a b c d e f g h : ℕ) → i + 8 ≤ length l
@@ -73,6 +77,41 @@ put-more at to w ws l₀ l l' z h e e' =
     let k : to ≡ at + length (words-bytes ws) = omega (arith, words-bytes-length ws) in
     rw (words-bytes-append ws (w ∷ []), words-bytes-one w) (put-on at to (words-bytes ws) (big-endian 8 w) l₀ l l' k (omega (arith, big-endian-length 8 w)) e e')
 
+-- two words that the code computes
+pub put-two : (at : ℕ) (l l₁ l₂ : List ℕ) {v w x y : ℕ} → at + 16 ≤ length l → v ≡ x → l₁ ≡ put at (big-endian 8 v) l → w ≡ y → l₂ ≡ put (at + 8) (big-endian 8 w) l₁ → l₂ ≡ put at (words-bytes (x ∷ y ∷ [])) l
+put-two at l l₁ l₂ {v} {w} {x} {y} h e e₁ f e₂ = rw (← e, ← f) (put-more at (at + 8) w (v ∷ []) l l₁ l₂ (omega arith) (omega arith) (put-one at v l l₁ e₁) e₂)
+
+-- and one more behind n of them
+pub put-next : (at to : ℕ) (ws : List ℕ) (l l₁ l₂ : List ℕ) {w y : ℕ} → to ≡ at + 8 * length ws → to + 8 ≤ length l → l₁ ≡ put at (words-bytes ws) l → w ≡ y → l₂ ≡ put to (big-endian 8 w) l₁ → l₂ ≡ put at (words-bytes (ws ++ (y ∷ []))) l
+put-next at to ws l l₁ l₂ {w} {y} z h e₁ f e₂ = rw (← f) (put-more at to w ws l l₁ l₂ z h e₁ e₂)
+
+pub doc-fits-at : (d : DocSpan) {o n : ℕ} → d ≡ At o n → DocFits d → (o ≤ text-limit) × (n ≤ text-limit)
+doc-fits-at d e h = subst (λ (x : DocSpan). DocFits x) e h
+
+-- the words of a doc comment, and of a record that can have one: g is the number that its flags make
+pub doc-word : (d : DocSpan) → docWord d ≡ packed 0 (layout-20 .span-word (doc-extent (docOf d)))
+unfolding layout-20 doc-extent packed offset size
+doc-word Absent = refl
+doc-word (At o n) = refl
+
+pub doc-bit-is : (d : DocSpan) → docBit d ≡ doc-bit (docOf d)
+unfolding doc-bit
+doc-bit-is Absent = refl
+doc-bit-is (At o n) = refl
+
+pub documented-bytes : (k p m : ℕ) (d : DocSpan) (fl : List Bits) (e : Extent) (x y : ℕ) (l : List Further) (g : ℕ) → g ≡ from-top 7 fl
+    → catalogue-bytes layout-20 (documented k p m (docOf d) fl e x y l ∷ [])
+    ≡ words-bytes (first-of (record { kind = k; place = p; maturity = m; documented = docBit d; flags = g; name = offset e; size = size e; privilege = x; further = y }) ∷ docWord d ∷ map (further-word layout-20) l)
+unfolding catalogue-bytes catalogue-words each record-words layout-20 further-word documented
+documented-bytes k p m d fl e x y l g h = rw (h, doc-bit-is d, doc-word d) (ap words-bytes (append-nil _))
+
+-- a record without one
+pub plain-bytes : (k m : ℕ) (fl : List Bits) (e : Extent) (l : List Further) (g : ℕ) → g ≡ from-top 7 fl
+    → catalogue-bytes layout-20 (plain k m fl e l ∷ [])
+    ≡ words-bytes (first-of (record { kind = k; place = 0; maturity = m; documented = 0; flags = g; name = offset e; size = size e; privilege = 0; further = 0 }) ∷ map (further-word layout-20) l)
+unfolding catalogue-bytes catalogue-words each record-words layout-20 plain
+plain-bytes k m fl e l g h = rw h (ap words-bytes (append-nil _))
+
 -- A loop that writes the records of a repetition: those of the elements so far stand in the buffer.
 pub record Writing {A : Type 0} (f : List A → List Record) (m : Parser A) (b : ℕ) (u : List ℕ) (c at : ℕ) (old new : List ℕ) (to : ℕ) : Type 0 where
   pub seen : List A
@@ -81,13 +120,36 @@ pub record Writing {A : Type 0} (f : List A → List Record) (m : Parser A) (b :
   pub bytes : new ≡ put at (catalogue-bytes layout-20 (f seen)) old
   pub fits : to ≤ length old
 
--- the room that is left
-room-before : {A : Type 0} {f : List A → List Record} {one : A → List Record} → Elementwise f one → (p n : ℕ) (l : List A) (x : Reply (List A)) → Room f (before l x) p n → p + 8 * word-count (f l) ≤ n
-room-before w p n l (ok k c r) h = omega (arith, h, word-count-grows w l k)
-room-before w p n l (fail p') h = absurd h
-room-before w p n l (stop i p') h = absurd h
+-- a write before another
+pub put-before : (at to : ℕ) (xs ys l₀ l l' : List ℕ) → to ≡ at + length xs → to + length ys ≤ length l₀ → l ≡ put to ys l₀ → l' ≡ put at xs l → l' ≡ put at (xs ++ ys) l₀
+unfolding put
+put-before at to xs ys l₀ l l' z h e e' =
+    let t : length (take to l₀) ≡ to = length-take-le to l₀ (omega arith) in
+    let f : take at l ≡ take at l₀ = ap (take at) e ∙ (take-append-le at (take to l₀) (ys ++ drop (to + length ys) l₀) (omega arith) ∙ take-take at to l₀ (omega arith)) in
+    let k : to + length ys ≡ at + length (xs ++ ys) = omega (arith, length-append xs ys) in
+    let g : drop (at + length xs) l ≡ ys ++ drop (at + length (xs ++ ys)) l₀ =
+    ap (λ (n : ℕ). drop n l) (sym z) ∙ (ap (drop to) e ∙ (drop-at (take to l₀) (ys ++ drop (to + length ys) l₀) to t ∙ ap (λ (n : ℕ). ys ++ drop n l₀) k)) in
+    e' ∙ rw (f, g, append-assoc xs ys)
 
-module _ {A : Type 0} {f : List A → List Record} {one : A → List Record} (w : Elementwise f one) (m : Parser A) (b : ℕ) (u : List ℕ) (at : ℕ) (old : List ℕ) (room : Room f (many0 m b u) at (length old)) where
+-- what is lost hands out nothing
+pub no-room : {A : Type 0} {records : A → List Record} {m : Parser A} {b : ℕ} {u : List ℕ} {at n : ℕ} → Room records m b u at n → (l : Lost) → lostReply l ≡ m b u → ⊥
+no-room h (Fail p) e = let z = h .is ∙ sym e in let y : _≡_ {A = ℕ} 0 1 = cc in omega arith
+no-room h (Stop i p) e = let z = h .is ∙ sym e in let y : _≡_ {A = ℕ} 0 1 = cc in omega arith
+
+-- a declaration that was written, as a step of a sequence
+pub written-took : {A : Type 0} {records : A → List Record} {m : Parser A} (v : Onward m) {b n : ℕ} {u r : List ℕ} {at : ℕ} {w : Wrote} {old new : List ℕ} → Rest b u n r → (h : Written records m n r at w old new) → Took m b u n (h .value) (w .next)
+written-took v q h = took v q (h .is)
+
+-- the room that is left
+room-before : {A : Type 0} {f : List A → List Record} {one : A → List Record} → Elementwise f one → (p n : ℕ) (l : List A) (x : Reply (List A)) {k : List A} {c : ℕ} {r : List ℕ} → ok k c r ≡ before l x → p + 8 * word-count (f k) ≤ n → p + 8 * word-count (f l) ≤ n
+room-before {f = f} w p n l (ok k' c' r') {k} e h =
+    let z : k ≡ l ++ k' = cc in
+    let y : word-count (f k) ≡ word-count (f (l ++ k')) = ap (λ x. word-count (f x)) z in
+    omega (arith, h, y, word-count-grows w l k')
+room-before w p n l (fail p') e h = let z : _≡_ {A = ℕ} 0 1 = cc in absurd (omega arith)
+room-before w p n l (stop i p') e h = let z : _≡_ {A = ℕ} 0 1 = cc in absurd (omega arith)
+
+module _ {A : Type 0} {f : List A → List Record} {one : A → List Record} (w : Elementwise f one) (m : Parser A) (b : ℕ) (u : List ℕ) (at : ℕ) (old : List ℕ) (room : Room f (many0 m) b u at (length old)) where
   pub writing-start : Writing f m b u b at old old at
   writing-start =
       let s = many0-start m b u in
@@ -98,7 +160,7 @@ module _ {A : Type 0} {f : List A → List Record} {one : A → List Record} (w 
         run = s;
         place = omega (arith, nothing);
         bytes = sym z;
-        fits = omega (arith, room-before w at (length old) [] (many0 m b (drop (b - b) u)) (rw (s .left) at room));
+        fits = omega (arith, nothing, room-before w at (length old) [] (many0 m b (drop (b - b) u)) (room .is ∙ s .left) (room .fits));
       }
 
   module _ {c : ℕ} {new : List ℕ} {to : ℕ} (i : Writing f m b u c at old new to) where
@@ -107,7 +169,7 @@ module _ {A : Type 0} {f : List A → List Record} {one : A → List Record} (w 
 
     module _ (v : Consumes m) {a : A} {d : ℕ} (t : Took m b u c a d) where
       more : at + 8 * word-count (f (i .seen ++ (a ∷ []))) ≤ length old
-      more = room-before w at (length old) (i .seen ++ (a ∷ [])) (many0 m d (drop (d - b) u)) (rw (many0-step v (i .run) t .0 .left) at room)
+      more = room-before w at (length old) (i .seen ++ (a ∷ [])) (many0 m d (drop (d - b) u)) (room .is ∙ many0-step v (i .run) t .0 .left) (room .fits)
 
       -- there is room for one element more
       pub writing-fits : (k : ℕ) → word-count (one a) ≡ k → (to + 8 * k ≤ length new) × ((c < d) × (d ≤ b + length u))
@@ -130,9 +192,9 @@ module _ {A : Type 0} {f : List A → List Record} {one : A → List Record} (w 
             fits = omega (arith, i .place, more, l, z);
           }
 
-    ended : (x : Lost) → many0 m b u ≡ manyEnd x (i .seen) c (drop (c - b) u) → Written f (many0 m b u) at to old new
-    ended (Fail p) e = rw e (record { place = i .place; bytes = i .bytes })
-    ended (Stop n p) e = absurd (rw e at room)
+    ended : (x : Lost) → many0 m b u ≡ manyEnd x (i .seen) c (drop (c - b) u) → Written f (many0 m) b u at (record { next = c; to = to }) old new
+    ended (Fail p) e = record { value = i .seen; is = sym e; place = i .place; bytes = i .bytes }
+    ended (Stop n p) e = absurd (no-room room (Stop n p) (sym e))
 
-    pub writing-ends : (v : Consumes m) {r : List ℕ} (x : Lost) → Rest b u c r → lostReply x ≡ m c r → Written f (many0 m b u) at to old new
+    pub writing-ends : (v : Consumes m) {r : List ℕ} (x : Lost) → Rest b u c r → lostReply x ≡ m c r → Written f (many0 m) b u at (record { next = c; to = to }) old new
     writing-ends v x q e = ended x (many0-ends v x (i .run) q e)

@@ -18,6 +18,7 @@ use Rattle.lexing.specs.word_sets.{next-word, set-step, keywords-set, sa
 use Rattle.lexing.specs.answers.{Rest, lostReply, wordAt, wordReply, docOf, BlankTo, WordSetTo}
 use Rattle.lexing.specs.inner.word_sets.{set-gap, startReply, with-flag}
 use Rattle.lexing.specs.declared.answers.Lost.{Lost}
+use Rattle.lexing.specs.declared.word_sets.WordSet.{WordSet}
 use Rattle.lexing.specs.declared.answers.Lost.the-variants.{Fail, Stop}
 use Rattle.lexing.specs.declared.answers.Step.{Step}
 use Rattle.lexing.specs.declared.answers.Step.the-variants.{Next, Not}
@@ -456,3 +457,16 @@ module _ {n b : ℕ} {u : List ℕ} {f c : ℕ} {t : Bool} {m : ℕ} {r : List �
         let x = iter-step (set-step-consumes (set-of n)) (i .set .at) (record { goes = s; up = omega (arith, y .up, i .start .up); inside = y .inside }) in
         let v : f' ≡ flags (set-of n) (w ∷ i .set .words) = rw (ef, el, i .set .flags-are) (word-flag (set-of n) k o w (i .set .words) (set-apart n) (g .is) (omega arith)) in
         (record { words = w ∷ i .set .words; at = x .0; flags-are = v; first-is = refl; small = rw v (set-small n (w ∷ i .set .words)) }, x .1)
+
+-- the flags of a set, by its size
+pub set-fits : {r : WordSet} {n b : ℕ} {u : List ℕ} → WordSetTo r n b u → r .flags < 2 ^ length (set-of n)
+unfolding set-flags _>>=_ ret
+set-fits {r} {n} {b} {u} h = go (keywords-set (set-of n) b u) refl
+  where
+    go : (x : Reply (List Word)) → keywords-set (set-of n) b u ≡ x → r .flags < 2 ^ length (set-of n)
+    go (ok ws c v) e =
+        let k : ok (r .flags) (r .next) (drop (r .next - b) u) ≡ ok (flags (set-of n) ws) c v = rw (e, set-flags, _>>=_) at (h .reads) in
+        let z : r .flags ≡ flags (set-of n) ws = cc in
+        omega (arith, z, flags-less (set-of n) ws)
+    go (fail p) e = let k : ok (r .flags) (r .next) (drop (r .next - b) u) ≡ fail p = rw (e, set-flags, _>>=_) at (h .reads) in let w : _≡_ {A = ℕ} 0 1 = cc in absurd (omega arith)
+    go (stop i p) e = let k : ok (r .flags) (r .next) (drop (r .next - b) u) ≡ stop i p = rw (e, set-flags, _>>=_) at (h .reads) in let w : _≡_ {A = ℕ} 0 1 = cc in absurd (omega arith)
