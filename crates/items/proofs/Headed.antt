@@ -86,22 +86,22 @@ module _ {I H L A : Type 0} {m : I → Parser A} {records : I → A → List Rec
             record { value = inner .value; next = inner .next; is = subst (λ (x : List ℕ). ok (inner .value) (inner .next) (drop (inner .next - c) x) ≡ list c x) (sym (q .same)) (inner .is); fits = omega (arith, room .fits, f) }
 
         -- the list's records are written, and then the first one before them
-        pub headed-written : {r : List ℕ} → Rest b u c r → {o : Wrote} {old mid new : List ℕ} (g : Written rs list c r (p + 8 * k) o old mid) → n ≡ length old → new ≡ put p (catalogue-bytes layout-20 (d .first i h (g .value) ∷ [])) mid → Written (records i) (m i) b u p o old new
-        headed-written q {o} {old} {mid} {new} g same e =
+        pub headed-written : {r : List ℕ} → Rest b u c r → {o : Wrote} {old mid new : List ℕ} (g : Written rs list c r (p + 8 * k) o old mid) → n ≡ length old → {x : Record} → x ≡ d .first i h (g .value) → new ≡ put p (catalogue-bytes layout-20 (x ∷ [])) mid → Written (records i) (m i) b u p o old new
+        headed-written q {o} {old} {mid} {new} g same {x} v e =
             let s = written-took w q g in
             let a = d .make i h (g .value) in
             let is : ok a (o .next) (drop (o .next - b) u) ≡ m i b u = whole i (begin (steps i) b u (go _ t (go _ s (done _ _ _ _)))) in
             let y : room .value ≡ a = let z = room .is ∙ sym is in cc in
             let f = headed-words i h (g .value) in
             let z : word-count (records i (room .value)) ≡ word-count (records i a) = ap (λ v. word-count (records i v)) y in
-            let k₁ = catalogue-bytes-length (d .first i h (g .value) ∷ []) in
+            let k₁ = catalogue-bytes-length (x ∷ []) in
             let k₂ = catalogue-bytes-length (rs (g .value)) in
-            let x = d .size i h (g .value) in
+            let k₃ : word-count (x ∷ []) ≡ k = ap (λ (v : Record). word-count (v ∷ [])) v ∙ d .size i h (g .value) in
             record {
               value = a;
               is = is;
               place = omega (arith, g .place, f);
-              bytes = rw (d .hands i h (g .value), catalogue-bytes-append layout-20 (d .first i h (g .value) ∷ []) (rs (g .value))) (
-                  put-before p (p + 8 * k) (catalogue-bytes layout-20 (d .first i h (g .value) ∷ [])) (catalogue-bytes layout-20 (rs (g .value))) old mid new (omega (arith, k₁, x)) (omega (arith, k₂, room .fits, z, f, same)) (g .bytes) e
+              bytes = rw (d .hands i h (g .value), ← v, catalogue-bytes-append layout-20 (x ∷ []) (rs (g .value))) (
+                  put-before p (p + 8 * k) (catalogue-bytes layout-20 (x ∷ [])) (catalogue-bytes layout-20 (rs (g .value))) old mid new (omega (arith, k₁, k₃)) (omega (arith, k₂, room .fits, z, f, same)) (g .bytes) e
                   );
             }

@@ -15,4 +15,5 @@ pub mod Braces
 pub mod Headed
 pub mod WordBetween
 pub mod RecordWords
+pub mod SetSizes
 pub mod KnownAnswers

@@ -2,14 +2,28 @@
 ghost use mathlib.Core.Path.{_≡_};
 ghost use Prim.Native.Nat.{_+_, _≤_};
 ghost use lib.ListN.{length};
-ghost use Rattle.items.specs.entries.{shared-before};
-ghost use Rattle.items.specs.layout.{text-limit};
-ghost use Rattle.items.specs.answers.{Skips};
-ghost use Rattle.items.specs.answers.choices.{choiceHeadLost, ChoiceHeadTo, ChoiceCountTo};
+ghost use mathlib.Core.List.{[], _∷_};
+ghost use Rattle.lexing.specs.answers.{docOf};
+ghost use Rattle.items.specs.entries.{shared-before, choice-after-doc-maturity};
+ghost use Rattle.items.specs.records.{choice-records};
+ghost use Rattle.items.specs.layout.{text-limit, layout-20, catalogue-bytes};
+ghost use Rattle.items.specs.buffers.{put};
+ghost use Rattle.items.specs.answers.{Skips, FrontFits, Room, Written};
+ghost use Rattle.items.specs.answers.choices.{choiceHeadLost, ChoiceHeadBetween, ChoiceHeadTo, ChoiceCountTo};
+ghost use Rattle.items.specs.inner.choices.{choice-first};
 use crate::counts::Count;
 use crate::entries::constant_entries_list;
+use crate::entries::write_entries_list;
 use crate::optional::is_there;
 use crate::optional::optional;
+use crate::writing::First;
+use crate::writing::FrontParts;
+use crate::writing::Wrote;
+use crate::writing::doc_bit;
+use crate::writing::flag;
+use crate::writing::put_documented;
+use crate::writing::put_word;
+use crate::writing::span_word;
 use lexing::answers::Lost;
 use lexing::answers::Step;
 use lexing::answers::step_lost;
@@ -123,4 +137,54 @@ pub fn choice_after_doc_maturity(part: &[u8], base: usize, key: &[u8]) -> Count
         return run;
     };
     Count::Words(n + 3, c2)
+}
+
+// The first record of an enum or a bitmap, by its kind.
+fn put_choice(out: &mut [u8], at: usize, front: FrontParts, head: ChoiceHeadParts)
+    requires { ⌜ at + 24 ≤ length (now out) ⌝ }
+    requires { ⌜ FrontFits front ⌝ }
+    requires { ⌜ ChoiceHeadBetween 0 head text-limit ⌝ }
+    ensures { λ _. ⌜ now (out .exit) ≡ put at (catalogue-bytes layout-20 (choice-first front head ∷ [])) (now (out .entry)) ⌝ }
+{
+    let doc = front.doc;
+    let first = First {
+        kind: front.kind,
+        place: front.place,
+        maturity: front.maturity,
+        documented: doc_bit(doc),
+        flags: flag(head.shared) * 64,
+        name: head.name,
+        size: head.end - head.name,
+        privilege: 0,
+        further: 0,
+    };
+    put_documented(out, at, first, doc);
+    put_word(
+        out,
+        at + 16,
+        span_word(head.base_at, head.base_end - head.base_at),
+    );
+}
+
+// The second pass over an enum or a bitmap.
+pub fn write_choice(
+    part: &[u8],
+    base: usize,
+    key: &[u8],
+    front: FrontParts,
+    out: &mut [u8],
+    at: usize,
+) -> Wrote
+    requires { ⌜ base + length (now part) ≤ text-limit ⌝ }
+    requires { ⌜ FrontFits front ⌝ }
+    requires { ⌜ Room (choice-records (front .kind) (front .place)) (choice-after-doc-maturity (now key) (docOf (front .doc)) (front .maturity)) base (now part) at (length (now out)) ⌝ }
+    ensures { λ r. ⌜ Written (choice-records (front .kind) (front .place)) (choice-after-doc-maturity (now (key .entry)) (docOf (front .doc)) (front .maturity)) base (now (part .entry)) at r (now (out .entry)) (now (out .exit)) ⌝ }
+{
+    let head = choice_head(part, base, key);
+    let ChoiceHeadRead::ChoiceHead(h, c) = head else {
+        return Wrote { next: base, to: at };
+    };
+    let w = write_entries_list(rest_at(part, base, c), c, out, at + 24);
+    put_choice(out, at, front, h);
+    w
 }

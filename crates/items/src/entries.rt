@@ -295,3 +295,28 @@ pub fn write_entries(part: &[u8], base: usize, out: &mut [u8], at: usize) -> Wro
         to = to + 16;
     }
 }
+
+// The second pass over the entries between braces.
+pub fn write_entries_list(part: &[u8], base: usize, out: &mut [u8], at: usize) -> Wrote
+    requires { ⌜ base + length (now part) ≤ text-limit ⌝ }
+    requires { ⌜ Room (map entry-record) constant-entries-list base (now part) at (length (now out)) ⌝ }
+    ensures { λ r. ⌜ Written (map entry-record) constant-entries-list base (now (part .entry)) at r (now (out .entry)) (now (out .exit)) ⌝ }
+{
+    let nothing = Wrote { next: base, to: at };
+    let brace = tag(part, base, b'{');
+    let Step::Next(c1) = brace else {
+        return nothing;
+    };
+    let run = write_entries(rest_at(part, base, c1), c1, out, at);
+    let c2 = run.next;
+    let w = whitespace0(rest_at(part, base, c2), c2);
+    let c3 = w.next;
+    let close = tag(rest_at(part, base, c3), c3, b'}');
+    let Step::Next(c4) = close else {
+        return nothing;
+    };
+    Wrote {
+        next: c4,
+        to: run.to,
+    }
+}

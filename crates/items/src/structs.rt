@@ -1,19 +1,30 @@
 // Fields and structs.
 ghost use mathlib.Core.Path.{_≡_};
-ghost use mathlib.Core.List.{map};
+ghost use mathlib.Core.List.{[], _∷_, map};
 ghost use Prim.Native.Nat.{_+_, _≤_};
 ghost use lib.ListN.{length, take};
 ghost use Rattle.lexing.specs.words.{isLower};
-ghost use Rattle.lexing.specs.answers.{numberReply};
-ghost use Rattle.items.specs.layout.{text-limit};
-ghost use Rattle.items.specs.records.{field-record};
-ghost use Rattle.items.specs.structs.{max-length, parse-struct-field, closed-field, fields-run, struct-fields, response-code};
-ghost use Rattle.items.specs.answers.{CountTo};
-ghost use Rattle.items.specs.answers.structs.{FieldTo, fieldLost, StructFieldTo, structFieldLost, StructHeadTo, headLost, StructCountTo};
-ghost use Rattle.items.specs.inner.structs.{optionalLength, lengthLost, MarkerTo, kindBy, StructWordTo, codeReply, responseReply, typeBy};
+ghost use Rattle.lexing.specs.answers.{numberReply, docOf};
+ghost use Rattle.items.specs.layout.{text-limit, layout-20, catalogue-bytes};
+ghost use Rattle.items.specs.buffers.{put};
+ghost use Rattle.items.specs.records.{field-record, struct-records};
+ghost use Rattle.items.specs.structs.{max-length, parse-struct-field, closed-field, fields-run, struct-fields, response-code, parse-struct-after-doc-maturity};
+ghost use Rattle.items.specs.members.{or-else};
+ghost use Rattle.items.specs.answers.{optionOf, CountTo, FrontFits, Room, Written};
+ghost use Rattle.items.specs.answers.structs.{FieldTo, fieldLost, StructFieldBetween, StructFieldTo, structFieldLost, HeadBetween, StructHeadTo, headLost, StructCountTo};
+ghost use Rattle.items.specs.inner.structs.{optionalLength, lengthLost, MarkerTo, kindBy, StructWordTo, codeReply, responseReply, typeBy, field-parts, kindNumber, responseNumber, struct-first};
 use crate::counts::Count;
 use crate::counts::count_end;
 use crate::maturity::api_maturity;
+use crate::writing::First;
+use crate::writing::FrontParts;
+use crate::writing::Wrote;
+use crate::writing::doc_bit;
+use crate::writing::first_word;
+use crate::writing::flag;
+use crate::writing::put_documented;
+use crate::writing::put_word;
+use crate::writing::span_word;
 use lexing::answers::Lost;
 use lexing::answers::Step;
 use lexing::answers::step_lost;
@@ -465,4 +476,146 @@ pub fn parse_struct_after_doc_maturity(part: &[u8], base: usize) -> Count
         return fields;
     };
     Count::Words(n + 3, c2)
+}
+
+// The record of a field.
+pub fn put_field(out: &mut [u8], at: usize, s: StructFieldParts)
+    requires { ⌜ at + 32 ≤ length (now out) ⌝ }
+    requires { ⌜ StructFieldBetween 0 s text-limit ⌝ }
+    ensures { λ _. ⌜ now (out .exit) ≡ put at (catalogue-bytes layout-20 (field-parts s ∷ [])) (now (out .entry)) ⌝ }
+{
+    let f = s.field;
+    let first = First {
+        kind: 6,
+        place: 0,
+        maturity: s.maturity,
+        documented: 0,
+        flags: flag(f.list) * 64 + flag(f.has_maximum) * 32 + s.flags * 4,
+        name: f.name,
+        size: f.end - f.name,
+        privilege: 0,
+        further: 0,
+    };
+    put_word(out, at, first_word(first));
+    put_word(out, at + 8, span_word(f.type_at, f.type_end - f.type_at));
+    put_word(out, at + 16, f.code);
+    put_word(out, at + 24, largest(f.has_maximum, f.maximum));
+}
+
+// The largest length, or zero where there is none.
+fn largest(has_maximum: bool, maximum: u64) -> u64
+    ensures { λ r. ⌜ r ≡ or-else 0 (optionOf «has_maximum» maximum) ⌝ }
+{
+    if has_maximum {
+        return maximum;
+    }
+    0
+}
+
+// The second pass over fields.
+fn write_fields(part: &[u8], base: usize, out: &mut [u8], at: usize) -> Wrote
+    requires { ⌜ base + length (now part) ≤ text-limit ⌝ }
+    requires { ⌜ Room (map field-record) fields-run base (now part) at (length (now out)) ⌝ }
+    ensures { λ r. ⌜ Written (map field-record) fields-run base (now (part .entry)) at r (now (out .entry)) (now (out .exit)) ⌝ }
+{
+    let mut c = base;
+    let mut to = at;
+    loop {
+        let r = closed_field(rest_at(part, base, c), c);
+        let StructFieldRead::StructField(s, next) = r else {
+            return Wrote { next: c, to };
+        };
+        put_field(out, to, s);
+        c = next;
+        to = to + 32;
+    }
+}
+
+// The second pass over the fields between braces.
+pub fn write_struct_fields(part: &[u8], base: usize, out: &mut [u8], at: usize) -> Wrote
+    requires { ⌜ base + length (now part) ≤ text-limit ⌝ }
+    requires { ⌜ Room (map field-record) struct-fields base (now part) at (length (now out)) ⌝ }
+    ensures { λ r. ⌜ Written (map field-record) struct-fields base (now (part .entry)) at r (now (out .entry)) (now (out .exit)) ⌝ }
+{
+    let nothing = Wrote { next: base, to: at };
+    let brace = tag(part, base, b'{');
+    let Step::Next(c1) = brace else {
+        return nothing;
+    };
+    let run = write_fields(rest_at(part, base, c1), c1, out, at);
+    let c2 = run.next;
+    let w = whitespace0(rest_at(part, base, c2), c2);
+    let c3 = w.next;
+    let close = tag(rest_at(part, base, c3), c3, b'}');
+    let Step::Next(c4) = close else {
+        return nothing;
+    };
+    Wrote {
+        next: c4,
+        to: run.to,
+    }
+}
+
+// The number of a struct's kind.
+fn kind_number(kind: StructKind) -> u8
+    ensures { λ r. ⌜ r ≡ kindNumber kind ⌝ }
+{
+    match kind {
+        StructKind::Regular => 0,
+        StructKind::Request => 1,
+        StructKind::Response => 2,
+        StructKind::Shared => 3,
+    }
+}
+
+// The code of a response, or zero.
+fn response_number(kind: StructKind, code: u64) -> u64
+    ensures { λ r. ⌜ r ≡ responseNumber kind code ⌝ }
+{
+    match kind {
+        StructKind::Regular => 0,
+        StructKind::Request => 0,
+        StructKind::Response => code,
+        StructKind::Shared => 0,
+    }
+}
+
+// The first record of a struct.
+fn put_struct(out: &mut [u8], at: usize, front: FrontParts, head: StructHeadParts)
+    requires { ⌜ at + 24 ≤ length (now out) ⌝ }
+    requires { ⌜ FrontFits front ⌝ }
+    requires { ⌜ HeadBetween 0 head text-limit ⌝ }
+    ensures { λ _. ⌜ now (out .exit) ≡ put at (catalogue-bytes layout-20 (struct-first front head ∷ [])) (now (out .entry)) ⌝ }
+{
+    let doc = front.doc;
+    let kind = head.kind;
+    let first = First {
+        kind: 5,
+        place: front.place,
+        maturity: front.maturity,
+        documented: doc_bit(doc),
+        flags: kind_number(kind) * 32 + head.scoped * 16,
+        name: head.name,
+        size: head.end - head.name,
+        privilege: 0,
+        further: 0,
+    };
+    put_documented(out, at, first, doc);
+    put_word(out, at + 16, response_number(kind, head.code));
+}
+
+// The second pass over a struct.
+pub fn write_struct(part: &[u8], base: usize, front: FrontParts, out: &mut [u8], at: usize) -> Wrote
+    requires { ⌜ base + length (now part) ≤ text-limit ⌝ }
+    requires { ⌜ FrontFits front ⌝ }
+    requires { ⌜ Room (struct-records (front .place)) (parse-struct-after-doc-maturity (docOf (front .doc)) (front .maturity)) base (now part) at (length (now out)) ⌝ }
+    ensures { λ r. ⌜ Written (struct-records (front .place)) (parse-struct-after-doc-maturity (docOf (front .doc)) (front .maturity)) base (now (part .entry)) at r (now (out .entry)) (now (out .exit)) ⌝ }
+{
+    let head = struct_head(part, base);
+    let StructHeadRead::Head(h, c) = head else {
+        return Wrote { next: base, to: at };
+    };
+    let w = write_struct_fields(rest_at(part, base, c), c, out, at + 24);
+    put_struct(out, at, front, h);
+    w
 }

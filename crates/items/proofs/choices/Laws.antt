@@ -3,10 +3,12 @@ use mathlib.Core.Path.{_≡_, refl, sym, ap, _∙_, subst}
 use mathlib.Core.Bool.{Bool}
 use mathlib.Core.Option.{Option}
 use mathlib.Core.List.{List, [], _∷_, map}
-use Prim.Native.Nat.{ℕ, _-_, _≤_, _<_}
-use lib.ListN.{drop}
+use Prim.Native.Nat.{ℕ, _+_, _-_, _*_, _≤_, _<_}
+use native.Mathlib.Omega.{arith}
+use lib.ListN.{length, drop}
 use Rattle.lexing.specs.reply.{ok, opt}
 use Rattle.lexing.specs.words.{Word, word, parse-id}
+use Rattle.lexing.specs.word_sets.{bit}
 use Rattle.lexing.specs.answers.{Rest, lostReply, lostOf}
 use Rattle.lexing.specs.declared.answers.Lost.{Lost}
 use Rattle.lexing.specs.declared.answers.Step.{Step}
@@ -14,16 +16,21 @@ use Rattle.lexing.specs.declared.answers.Step.the-variants.{Next, Not}
 use Rattle.lexing.proofs.Onward.{Onward, parse-id-advances}
 use Rattle.lexing.proofs.Locality.{chain-opt}
 use Rattle.lexing.proofs.Slicing.{Took, walks}
-use Rattle.items.specs.entries.{present, shared-before, choice-head, constant-entries-list, choice-after-doc-maturity}
-use Rattle.items.specs.records.{spanned, flag, each, word-extent, documented, entry-record, choice-records}
-use Rattle.items.specs.layout.{layout-20, record-words, catalogue-words, word-count}
-use Rattle.items.specs.answers.{Skips, optionalStep, isThere, wordBetween, Front}
+use Rattle.items.specs.entries.{present, Entry, shared-before, choice-head, constant-entries-list, choice-after-doc-maturity}
+use Rattle.items.specs.records.{at, spanned, flag, each, word-extent, documented, entry-record, choice-records}
+use Rattle.items.specs.layout.{packed, width, from-top, offset, size, layout-20, further-word, record-words, big-endian, words-bytes, catalogue-words, catalogue-bytes, word-count, text-limit}
+use Rattle.items.specs.buffers.{put}
+use Rattle.items.specs.answers.{Skips, optionalStep, isThere, wordBetween, Front, first-of, spanWord, docWord, docBit, frontOf}
+use Rattle.items.specs.inner.choices.{choice-first}
+use Rattle.items.specs.declared.writing.FrontParts.{FrontParts}
 use Rattle.items.specs.answers.choices.{choiceHeadAt, choiceHeadAnswer, ChoiceHeadBetween, choiceHeadWithin, ChoiceHeadTo}
 use Rattle.items.specs.declared.choices.ChoiceHeadParts.{ChoiceHeadParts}
 use Rattle.items.specs.declared.choices.ChoiceHeadRead.{ChoiceHeadRead}
 use Rattle.items.specs.declared.choices.ChoiceHeadRead.the-variants.{ChoiceHead}
 use Rattle.items.proofs.Answers.{read-is}
 use Rattle.items.proofs.Headed.{Headed}
+use Rattle.items.proofs.WordBetween.{extent-between}
+use Rattle.items.proofs.writing.Laws.{documented-bytes, put-next}
 use Rattle.items.proofs.Locality.{shared-before-local, choice-head-local, constant-entries-list-local}
 use Rattle.items.proofs.optional.Laws.{optional-skips, optional-present, skip-took, skip-lost}
 
@@ -77,3 +84,28 @@ choice-headed k = record {
   hands = λ i h l. refl;
   size = λ i h l. refl;
 }
+
+-- The second pass.
+
+-- the three words of the first record
+pub choice-first-put : (f : FrontParts) (h : ChoiceHeadParts) (p v i s : ℕ) (l l₁ l₂ : List ℕ) → p + 24 ≤ length l → v ≡ docBit (f .doc) → i ≡ bit (h .shared)
+    → l₁ ≡ put p (words-bytes (first-of (record { kind = f .kind; place = f .place; maturity = f .maturity; documented = v; flags = i * 64; name = h .name; size = h .end - h .name; privilege = 0; further = 0 }) ∷ docWord (f .doc) ∷ [])) l
+    → s ≡ spanWord (h .«base_at») (h .«base_end» - h .«base_at») → l₂ ≡ put (p + 16) (big-endian 8 s) l₁ → l₂ ≡ put p (catalogue-bytes layout-20 (choice-first f h ∷ [])) l
+unfolding from-top packed width flag offset size layout-20 further-word
+choice-first-put f h p v i s l l₁ l₂ r d e e₁ z e₂ =
+    let g : ℕ = i * 64 in
+    let y : g ≡ from-top 7 (flag (h .shared) ∷ []) = omega (arith, e) in
+    rw (documented-bytes (f .kind) (f .place) (f .maturity) (f .doc) (flag (h .shared) ∷ []) (at (h .name) (h .end - h .name)) 0 0 (spanned (at (h .«base_at») (h .«base_end» - h .«base_at»)) ∷ []) g y)
+    (put-next p (p + 16) (first-of (record { kind = f .kind; place = f .place; maturity = f .maturity; documented = docBit (f .doc); flags = g; name = h .name; size = h .end - h .name; privilege = 0; further = 0 }) ∷ docWord (f .doc) ∷ []) l l₁ l₂ (omega arith) (omega arith) (rw (← d) e₁) z e₂)
+
+-- the first record of what was read
+pub choice-first-is : (f : FrontParts) (k : List ℕ) (b : ℕ) (u : List ℕ) (h : ChoiceHeadParts) (c : ℕ) (l : List Entry) → ChoiceHeadBetween b h c → c ≤ b + length u → choice-first f h ≡ choice-headed k .first (frontOf f) (choiceHeadAt b u h) l
+unfolding choice-headed
+choice-first-is f k b u h c l w i =
+    rw (
+      extent-between b u (h .name) (h .end) (w .name-from) (omega (arith, w .name-to)) (omega (arith, w .base-from, w .base-to, w .before)),
+      extent-between b u (h .«base_at») (h .«base_end») (omega (arith, w .name-from, w .name-to, w .base-from)) (w .base-to) (omega (arith, w .before)),
+    )
+
+pub choice-in-limit : {b : ℕ} {h : ChoiceHeadParts} {c : ℕ} → ChoiceHeadBetween b h c → c ≤ text-limit → ChoiceHeadBetween 0 h text-limit
+choice-in-limit w i = record { name-from = omega arith; name-to = w .name-to; base-from = w .base-from; base-to = w .base-to; before = omega (arith, w .before) }

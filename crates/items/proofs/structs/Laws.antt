@@ -6,11 +6,11 @@ use mathlib.Core.List.{List, [], _∷_, map}
 use Prim.Native.Nat.{ℕ, _+_, _-_, _*_, _≤_, _<_, max}
 use native.Mathlib.Omega.{arith}
 use lib.Dec.{eqb}
-use lib.ListN.{take, drop}
+use lib.ListN.{length, take, drop}
 use Rattle.lexing.specs.bytes.{ascii, within, lower}
-use Rattle.lexing.specs.reply.{Reply, ok, fail, stop, Parser, ret, opt, _or_, further, pick}
+use Rattle.lexing.specs.reply.{Reply, ok, fail, stop, Parser, ret, opt, _or_, further, pick, many0}
 use Rattle.lexing.specs.words.{Word, word, bytesOf, isKeyword, isLower, keyword, any-keyword, tag}
-use Rattle.lexing.specs.word_sets.{same-bytes}
+use Rattle.lexing.specs.word_sets.{same-bytes, bit}
 use Rattle.lexing.specs.answers.{Rest, lostReply, wordAt, wordReply, numberReply, numberLost}
 use Rattle.lexing.specs.declared.answers.Lost.{Lost}
 use Rattle.lexing.specs.declared.answers.Lost.the-variants.{Fail, Stop}
@@ -27,11 +27,14 @@ use Rattle.lexing.proofs.words.Laws.{keyword-says}
 use Rattle.lexing.proofs.word_sets.Laws.{same-eq, like-keyword}
 use Rattle.items.specs.entries.{present}
 use Rattle.items.specs.structs.{StructField as StructFieldOf, max-length, list-marker, parse-field, parse-struct-field, closed-field, fields-run, struct-fields, regular, response-code, struct-kind, struct-type-of, StructHead, struct-head, parse-struct-after-doc-maturity}
-use Rattle.items.specs.records.{bits, value, each, word-extent, plain, documented, field-record, struct-number, response-of, struct-records}
-use Rattle.items.specs.layout.{layout-20, record-words, catalogue-words, word-count}
-use Rattle.items.specs.answers.{optionOf, wordBetween, Front}
+use Rattle.items.specs.records.{Record, at, bits, value, spanned, flag, each, word-extent, plain, documented, field-record, struct-number, response-of, struct-records}
+use Rattle.items.specs.layout.{packed, width, from-top, offset, size, layout-20, further-word, record-words, big-endian, words-bytes, catalogue-words, catalogue-bytes, word-count, text-limit}
+use Rattle.items.specs.members.{or-else}
+use Rattle.items.specs.buffers.{put}
+use Rattle.items.specs.answers.{optionOf, wordBetween, Front, Room, Written, first-of, spanWord, docWord, docBit, frontOf}
 use Rattle.items.specs.answers.structs.{fieldAt, fieldAnswer, fieldLost, FieldBetween, fieldWithin, FieldTo, structFieldAt, structFieldAnswer, structFieldLost, StructFieldBetween, structFieldWithin, StructFieldTo, typeOf, headAt, headAnswer, headLost, HeadBetween, headWithin, StructHeadTo}
-use Rattle.items.specs.inner.structs.{lengthReply, lengthLost, optionalLength, MarkerTo, kindBy, typeBy, struct-words, StructWordTo, codeReply}
+use Rattle.items.specs.inner.structs.{lengthReply, lengthLost, optionalLength, MarkerTo, kindBy, typeBy, struct-words, StructWordTo, codeReply, field-parts, kindNumber, responseNumber, struct-first}
+use Rattle.items.specs.declared.writing.FrontParts.{FrontParts}
 use Rattle.items.specs.declared.structs.FieldParts.{FieldParts}
 use Rattle.items.specs.declared.structs.FieldRead.{FieldRead}
 use Rattle.items.specs.declared.structs.FieldRead.the-variants.{Field, NoField}
@@ -51,7 +54,8 @@ use Rattle.items.proofs.Locality.{max-length-local, list-marker-local, 
 use Rattle.items.proofs.RecordWords.{map-elementwise}
 use Rattle.items.proofs.Answers.{read-within, read-took, read-lost}
 use Rattle.items.proofs.Headed.{Headed}
-use Rattle.items.proofs.WordBetween.{word-moved}
+use Rattle.items.proofs.WordBetween.{word-moved, extent-between}
+use Rattle.items.proofs.writing.Laws.{put-two, put-next, plain-bytes, documented-bytes, Writing, writing-fits, writing-more, writing-ends}
 use Rattle.items.proofs.counts.Laws.{Counting, counting-more}
 use Rattle.items.proofs.optional.Laws.{opt-ok, opt-fail, opt-stop}
 
@@ -287,3 +291,97 @@ struct-headed = record {
   hands = λ i h l. refl;
   size = λ i h l. refl;
 }
+
+-- The second pass.
+
+-- the four words of a field's record
+pub field-put : (s : StructFieldParts) (p i j t x w : ℕ) (l l₁ l₂ l₃ l₄ : List ℕ) → p + 32 ≤ length l → i ≡ bit (s .field .list) → j ≡ bit (s .field .«has_maximum»)
+    → w ≡ first-of (record { kind = 6; place = 0; maturity = s .maturity; documented = 0; flags = i * 64 + j * 32 + s .flags * 4; name = s .field .name; size = s .field .end - s .field .name; privilege = 0; further = 0 })
+    → l₁ ≡ put p (big-endian 8 w) l → t ≡ spanWord (s .field .«type_at») (s .field .«type_end» - s .field .«type_at») → l₂ ≡ put (p + 8) (big-endian 8 t) l₁
+    → l₃ ≡ put (p + 16) (big-endian 8 (s .field .code)) l₂ → x ≡ or-else 0 (optionOf (s .field .«has_maximum») (s .field .maximum)) → l₄ ≡ put (p + 24) (big-endian 8 x) l₃
+    → l₄ ≡ put p (catalogue-bytes layout-20 (field-parts s ∷ [])) l
+unfolding from-top packed width flag offset size layout-20 further-word
+field-put s p i j t x w l l₁ l₂ l₃ l₄ r ei ej d e₁ f e₂ e₃ y e₄ =
+    let g : ℕ = i * 64 + j * 32 + s .flags * 4 in
+    let f₁ : ℕ = first-of (record { kind = 6; place = 0; maturity = s .maturity; documented = 0; flags = g; name = s .field .name; size = s .field .end - s .field .name; privilege = 0; further = 0 }) in
+    let f₂ : ℕ = spanWord (s .field .«type_at») (s .field .«type_end» - s .field .«type_at») in
+    let z : g ≡ from-top 7 (flag (s .field .list) ∷ flag (s .field .«has_maximum») ∷ bits 3 (s .flags) ∷ []) = omega (arith, ei, ej) in
+    rw (plain-bytes 6 (s .maturity) (flag (s .field .list) ∷ flag (s .field .«has_maximum») ∷ bits 3 (s .flags) ∷ []) (at (s .field .name) (s .field .end - s .field .name))
+    (spanned (at (s .field .«type_at») (s .field .«type_end» - s .field .«type_at»)) ∷ value (s .field .code) ∷ value (or-else 0 (optionOf (s .field .«has_maximum») (s .field .maximum))) ∷ []) g z)
+    (put-next p (p + 24) (f₁ ∷ f₂ ∷ s .field .code ∷ []) l l₃ l₄ (omega arith) (omega arith) (put-next p (p + 16) (f₁ ∷ f₂ ∷ []) l l₂ l₃ (omega arith) (omega arith) (put-two p l l₁ l₂ (omega arith) d e₁ f e₂) refl e₃) y e₄)
+
+present-number : (x : Bool) (n : ℕ) → present (optionOf x n) ≡ x
+unfolding present
+present-number true n = refl
+present-number false n = refl
+
+-- the record of a field that was read
+pub field-parts-is : (b : ℕ) (u : List ℕ) (s : StructFieldParts) (c : ℕ) → StructFieldBetween b s c → c ≤ b + length u → field-parts s ≡ field-record (structFieldAt b u s)
+unfolding field-record
+field-parts-is b u s c w i =
+    let v = w .between in
+    rw (
+      present-number (s .field .«has_maximum») (s .field .maximum),
+      extent-between b u (s .field .name) (s .field .end) (omega (arith, v .type-from, v .type-to, v .name-from)) (v .name-to) (omega (arith, v .before)),
+      extent-between b u (s .field .«type_at») (s .field .«type_end») (v .type-from) (v .type-to) (omega (arith, v .name-from, v .name-to, v .before)),
+    )
+
+pub field-in-limit : {b : ℕ} {s : StructFieldParts} {c : ℕ} → StructFieldBetween b s c → c ≤ text-limit → StructFieldBetween 0 s text-limit
+field-in-limit w i = record { between = between-wider (omega arith) i (w .between); few-maturities = w .few-maturities; few-flags = w .few-flags }
+
+-- a turn of the second pass
+module _ (b : ℕ) (u : List ℕ) (p : ℕ) (old : List ℕ) (room : Room (map field-record) (many0 closed-field) b u p (length old)) {c to : ℕ} {new : List ℕ} (i : Writing (map field-record) closed-field b u c p old new to)
+    {r : List ℕ} {a : StructFieldRead} (q : Rest b u c r) (h : StructFieldTo closed-field a c r) where
+  module _ (s : StructFieldParts) (d : ℕ) (z : a ≡ StructField s d) where
+    pub field-fits : (to + 32 ≤ length new) × ((c < d) × (d ≤ b + length u))
+    field-fits = writing-fits (map-elementwise field-record) closed-field b u p old room i closed-field-consumes (struct-field-took closed-field-on q h z) 4 (field-words (structFieldAt b u s))
+
+    pub write-field : (new' : List ℕ) → new' ≡ put to (catalogue-bytes layout-20 (field-parts s ∷ [])) new → Writing (map field-record) closed-field b u d p old new' (to + 32)
+    write-field new' g =
+        let v = struct-field-between closed-field-on q h z in
+        let w : StructFieldBetween b s d = record { between = between-wider (q .from) (omega arith) (v .between); few-maturities = v .few-maturities; few-flags = v .few-flags } in
+        let y = field-parts-is b u s d w (field-fits .1 .1) in
+        writing-more (map-elementwise field-record) closed-field b u p old room i closed-field-consumes (struct-field-took closed-field-on q h z) 4 (field-words (structFieldAt b u s)) new' (g ∙ ap (λ (x : Record). put to (catalogue-bytes layout-20 (x ∷ [])) new) y)
+
+  pub fields-end : (l : Lost) → a ≡ NoStructField l → Written (map field-record) (many0 closed-field) b u p (record { next = c; to = to }) old new
+  fields-end l z = writing-ends (map-elementwise field-record) closed-field b u p old room i closed-field-consumes l q (struct-field-none closed-field-on q h (sym (ap structFieldLost z)) z)
+
+-- the three words of a struct's first record
+pub struct-first-put : (f : FrontParts) (h : StructHeadParts) (p v i s : ℕ) (l l₁ l₂ : List ℕ) → p + 24 ≤ length l → v ≡ docBit (f .doc) → i ≡ kindNumber (h .kind)
+    → l₁ ≡ put p (words-bytes (first-of (record { kind = 5; place = f .place; maturity = f .maturity; documented = v; flags = i * 32 + h .scoped * 16; name = h .name; size = h .end - h .name; privilege = 0; further = 0 }) ∷ docWord (f .doc) ∷ [])) l
+    → s ≡ responseNumber (h .kind) (h .code) → l₂ ≡ put (p + 16) (big-endian 8 s) l₁ → l₂ ≡ put p (catalogue-bytes layout-20 (struct-first f h ∷ [])) l
+unfolding from-top packed width offset size layout-20 further-word
+struct-first-put f h p v i s l l₁ l₂ r d e e₁ z e₂ =
+    let g : ℕ = i * 32 + h .scoped * 16 in
+    let y : g ≡ from-top 7 (bits 2 (kindNumber (h .kind)) ∷ bits 1 (h .scoped) ∷ []) = omega (arith, e) in
+    rw (documented-bytes 5 (f .place) (f .maturity) (f .doc) (bits 2 (kindNumber (h .kind)) ∷ bits 1 (h .scoped) ∷ []) (at (h .name) (h .end - h .name)) 0 0 (value (responseNumber (h .kind) (h .code)) ∷ []) g y)
+    (put-next p (p + 16) (first-of (record { kind = 5; place = f .place; maturity = f .maturity; documented = docBit (f .doc); flags = g; name = h .name; size = h .end - h .name; privilege = 0; further = 0 }) ∷ docWord (f .doc) ∷ []) l l₁ l₂ (omega arith) (omega arith) (rw (← d) e₁) z e₂)
+
+pub kind-small : (k : StructKind) → kindNumber k < 4
+kind-small Regular = omega arith
+kind-small Request = omega arith
+kind-small Response = omega arith
+kind-small Shared = omega arith
+
+kind-number-is : (k : StructKind) (v : ℕ) → kindNumber k ≡ struct-number (typeOf k v)
+unfolding struct-number
+kind-number-is Regular v = refl
+kind-number-is Request v = refl
+kind-number-is Response v = refl
+kind-number-is Shared v = refl
+
+response-number-is : (k : StructKind) (v : ℕ) → responseNumber k v ≡ response-of (typeOf k v)
+unfolding response-of
+response-number-is Regular v = refl
+response-number-is Request v = refl
+response-number-is Response v = refl
+response-number-is Shared v = refl
+
+-- the first record of what was read
+pub struct-first-is : (f : FrontParts) (b : ℕ) (u : List ℕ) (h : StructHeadParts) (c : ℕ) (l : List StructFieldOf) → HeadBetween b h c → c ≤ b + length u → struct-first f h ≡ struct-headed .first (frontOf f) (headAt b u h) l
+unfolding struct-headed
+struct-first-is f b u h c l w i =
+    rw (kind-number-is (h .kind) (h .code), response-number-is (h .kind) (h .code), extent-between b u (h .name) (h .end) (w .name-from) (w .name-to) (omega (arith, w .before)))
+
+pub head-in-limit : {b : ℕ} {h : StructHeadParts} {c : ℕ} → HeadBetween b h c → c ≤ text-limit → HeadBetween 0 h text-limit
+head-in-limit w i = record { name-from = omega arith; name-to = w .name-to; before = omega (arith, w .before); few-flags = w .few-flags }

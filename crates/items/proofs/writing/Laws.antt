@@ -1,6 +1,7 @@
 -- Words written over a buffer, one behind the other.
 use mathlib.Core.Path.{_≡_, refl, sym, ap, _∙_, subst}
 use mathlib.Core.List.{List, [], _∷_, _++_, map, append-assoc, append-nil}
+use mathlib.Core.Bool.{Bool, true, false}
 use Prim.Native.Nat.{ℕ, _+_, _-_, _*_, _/_, _%_, _≤_, _<_}
 use native.Mathlib.Omega.{arith}
 use native.Mathlib.Numerals.{towards-suc}
@@ -8,6 +9,7 @@ use native.Mathlib.Nat.{add-assoc, add-zero, div-div-eq-div-mul}
 use lib.ListN.{length, drop, take, set, length-drop, length-append, take-append-drop}
 use lib.Seq.{sets, sets-eq, take-at, drop-at, take-take, take-append-le, length-take-le, drop-append-add, drop-drop}
 use Rattle.lexing.specs.reply.{Reply, ok, fail, stop, Parser, many0}
+use Rattle.lexing.specs.word_sets.{bit}
 use Rattle.lexing.specs.answers.{Rest, lostReply, docOf}
 use Rattle.lexing.specs.declared.answers.Lost.{Lost}
 use Rattle.lexing.specs.declared.answers.Lost.the-variants.{Fail, Stop}
@@ -20,7 +22,8 @@ use Rattle.lexing.proofs.Repetition.{before, ManyAt, manyEnd, many0-start, many
 use Rattle.items.specs.records.{Extent, Bits, Further, Record, each, doc-extent, doc-bit, plain, documented}
 use Rattle.items.specs.layout.{packed, from-top, offset, size, layout-20, further-word, record-words, big-endian, words-bytes, catalogue-words, catalogue-bytes, word-count, text-limit}
 use Rattle.items.specs.buffers.{put}
-use Rattle.items.specs.answers.{Room, Written, first-of, docWord, docBit, DocFits}
+use Rattle.items.specs.answers.{Room, Written, first-of, Fits, docWord, docBit, DocFits, FrontFits}
+use Rattle.items.specs.declared.writing.FrontParts.{FrontParts}
 use Rattle.items.specs.declared.writing.Wrote.{Wrote}
 use Rattle.items.proofs.RecordWords.{big-endian-length, words-bytes-append, words-bytes-length, words-bytes-one, catalogue-bytes-none, catalogue-bytes-length, word-count-none, Elementwise, word-count-more, catalogue-bytes-more, word-count-grows}
 
@@ -85,6 +88,11 @@ put-two at l l₁ l₂ {v} {w} {x} {y} h e e₁ f e₂ = rw (← e, ← f) (put-
 pub put-next : (at to : ℕ) (ws : List ℕ) (l l₁ l₂ : List ℕ) {w y : ℕ} → to ≡ at + 8 * length ws → to + 8 ≤ length l → l₁ ≡ put at (words-bytes ws) l → w ≡ y → l₂ ≡ put to (big-endian 8 w) l₁ → l₂ ≡ put at (words-bytes (ws ++ (y ∷ []))) l
 put-next at to ws l l₁ l₂ {w} {y} z h e₁ f e₂ = rw (← f) (put-more at to w ws l l₁ l₂ z h e₁ e₂)
 
+pub bit-small : (b : Bool) → bit b < 2
+unfolding bit
+bit-small true = omega arith
+bit-small false = omega arith
+
 pub doc-fits-at : (d : DocSpan) {o n : ℕ} → d ≡ At o n → DocFits d → (o ≤ text-limit) × (n ≤ text-limit)
 doc-fits-at d e h = subst (λ (x : DocSpan). DocFits x) e h
 
@@ -99,6 +107,14 @@ unfolding doc-bit
 doc-bit-is Absent = refl
 doc-bit-is (At o n) = refl
 
+doc-bit-small : (d : DocSpan) → docBit d < 2
+doc-bit-small Absent = omega arith
+doc-bit-small (At o n) = omega arith
+
+pub documented-fits : (f : FrontParts) {k v g o n x y : ℕ} → FrontFits f → k < 256 → v ≡ docBit (f .doc) → g < 128 → o ≤ text-limit → n ≤ text-limit → x < 4 → y < 4
+    → Fits (record { kind = k; place = f .place; maturity = f .maturity; documented = v; flags = g; name = o; size = n; privilege = x; further = y })
+documented-fits f h a e b c d p q = record { kind-fits = a; place-fits = h .place-fits; maturity-fits = h .maturity-fits; documented-fits = omega (arith, e, doc-bit-small (f .doc)); flags-fits = b; name-fits = omega (arith, c); size-fits = omega (arith, d); privilege-fits = p; further-fits = q }
+
 pub documented-bytes : (k p m : ℕ) (d : DocSpan) (fl : List Bits) (e : Extent) (x y : ℕ) (l : List Further) (g : ℕ) → g ≡ from-top 7 fl
     → catalogue-bytes layout-20 (documented k p m (docOf d) fl e x y l ∷ [])
     ≡ words-bytes (first-of (record { kind = k; place = p; maturity = m; documented = docBit d; flags = g; name = offset e; size = size e; privilege = x; further = y }) ∷ docWord d ∷ map (further-word layout-20) l)
@@ -106,6 +122,9 @@ unfolding catalogue-bytes catalogue-words each record-words layout-20 further-wo
 documented-bytes k p m d fl e x y l g h = rw (h, doc-bit-is d, doc-word d) (ap words-bytes (append-nil _))
 
 -- a record without one
+pub plain-fits : {k m g o n : ℕ} → k < 256 → m < 4 → g < 128 → o ≤ text-limit → n ≤ text-limit → Fits (record { kind = k; place = 0; maturity = m; documented = 0; flags = g; name = o; size = n; privilege = 0; further = 0 })
+plain-fits a b c d e = record { kind-fits = a; place-fits = omega arith; maturity-fits = b; documented-fits = omega arith; flags-fits = c; name-fits = omega (arith, d); size-fits = omega (arith, e); privilege-fits = omega arith; further-fits = omega arith }
+
 pub plain-bytes : (k m : ℕ) (fl : List Bits) (e : Extent) (l : List Further) (g : ℕ) → g ≡ from-top 7 fl
     → catalogue-bytes layout-20 (plain k m fl e l ∷ [])
     ≡ words-bytes (first-of (record { kind = k; place = 0; maturity = m; documented = 0; flags = g; name = offset e; size = size e; privilege = 0; further = 0 }) ∷ map (further-word layout-20) l)
@@ -139,6 +158,14 @@ no-room h (Stop i p) e = let z = h .is ∙ sym e in let y : _≡_ {A = ℕ} 0 1 
 -- a declaration that was written, as a step of a sequence
 pub written-took : {A : Type 0} {records : A → List Record} {m : Parser A} (v : Onward m) {b n : ℕ} {u r : List ℕ} {at : ℕ} {w : Wrote} {old new : List ℕ} → Rest b u n r → (h : Written records m n r at w old new) → Took m b u n (h .value) (w .next)
 written-took v q h = took v q (h .is)
+
+-- the buffer keeps its length
+pub written-same : {A : Type 0} {records : A → List Record} {m : Parser A} {b : ℕ} {u : List ℕ} {at n : ℕ} {w : Wrote} {old new : List ℕ} → Room records m b u at n → Written records m b u at w old new → n ≡ length old → length new ≡ length old
+written-same {records = records} {at = at} {old = old} room h e =
+    let z = room .is ∙ sym (h .is) in
+    let y : room .value ≡ h .value = cc in
+    let f : word-count (records (room .value)) ≡ word-count (records (h .value)) = ap (λ v. word-count (records v)) y in
+    ap length (h .bytes) ∙ put-length at (catalogue-bytes layout-20 (records (h .value))) old (omega (arith, catalogue-bytes-length (records (h .value)), room .fits, f, e))
 
 -- the room that is left
 room-before : {A : Type 0} {f : List A → List Record} {one : A → List Record} → Elementwise f one → (p n : ℕ) (l : List A) (x : Reply (List A)) {k : List A} {c : ℕ} {r : List ℕ} → ok k c r ≡ before l x → p + 8 * word-count (f k) ≤ n → p + 8 * word-count (f l) ≤ n

@@ -68,7 +68,7 @@ structFieldLost (NoStructField l) = l
 pub record StructFieldBetween (b : ℕ) (s : StructFieldParts) (c : ℕ) : Type 0 where
   pub between : FieldBetween b (s .field) c
   pub few-maturities : s .maturity < 4
-  pub few-flags : s .flags < 16
+  pub few-flags : s .flags < 8
 
 abbrev pub structFieldWithin : ℕ → StructFieldRead → Type 0
 structFieldWithin b (StructField s c) = StructFieldBetween b s c
@@ -100,7 +100,7 @@ pub record HeadBetween (b : ℕ) (h : StructHeadParts) (c : ℕ) : Type 0 where
   pub name-from : b ≤ h .name
   pub name-to : h .name ≤ h .end
   pub before : h .end ≤ c
-  pub few-flags : h .scoped < 16
+  pub few-flags : h .scoped < 2
 
 abbrev pub headWithin : ℕ → StructHeadRead → Type 0
 headWithin b (Head h c) = HeadBetween b h c

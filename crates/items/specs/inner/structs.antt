@@ -1,5 +1,5 @@
 -- What the private functions of the readers of fields and structs promise.
-use Prim.Native.Nat.{ℕ, _+_, _≤_}
+use Prim.Native.Nat.{ℕ, _+_, _-_, _≤_}
 use mathlib.Core.Path.{_≡_}
 use mathlib.Core.Bool.{Bool, true, false}
 use mathlib.Core.Option.{Option}
@@ -8,12 +8,14 @@ use lib.ListN.{length}
 use Rattle.lexing.specs.bytes.{ascii}
 use Rattle.lexing.specs.reply.{Reply, Parser, ret, opt}
 use Rattle.lexing.specs.words.{Word, any-keyword}
-use Rattle.lexing.specs.answers.{Answer, got, lost, reply}
+use Rattle.lexing.specs.answers.{Answer, got, lost, reply, docOf}
 use Rattle.lexing.specs.declared.answers.Lost.{Lost}
 use Rattle.lexing.specs.declared.answers.Lost.the-variants.{Fail, Stop}
 use Rattle.lexing.specs.declared.integers.Number.{Number}
 use Rattle.lexing.specs.declared.integers.Number.the-variants.{Value, NoNumber}
 use Rattle.items.specs.structs.{list-marker, StructType, regular, request, shared, response-code, struct-type-of}
+use Rattle.items.specs.members.{or-else}
+use Rattle.items.specs.records.{Record, at, bits, value, spanned, flag, plain, documented}
 use Rattle.items.specs.answers.{optionOf}
 use Rattle.items.specs.answers.structs.{typeOf}
 use Rattle.items.specs.declared.structs.MaxLength.{MaxLength}
@@ -22,6 +24,9 @@ use Rattle.items.specs.declared.structs.Marker.{Marker}
 use Rattle.items.specs.declared.structs.StructKind.{StructKind}
 use Rattle.items.specs.declared.structs.StructKind.the-variants.{Regular, Request, Response, Shared}
 use Rattle.items.specs.declared.structs.StructWord.{StructWord}
+use Rattle.items.specs.declared.structs.StructFieldParts.{StructFieldParts}
+use Rattle.items.specs.declared.structs.StructHeadParts.{StructHeadParts}
+use Rattle.items.specs.declared.writing.FrontParts.{FrontParts}
 
 -- a length that may be absent
 abbrev pub lengthAnswer : MaxLength → Answer (Option ℕ)
@@ -81,3 +86,29 @@ codeReply k r b u = reply (codeAnswer k r) b u
 
 abbrev pub responseReply : Number → ℕ → List ℕ → Reply StructType
 responseReply r b u = codeReply Response r b u
+
+-- The second pass.
+
+-- the record of a field, by offsets
+abbrev pub field-parts : StructFieldParts → Record
+field-parts s =
+    plain 6 (s .maturity) (flag (s .field .list) ∷ flag (s .field .«has_maximum») ∷ bits 3 (s .flags) ∷ []) (at (s .field .name) (s .field .end - s .field .name))
+    (spanned (at (s .field .«type_at») (s .field .«type_end» - s .field .«type_at»)) ∷ value (s .field .code) ∷ value (or-else 0 (optionOf (s .field .«has_maximum») (s .field .maximum))) ∷ [])
+
+abbrev pub kindNumber : StructKind → ℕ
+kindNumber Regular = 0
+kindNumber Request = 1
+kindNumber Response = 2
+kindNumber Shared = 3
+
+abbrev pub responseNumber : StructKind → ℕ → ℕ
+responseNumber Regular v = 0
+responseNumber Request v = 0
+responseNumber Response v = v
+responseNumber Shared v = 0
+
+-- the first record of a struct, by offsets
+abbrev pub struct-first : FrontParts → StructHeadParts → Record
+struct-first f h =
+    documented 5 (f .place) (f .maturity) (docOf (f .doc)) (bits 2 (kindNumber (h .kind)) ∷ bits 1 (h .scoped) ∷ []) (at (h .name) (h .end - h .name)) 0 0
+    (value (responseNumber (h .kind) (h .code)) ∷ [])

@@ -2,6 +2,7 @@ use borrow.Author.Needs.{needs}
 use Rattle.items.proofs.structs.parse_struct_field.Statement.{statement}
 use Rattle.items.proofs.structs.parse_struct_field.Tie as tie
 use Rattle.items.specs.structs.{parse-struct-field}
+use Rattle.items.proofs.SetSizes.{fits-0}
 use Rattle.items.proofs.structs.Laws.{field-between, between-wider, field-took, field-none}
 use mathlib.Core.Path.{refl}
 use native.Mathlib.Omega.{arith}
@@ -51,7 +52,7 @@ returns c = read-not _ refl tt (begin (parse-struct-field) _ _ (on _ (blank-took
 
 returns-2 : tie.Need-returns-2
 unfolding parse-struct-field
-returns-2 c = read-is refl (begin (parse-struct-field) _ _ (on _ (blank-took (rest-self _ _) (c .before .before .before .before .before .before .before .before .before .before .before .whitespace0 .ensures)) (go _ (maturity-took (c .before .before .before .before .before .before .before .before .before .before .rest-at .ensures) (c .before .before .before .before .before .before .before .before .before .api-maturity .ensures)) (on _ (blank-took (c .before .before .before .before .before .before .before .before .rest-at2 .ensures) (c .before .before .before .before .before .before .before .whitespace02 .ensures)) (go _ (set-took (c .before .before .before .before .before .before .rest-at3 .ensures) (c .before .before .before .before .before .keywords-set .ensures)) (go _ (field-took (c .before .before .before .before .rest-at4 .ensures) (c .before .before .before .parse-field .ensures) (c .before .r .given .1)) (done _ _ _ _))))))) (record { between = between-wider (c .before .before .before .before .rest-at4 .ensures .from) (omega arith) (field-between (c .before .before .before .before .rest-at4 .ensures) (c .before .before .before .parse-field .ensures) (c .before .r .given .1)); few-maturities = c .before .before .before .before .before .before .before .before .before .api-maturity .ensures .small; few-flags = c .before .before .before .before .before .keywords-set .ensures .small })
+returns-2 c = read-is refl (begin (parse-struct-field) _ _ (on _ (blank-took (rest-self _ _) (c .before .before .before .before .before .before .before .before .before .before .before .whitespace0 .ensures)) (go _ (maturity-took (c .before .before .before .before .before .before .before .before .before .before .rest-at .ensures) (c .before .before .before .before .before .before .before .before .before .api-maturity .ensures)) (on _ (blank-took (c .before .before .before .before .before .before .before .before .rest-at2 .ensures) (c .before .before .before .before .before .before .before .whitespace02 .ensures)) (go _ (set-took (c .before .before .before .before .before .before .rest-at3 .ensures) (c .before .before .before .before .before .keywords-set .ensures)) (go _ (field-took (c .before .before .before .before .rest-at4 .ensures) (c .before .before .before .parse-field .ensures) (c .before .r .given .1)) (done _ _ _ _))))))) (record { between = between-wider (c .before .before .before .before .rest-at4 .ensures .from) (omega arith) (field-between (c .before .before .before .before .rest-at4 .ensures) (c .before .before .before .parse-field .ensures) (c .before .r .given .1)); few-maturities = c .before .before .before .before .before .before .before .before .before .api-maturity .ensures .small; few-flags = fits-0 (c .before .before .before .before .before .keywords-set .ensures) })
 
 pub parse-struct-field-spec : {M : Type 1} → statement M
 parse-struct-field-spec =

@@ -2,6 +2,7 @@ use borrow.Author.Needs.{needs}
 use Rattle.items.proofs.structs.struct_head.Statement.{statement}
 use Rattle.items.proofs.structs.struct_head.Tie as tie
 use Rattle.items.specs.structs.{struct-head}
+use Rattle.items.proofs.SetSizes.{fits-1}
 use mathlib.Core.Path.{refl}
 use native.Mathlib.Omega.{arith}
 use Rattle.lexing.specs.bytes.{ascii}
@@ -118,7 +119,7 @@ returns-4 c = read-not _ refl tt (begin (struct-head) _ _ (go _ (struct-word-too
 
 returns-5 : tie.Need-returns-5
 unfolding struct-head
-returns-5 c = read-is refl (begin (struct-head) _ _ (go _ (struct-word-took (rest-self _ _) (c .before .before .before .before .before .before .before .before .before .before .before .before .before .before .before .before .before .before .before .before .before .before .before .before .before .before .before .before .before .struct-word .ensures)) (on _ (blank-took (c .before .before .before .before .before .before .before .before .before .before .before .before .before .before .before .before .before .before .before .before .before .before .before .before .before .before .before .before .rest-at .ensures) (c .before .before .before .before .before .before .before .before .before .before .before .before .before .before .before .before .before .before .before .before .before .before .before .before .before .before .before .whitespace0 .ensures)) (go _ (set-took (c .before .before .before .before .before .before .before .before .before .before .before .before .before .before .before .before .before .before .before .before .before .before .before .before .before .before .rest-at2 .ensures) (c .before .before .before .before .before .before .before .before .before .before .before .before .before .before .before .before .before .before .before .before .before .before .before .before .before .keywords-set .ensures)) (on _ (blank-took (c .before .before .before .before .before .before .before .before .before .before .before .before .before .before .before .before .before .before .before .before .before .before .before .before .rest-at3 .ensures) (c .before .before .before .before .before .before .before .before .before .before .before .before .before .before .before .before .before .before .before .before .before .before .before .whitespace02 .ensures)) (on _ (keyword-took (c .before .before .before .before .before .before .before .before .before .before .before .before .before .before .before .before .before .before .before .before .before .before .rest-at4 .ensures) (c .before .before .before .before .before .before .before .before .before .before .before .before .before .before .before .before .before .before .key .given .1) (ascii "struct") (c .before .before .before .before .before .before .before .before .before .before .before .before .before .before .before .before .before .before .before .before .keyword .ensures)) (on _ (gap-took (c .before .before .before .before .before .before .before .before .before .before .before .before .before .before .before .before .rest-at5 .ensures) (c .before .before .before .before .before .before .before .before .before .before .before .before .before .gap .given .1) (c .before .before .before .before .before .before .before .before .before .before .before .before .before .before .before .whitespace1 .ensures)) (go _ (word-took (c .before .before .before .before .before .before .before .before .before .before .before .rest-at6 .ensures) (c .before .before .before .before .before .before .before .before .name .given .1) (c .before .before .before .before .before .before .before .before .before .before .parse-id .ensures)) (on _ (blank-took (c .before .before .before .before .before .before .rest-at7 .ensures) (c .before .before .before .before .before .whitespace03 .ensures)) (go _ (type-took (c .before .before .before .before .before .before .before .before .before .before .before .before .before .before .before .before .before .before .before .before .before .before .before .before .before .before .before .before .before .struct-word .ensures .read) (c .before .before .before .before .before .before .before .before .before .before .before .before .before .before .before .before .before .before .before .before .before .before .before .before .before .before .before .before .before .struct-word .result .kind) (c .before .before .before .before .before .before .before .before .before .before .before .before .before .before .before .before .before .before .before .before .before .before .before .before .before .before .before .before .before .struct-word .ensures .means) _ _ (c .before .before .before .struct-code .result) (c .before .before .before .struct-code .ensures) (c .before .before .before .before .rest-at8 .ensures) (c .before .number .given .1)) (done _ _ _ _))))))))))) (record { name-from = omega (arith, (gap-took (c .before .before .before .before .before .before .before .before .before .before .before .before .before .before .before .before .rest-at5 .ensures) (c .before .before .before .before .before .before .before .before .before .before .before .before .before .gap .given .1) (c .before .before .before .before .before .before .before .before .before .before .before .before .before .before .before .whitespace1 .ensures)) .up, c .before .before .before .before .before .before .before .before .before .before .before .before .before .before .before .before .rest-at5 .ensures .from); name-to = (word-took (c .before .before .before .before .before .before .before .before .before .before .before .rest-at6 .ensures) (c .before .before .before .before .before .before .before .before .name .given .1) (c .before .before .before .before .before .before .before .before .before .before .parse-id .ensures)) .up; before = omega (arith, (blank-took (c .before .before .before .before .before .before .rest-at7 .ensures) (c .before .before .before .before .before .whitespace03 .ensures)) .up, (type-took (c .before .before .before .before .before .before .before .before .before .before .before .before .before .before .before .before .before .before .before .before .before .before .before .before .before .before .before .before .before .struct-word .ensures .read) (c .before .before .before .before .before .before .before .before .before .before .before .before .before .before .before .before .before .before .before .before .before .before .before .before .before .before .before .before .before .struct-word .result .kind) (c .before .before .before .before .before .before .before .before .before .before .before .before .before .before .before .before .before .before .before .before .before .before .before .before .before .before .before .before .before .struct-word .ensures .means) _ _ (c .before .before .before .struct-code .result) (c .before .before .before .struct-code .ensures) (c .before .before .before .before .rest-at8 .ensures) (c .before .number .given .1)) .up); few-flags = c .before .before .before .before .before .before .before .before .before .before .before .before .before .before .before .before .before .before .before .before .before .before .before .before .before .keywords-set .ensures .small })
+returns-5 c = read-is refl (begin (struct-head) _ _ (go _ (struct-word-took (rest-self _ _) (c .before .before .before .before .before .before .before .before .before .before .before .before .before .before .before .before .before .before .before .before .before .before .before .before .before .before .before .before .before .struct-word .ensures)) (on _ (blank-took (c .before .before .before .before .before .before .before .before .before .before .before .before .before .before .before .before .before .before .before .before .before .before .before .before .before .before .before .before .rest-at .ensures) (c .before .before .before .before .before .before .before .before .before .before .before .before .before .before .before .before .before .before .before .before .before .before .before .before .before .before .before .whitespace0 .ensures)) (go _ (set-took (c .before .before .before .before .before .before .before .before .before .before .before .before .before .before .before .before .before .before .before .before .before .before .before .before .before .before .rest-at2 .ensures) (c .before .before .before .before .before .before .before .before .before .before .before .before .before .before .before .before .before .before .before .before .before .before .before .before .before .keywords-set .ensures)) (on _ (blank-took (c .before .before .before .before .before .before .before .before .before .before .before .before .before .before .before .before .before .before .before .before .before .before .before .before .rest-at3 .ensures) (c .before .before .before .before .before .before .before .before .before .before .before .before .before .before .before .before .before .before .before .before .before .before .before .whitespace02 .ensures)) (on _ (keyword-took (c .before .before .before .before .before .before .before .before .before .before .before .before .before .before .before .before .before .before .before .before .before .before .rest-at4 .ensures) (c .before .before .before .before .before .before .before .before .before .before .before .before .before .before .before .before .before .before .key .given .1) (ascii "struct") (c .before .before .before .before .before .before .before .before .before .before .before .before .before .before .before .before .before .before .before .before .keyword .ensures)) (on _ (gap-took (c .before .before .before .before .before .before .before .before .before .before .before .before .before .before .before .before .rest-at5 .ensures) (c .before .before .before .before .before .before .before .before .before .before .before .before .before .gap .given .1) (c .before .before .before .before .before .before .before .before .before .before .before .before .before .before .before .whitespace1 .ensures)) (go _ (word-took (c .before .before .before .before .before .before .before .before .before .before .before .rest-at6 .ensures) (c .before .before .before .before .before .before .before .before .name .given .1) (c .before .before .before .before .before .before .before .before .before .before .parse-id .ensures)) (on _ (blank-took (c .before .before .before .before .before .before .rest-at7 .ensures) (c .before .before .before .before .before .whitespace03 .ensures)) (go _ (type-took (c .before .before .before .before .before .before .before .before .before .before .before .before .before .before .before .before .before .before .before .before .before .before .before .before .before .before .before .before .before .struct-word .ensures .read) (c .before .before .before .before .before .before .before .before .before .before .before .before .before .before .before .before .before .before .before .before .before .before .before .before .before .before .before .before .before .struct-word .result .kind) (c .before .before .before .before .before .before .before .before .before .before .before .before .before .before .before .before .before .before .before .before .before .before .before .before .before .before .before .before .before .struct-word .ensures .means) _ _ (c .before .before .before .struct-code .result) (c .before .before .before .struct-code .ensures) (c .before .before .before .before .rest-at8 .ensures) (c .before .number .given .1)) (done _ _ _ _))))))))))) (record { name-from = omega (arith, (gap-took (c .before .before .before .before .before .before .before .before .before .before .before .before .before .before .before .before .rest-at5 .ensures) (c .before .before .before .before .before .before .before .before .before .before .before .before .before .gap .given .1) (c .before .before .before .before .before .before .before .before .before .before .before .before .before .before .before .whitespace1 .ensures)) .up, c .before .before .before .before .before .before .before .before .before .before .before .before .before .before .before .before .rest-at5 .ensures .from); name-to = (word-took (c .before .before .before .before .before .before .before .before .before .before .before .rest-at6 .ensures) (c .before .before .before .before .before .before .before .before .name .given .1) (c .before .before .before .before .before .before .before .before .before .before .parse-id .ensures)) .up; before = omega (arith, (blank-took (c .before .before .before .before .before .before .rest-at7 .ensures) (c .before .before .before .before .before .whitespace03 .ensures)) .up, (type-took (c .before .before .before .before .before .before .before .before .before .before .before .before .before .before .before .before .before .before .before .before .before .before .before .before .before .before .before .before .before .struct-word .ensures .read) (c .before .before .before .before .before .before .before .before .before .before .before .before .before .before .before .before .before .before .before .before .before .before .before .before .before .before .before .before .before .struct-word .result .kind) (c .before .before .before .before .before .before .before .before .before .before .before .before .before .before .before .before .before .before .before .before .before .before .before .before .before .before .before .before .before .struct-word .ensures .means) _ _ (c .before .before .before .struct-code .result) (c .before .before .before .struct-code .ensures) (c .before .before .before .before .rest-at8 .ensures) (c .before .number .given .1)) .up); few-flags = fits-1 (c .before .before .before .before .before .before .before .before .before .before .before .before .before .before .before .before .before .before .before .before .before .before .before .before .before .keywords-set .ensures) })
 
 pub struct-head-spec : {M : Type 1} → statement M
 struct-head-spec =

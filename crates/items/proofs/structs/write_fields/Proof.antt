@@ -1,0 +1,76 @@
+use borrow.Author.Needs.{needs}
+use Rattle.items.proofs.structs.write_fields.Statement.{statement}
+use Rattle.items.proofs.structs.write_fields.Tie as tie
+use native.Mathlib.Omega.{arith}
+use Prim.Native.Nat.{_-_, _+_}
+use mathlib.Core.List.{map}
+use lib.ListN.{length}
+use Rattle.items.specs.structs.{closed-field, fields-run}
+use Rattle.items.specs.records.{field-record}
+use Rattle.items.proofs.RecordWords.{map-elementwise}
+use Rattle.items.proofs.writing.Laws.{Writing, writing-start, writing-same}
+use Rattle.items.proofs.structs.Laws.{closed-field-on, struct-field-between, field-in-limit, field-fits, write-field, fields-end}
+
+abbrev Inv-loop : tie.InvT-loop
+Inv-loop part base out₀ at c₀ to₀ out c to = Writing (map field-record) closed-field base part c at out₀ out to
+
+abbrev μ-loop : tie.MeasureT-loop
+μ-loop part base out₀ at c₀ to₀ out c to = base + length part - c
+
+loop-holds : tie.Need-loop-holds Inv-loop μ-loop
+unfolding fields-run
+loop-holds c = writing-start (map-elementwise field-record) _ _ _ _ _ (c .before .before .pre .1)
+
+rest-at-requires : tie.Need-rest-at-requires Inv-loop μ-loop
+rest-at-requires c κs = omega (arith, c .loop .inv .run .from, c .loop .inv .run .inside)
+
+closed-field-requires : tie.Need-closed-field-requires Inv-loop μ-loop
+closed-field-requires c κs = search needs
+
+enum-known-r : tie.Need-enum-known-r Inv-loop μ-loop
+enum-known-r c = search needs
+
+enum-told : tie.Need-enum-told Inv-loop μ-loop
+enum-told c = search needs
+
+same-length : tie.Need-same-length Inv-loop μ-loop
+unfolding fields-run
+same-length c = writing-same (map-elementwise field-record) _ _ _ _ _ (c .before .before .before .before .before .before .before .pre .1) (c .before .before .before .before .loop .inv)
+
+returns : tie.Need-returns Inv-loop μ-loop
+unfolding fields-run
+returns c = fields-end _ _ _ _ (c .before .before .before .before .before .before .before .pre .1) (c .before .before .before .before .loop .inv) (c .before .before .before .rest-at .ensures) (c .before .before .closed-field .ensures) _ (c .enum-told .given .1)
+
+put-field-requires : tie.Need-put-field-requires Inv-loop μ-loop
+unfolding fields-run
+put-field-requires c κs = let f = field-fits _ _ _ _ (c .before .before .before .before .before .before .before .before .before .pre .1) (c .before .before .before .before .before .before .loop .inv) (c .before .before .before .before .before .rest-at .ensures) (c .before .before .before .before .closed-field .ensures) _ _ (c .before .before .r .given .1) in (f .0, field-in-limit (struct-field-between closed-field-on (c .before .before .before .before .before .rest-at .ensures) (c .before .before .before .before .closed-field .ensures) (c .before .before .r .given .1)) (omega (arith, f .1 .1, c .before .before .before .before .before .before .before .before .before .pre .0)))
+
+add-to : tie.Need-add-to Inv-loop μ-loop
+unfolding fields-run
+add-to c = let f = field-fits _ _ _ _ (c .before .before .before .before .before .before .before .before .before .before .before .before .pre .1) (c .before .before .before .before .before .before .before .before .before .loop .inv) (c .before .before .before .before .before .before .before .before .rest-at .ensures) (c .before .before .before .before .before .before .before .closed-field .ensures) _ _ (c .before .before .before .before .before .r .given .1) in omega (arith, f .0, writing-same (map-elementwise field-record) _ _ _ _ _ (c .before .before .before .before .before .before .before .before .before .before .before .before .pre .1) (c .before .before .before .before .before .before .before .before .before .loop .inv))
+
+loop-less : tie.Need-loop-less Inv-loop μ-loop
+unfolding fields-run
+loop-less c = let f = field-fits _ _ _ _ (c .before .before .before .before .before .before .before .before .before .before .before .before .pre .1) (c .before .before .before .before .before .before .before .before .before .loop .inv) (c .before .before .before .before .before .before .before .before .rest-at .ensures) (c .before .before .before .before .before .before .before .closed-field .ensures) _ _ (c .before .before .before .before .before .r .given .1) in omega (arith, f .1)
+
+loop-again : tie.Need-loop-again Inv-loop μ-loop
+unfolding fields-run
+loop-again c = write-field _ _ _ _ (c .before .before .before .before .before .before .before .before .before .before .before .before .pre .1) (c .before .before .before .before .before .before .before .before .before .loop .inv) (c .before .before .before .before .before .before .before .before .rest-at .ensures) (c .before .before .before .before .before .before .before .closed-field .ensures) _ _ (c .before .before .before .before .before .r .given .1) _ (c .before .before .put-field .ensures)
+
+pub write-fields-spec : {M : Type 1} → statement M
+write-fields-spec =
+    tie.close
+    (tie.spec
+    Inv-loop
+    μ-loop
+    loop-holds
+    rest-at-requires
+    closed-field-requires
+    enum-known-r
+    enum-told
+    same-length
+    returns
+    put-field-requires
+    add-to
+    loop-less
+    loop-again)
