@@ -2,3 +2,4 @@
 pub mod entries
 pub mod structs
 pub mod choices
+pub mod clusters

@@ -1,16 +1,17 @@
 -- A text whose first word is a keyword: no other keyword stands there, no blank, and no word of a set that lacks it.
 use mathlib.Core.Path.{_≡_, refl, sym, ap, _∙_}
-use mathlib.Core.Bool.{Bool, true, false, _&&_, _||_, true≢false, false≢true}
+use mathlib.Core.Bool.{Bool, true, false, not, _&&_, _||_, true≢false, false≢true}
+use mathlib.Core.Logic.{_⊎_, inl, inr}
 use mathlib.Core.List.{List, [], _∷_}
-use Prim.Native.Nat.{ℕ, _+_, _*_, _^_, max}
+use Prim.Native.Nat.{ℕ, zero, suc, _+_, _*_, _^_, _<_, max}
 use native.Mathlib.Omega.{arith}
 use lib.Dec.{eqb}
 use lib.ListN.{length, getD}
-use borrow.Author.Tests.{eq-eqb, ne-eqb, eqb-true}
+use borrow.Author.Tests.{eq-eqb, ne-eqb, eqb-true, not-true}
 use Rattle.lexing.specs.bytes.{slash, isLetter, isWord, isSpace, lower, takeWhile}
-use Rattle.lexing.specs.reply.{Reply, ok, fail, stop, ret, _>>=_, _or_, further, iter, keep}
+use Rattle.lexing.specs.reply.{Reply, ok, fail, stop, ret, _>>=_, _or_, further, iterWithin, iter, keep}
 use Rattle.lexing.specs.words.{Word, isKeyword, keyword, any-keyword}
-use Rattle.lexing.specs.blanks.{no-doc, one-blank, whitespace0}
+use Rattle.lexing.specs.blanks.{Whitespace, whitespace-group, Doc, no-doc, after, one-blank, whitespace0}
 use Rattle.lexing.specs.word_sets.{next-word, set-step, keywords-set, same-bytes, contains, bit, flags, set-of, set-flags}
 use Rattle.lexing.proofs.Tests.{and-left, and-right, blank-fails, false-if}
 use Rattle.lexing.proofs.TokenLocality.{blank-no-letter, no-group, one-blank-consumes, set-step-consumes}
@@ -49,19 +50,48 @@ unfolding flags contains bit
 no-flags [] = refl
 no-flags (k ∷ ks) = let z : 0 * 2 ^ length ks + flags ks [] ≡ flags ks [] = omega arith in z ∙ no-flags ks
 
+-- none of several keywords stands at b
+abbrev pub Frees : ℕ → List ℕ → List (List ℕ) → Type 0
+Frees b u [] = Unit {0}
+Frees b u (j ∷ js) = (keyword j b u ≡ fail b) × Frees b u js
+
+pub free-keywords : (b : ℕ) (u : List ℕ) (js : List (List ℕ)) → Frees b u js → any-keyword js b u ≡ fail b
+unfolding any-keyword _or_ further
+free-keywords b u [] l = refl
+free-keywords b u (j ∷ js) l = let z : max b b ≡ b = omega arith in rw (l .0, _or_) (rw (free-keywords b u js (l .1)) (rw z))
+
+pub free-set : (b : ℕ) (u : List ℕ) (n : ℕ) → Frees b u (set-of n) → set-flags n b u ≡ ok 0 b u
+unfolding set-flags keywords-set set-step next-word keep _>>=_ ret
+free-set b u n l = rw (iter-fail (set-step (set-of n)) keep (set-step-consumes (set-of n)) [] b u b none, _>>=_) (ap (λ v. ok v b u) (no-flags (set-of n)))
+  where
+    none : set-step (set-of n) [] b u ≡ fail b
+    none = rw (free-keywords b u (set-of n) l, set-step, next-word, _>>=_)
+
+-- a first word out of some, and so none of others
+abbrev lacks : List ℕ → List (List ℕ) → Bool
+lacks k [] = true
+lacks k (j ∷ js) = not (same-bytes k j) && lacks k js
+
+abbrev pub disjoint : List (List ℕ) → List (List ℕ) → Bool
+disjoint [] js = true
+disjoint (k ∷ ks) js = lacks k js && disjoint ks js
+
+abbrev pub OneOf : List ℕ → List (List ℕ) → Type 0
+OneOf k [] = ⊥
+OneOf k (j ∷ js) = (k ≡ j) ⊎ OneOf k js
+
+pub record StartsAny (ks : List (List ℕ)) (u : List ℕ) : Type 0 where
+  pub first : List ℕ
+  pub among : OneOf first ks
+  pub starts : Starts first u
+
 module _ {k u : List ℕ} (s : Starts k u) (b : ℕ) where
   pub other-keyword : (j : List ℕ) → same-bytes k j ≡ false → keyword j b u ≡ fail b
   other-keyword j d = sym (keyword-other j b u (s .letter) (false-if (isKeyword (takeWhile isWord u) j) (λ e. true≢false (sym (one-keyword (takeWhile isWord u) k j (s .is) e) ∙ d))))
 
-  -- none of several
-  abbrev pub Lacks : List (List ℕ) → Type 0
-  Lacks [] = Unit {0}
-  Lacks (j ∷ js) = (same-bytes k j ≡ false) × Lacks js
-
-  pub other-keywords : (js : List (List ℕ)) → Lacks js → any-keyword js b u ≡ fail b
-  unfolding any-keyword _or_ further
-  other-keywords [] l = refl
-  other-keywords (j ∷ js) l = let z : max b b ≡ b = omega arith in rw (other-keyword j (l .0), _or_) (rw (other-keywords js (l .1)) (rw z))
+  lacks-free : (js : List (List ℕ)) → lacks k js ≡ true → Frees b u js
+  lacks-free [] e = tt
+  lacks-free (j ∷ js) e = (other-keyword j (not-true (same-bytes k j) (and-left (not (same-bytes k j)) (lacks k js) e)), lacks-free js (and-right (not (same-bytes k j)) (lacks k js) e))
 
   pub no-blank : whitespace0 b u ≡ ok no-doc b u
   unfolding whitespace0 keep one-blank _>>=_
@@ -74,9 +104,40 @@ module _ {k u : List ℕ} (s : Starts k u) (b : ℕ) where
       none [] e = absurd (false≢true (sym no-letter ∙ e))
       none (x ∷ u) e = rw (no-group b x u (letter-no-blank x e), one-blank, _>>=_)
 
-  pub no-set : (n : ℕ) → Lacks (set-of n) → set-flags n b u ≡ ok 0 b u
-  unfolding set-flags keywords-set set-step next-word keep _>>=_ ret
-  no-set n l = rw (iter-fail (set-step (set-of n)) keep (set-step-consumes (set-of n)) [] b u b none, _>>=_) (ap (λ v. ok v b u) (no-flags (set-of n)))
-    where
-      none : set-step (set-of n) [] b u ≡ fail b
-      none = rw (other-keywords (set-of n) l, set-step, next-word, _>>=_)
+one-lacks : (k : List ℕ) (ks js : List (List ℕ)) → OneOf k ks → disjoint ks js ≡ true → lacks k js ≡ true
+one-lacks k [] js o e = absurd o
+one-lacks k (j ∷ ks) js (inl q) e = rw q (and-left (lacks j js) (disjoint ks js) e)
+one-lacks k (j ∷ ks) js (inr o) e = one-lacks k ks js o (and-right (lacks j js) (disjoint ks js) e)
+
+pub starts-free : {ks : List (List ℕ)} {u : List ℕ} → StartsAny ks u → (b : ℕ) (js : List (List ℕ)) → disjoint ks js ≡ true → Frees b u js
+starts-free {ks} s b js e = lacks-free (s .starts) b js (one-lacks (s .first) ks js (s .among) e)
+
+-- no blank stands behind a run of blanks
+one-blank-fails : (d : Doc) (b : ℕ) (u : List ℕ) (p : ℕ) → one-blank d b u ≡ fail p → whitespace-group b u ≡ fail p
+unfolding one-blank _>>=_ ret
+one-blank-fails d b u p e = go (whitespace-group b u) refl
+  where
+    go : (x : Reply Whitespace) → whitespace-group b u ≡ x → whitespace-group b u ≡ fail p
+    go (ok g c r) z = let y : ok (after g d) c r ≡ fail p = rw (z, one-blank, _>>=_) at e in let w : _≡_ {A = ℕ} 0 1 = cc in absurd (omega arith)
+    go (fail q) z = let y : _≡_ {A = Reply Doc} (fail q) (fail p) = rw (z, one-blank, _>>=_) at e in let v : q ≡ p = cc in z ∙ ap fail v
+    go (stop n q) z = let y : stop n q ≡ fail p = rw (z, one-blank, _>>=_) at e in let w : _≡_ {A = ℕ} 0 1 = cc in absurd (omega arith)
+
+run-ends : (n b : ℕ) (u : List ℕ) (d e : Doc) (c : ℕ) (r : List ℕ) → length u < n → iterWithin n one-blank keep d b u ≡ ok e c r → (p : ℕ) × (whitespace-group c r ≡ fail p)
+unfolding iterWithin keep
+run-ends zero b u d e c r l q = absurd (omega arith)
+run-ends (suc n) b u d e c r l q = go (one-blank d b u) refl (λ b u d. run-ends n b u d e c r)
+  where
+    go : (x : Reply Doc) → one-blank d b u ≡ x → ((b : ℕ) (u : List ℕ) (d : Doc) → length u < n → iterWithin n one-blank keep d b u ≡ ok e c r → (p : ℕ) × (whitespace-group c r ≡ fail p)) → (p : ℕ) × (whitespace-group c r ≡ fail p)
+    go (ok f c' r') z ih = let k = rw z at (one-blank-consumes d .consumes b u) in ih c' r' f (omega (arith, k, l)) (rw (z, iterWithin) at q)
+    go (fail p) z ih =
+        let k : ok d b u ≡ ok e c r = rw (z, iterWithin) at q in
+        let y : b ≡ c = cc in
+        let v : u ≡ r = cc in
+        (p, rw (← y, ← v) (one-blank-fails d b u p z))
+    go (stop i p) z ih = let k : stop i p ≡ ok e c r = rw (z, iterWithin) at q in let w : _≡_ {A = ℕ} 0 1 = cc in absurd (omega arith)
+
+pub blank-clear : (b : ℕ) (u : List ℕ) (d : Doc) (c : ℕ) (r : List ℕ) → whitespace0 b u ≡ ok d c r → whitespace0 c r ≡ ok no-doc c r
+unfolding whitespace0 iter one-blank _>>=_ keep
+blank-clear b u d c r e =
+    let x = run-ends (suc (length u)) b u no-doc d c r (omega arith) e in
+    iter-fail one-blank keep one-blank-consumes no-doc c r (x .0) (rw (x .1, one-blank, _>>=_) refl)
