@@ -47,8 +47,11 @@ keyword-lost : (k : List ℕ) (b : ℕ) (u : List ℕ) (l : Lost) → lostReply 
 keyword-lost k b u (Fail p) e = ap fail (sym (rw (← e) at (keyword-says k b u))) ∙ e
 keyword-lost k b u (Stop n p) e = absurd (rw (← e) at (keyword-says k b u))
 
+pub keyword-not : (k : List ℕ) (b : ℕ) (u : List ℕ) (a : Step) → wordReply a b u ≡ keyword k b u → (l : Lost) → a ≡ Not l → fail b ≡ keyword k b u
+keyword-not k b u a h l e = keyword-lost k b u l (told-not (wordAt b u) a l b u (keyword k b u) e h)
+
 pub keyword-fails : (k : List ℕ) (v b : ℕ) (u : List ℕ) (a : Step) → wordReply a b u ≡ keyword k b u → (l : Lost) → a ≡ Not l → fail b ≡ (keyword k >> ret v) b u
-keyword-fails k v b u a h l e = fail-then k v b u b (keyword-lost k b u l (told-not (wordAt b u) a l b u (keyword k b u) e h))
+keyword-fails k v b u a h l e = fail-then k v b u b (keyword-not k b u a h l e)
 
 pub or-fails : {A : Type 0} (m k : Parser A) (b : ℕ) (u : List ℕ) → fail b ≡ m b u → fail b ≡ k b u → fail b ≡ (m or k) b u
 unfolding _or_ further

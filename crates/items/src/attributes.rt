@@ -1,0 +1,143 @@
+// Attributes, and their lists of privileges.
+ghost use mathlib.Core.Path.{_≡_};
+ghost use Prim.Native.Nat.{_+_, _≤_};
+ghost use lib.ListN.{length, take};
+ghost use Rattle.lexing.specs.words.{isLower};
+ghost use Rattle.lexing.specs.answers.{tagReply};
+ghost use Rattle.items.specs.layout.{text-limit};
+ghost use Rattle.items.specs.members.{access-entry, comma};
+ghost use Rattle.items.specs.inner.attributes.{operationBy, operationLost, OperationTo, grantBy, accessLost, AccessTo};
+use crate::members::Level;
+use crate::members::access_privilege;
+use crate::members::level_lost;
+use lexing::answers::Lost;
+use lexing::answers::Step;
+use lexing::answers::step_lost;
+use lexing::blanks::whitespace0;
+use lexing::parts::rest_at;
+use lexing::word_sets::is_lower;
+use lexing::words::keyword;
+use lexing::words::tag;
+
+// What a word of the list names; in another case than the lower one it names neither.
+enum Operation {
+    Read,
+    Write,
+    Neither,
+}
+
+enum OperationRead {
+    Named(Operation, usize),
+    NoOperation(Lost),
+}
+
+// What an entry of the list grants: a privilege to read or to write; or nothing, and where its word stands.
+enum Grant {
+    ToRead(u8),
+    ToWrite(u8),
+    Misnamed(usize),
+}
+
+enum AccessRead {
+    Access(Grant, usize),
+    NoAccess(Lost),
+}
+
+// The operation that a keyword of n bytes names.
+fn operation_by(part: &[u8], n: usize, operation: Operation) -> Operation
+    requires { ⌜ n ≤ length (now part) ⌝ }
+    ensures { λ r. ⌜ r ≡ operationBy (isLower (take n (now (part .entry)))) operation ⌝ }
+{
+    if is_lower(part, n) {
+        return operation;
+    }
+    Operation::Neither
+}
+
+// `read` or `write`, in any case.
+fn access_word(part: &[u8], base: usize) -> OperationRead
+    requires { ⌜ base + length (now part) ≤ text-limit ⌝ }
+    ensures { λ r. ⌜ OperationTo r base (now (part .entry)) ⌝ }
+{
+    let read = keyword(part, base, b"read");
+    if let Step::Next(c) = read {
+        let operation = operation_by(part, c - base, Operation::Read);
+        return OperationRead::Named(operation, c);
+    }
+    let write = keyword(part, base, b"write");
+    if let Step::Next(c) = write {
+        let operation = operation_by(part, c - base, Operation::Write);
+        return OperationRead::Named(operation, c);
+    }
+    OperationRead::NoOperation(Lost::Fail(base))
+}
+
+fn operation_lost(r: OperationRead) -> Lost
+    ensures { λ x. ⌜ x ≡ operationLost r ⌝ }
+{
+    match r {
+        OperationRead::Named(_, c) => Lost::Fail(c),
+        OperationRead::NoOperation(l) => l,
+    }
+}
+
+// What an operation whose word stands at an offset grants.
+fn grant_by(operation: Operation, privilege: u8, at: usize) -> Grant
+    ensures { λ r. ⌜ r ≡ grantBy operation privilege at ⌝ }
+{
+    match operation {
+        Operation::Read => Grant::ToRead(privilege),
+        Operation::Write => Grant::ToWrite(privilege),
+        Operation::Neither => Grant::Misnamed(at),
+    }
+}
+
+fn access_entry(part: &[u8], base: usize) -> AccessRead
+    requires { ⌜ base + length (now part) ≤ text-limit ⌝ }
+    ensures { λ r. ⌜ AccessTo access-entry r base (now (part .entry)) ⌝ }
+{
+    let w1 = whitespace0(part, base);
+    let c1 = w1.next;
+    let word = access_word(rest_at(part, base, c1), c1);
+    let OperationRead::Named(operation, c2) = word else {
+        return AccessRead::NoAccess(operation_lost(word));
+    };
+    let w2 = whitespace0(rest_at(part, base, c2), c2);
+    let c3 = w2.next;
+    let colon = tag(rest_at(part, base, c3), c3, b':');
+    let Step::Next(c4) = colon else {
+        return AccessRead::NoAccess(step_lost(colon));
+    };
+    let w3 = whitespace0(rest_at(part, base, c4), c4);
+    let c5 = w3.next;
+    let granted = access_privilege(rest_at(part, base, c5), c5);
+    let Level::Chosen(privilege, c6) = granted else {
+        return AccessRead::NoAccess(level_lost(granted));
+    };
+    let w4 = whitespace0(rest_at(part, base, c6), c6);
+    let grant = grant_by(operation, privilege, c1);
+    AccessRead::Access(grant, w4.next)
+}
+
+fn access_lost(r: AccessRead) -> Lost
+    ensures { λ x. ⌜ x ≡ accessLost r ⌝ }
+{
+    match r {
+        AccessRead::Access(_, c) => Lost::Fail(c),
+        AccessRead::NoAccess(l) => l,
+    }
+}
+
+fn comma(part: &[u8], base: usize) -> Step
+    requires { ⌜ base + length (now part) ≤ text-limit ⌝ }
+    ensures { λ r. ⌜ tagReply r base (now (part .entry)) ≡ comma base (now (part .entry)) ⌝ }
+{
+    let w1 = whitespace0(part, base);
+    let c1 = w1.next;
+    let separator = tag(rest_at(part, base, c1), c1, b',');
+    let Step::Next(c2) = separator else {
+        return Step::Not(step_lost(separator));
+    };
+    let w2 = whitespace0(rest_at(part, base, c2), c2);
+    Step::Next(w2.next)
+}
