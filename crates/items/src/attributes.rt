@@ -5,8 +5,9 @@ ghost use lib.ListN.{length, take};
 ghost use Rattle.lexing.specs.words.{isLower};
 ghost use Rattle.lexing.specs.answers.{tagReply};
 ghost use Rattle.items.specs.layout.{text-limit};
+ghost use Rattle.lexing.specs.reply.{many0};
 ghost use Rattle.items.specs.members.{access-entry, comma};
-ghost use Rattle.items.specs.inner.attributes.{operationBy, operationLost, OperationTo, grantBy, accessLost, AccessTo};
+ghost use Rattle.items.specs.inner.attributes.{operationBy, operationLost, OperationTo, grantBy, accessLost, AccessTo, separated-entry, grantsWith, grantsSmall, listEnd, ListTo};
 use crate::members::Level;
 use crate::members::access_privilege;
 use crate::members::level_lost;
@@ -41,6 +42,17 @@ enum Grant {
 enum AccessRead {
     Access(Grant, usize),
     NoAccess(Lost),
+}
+
+// What the entries so far have granted: the privileges to read and to write; or the list is refused at its first word that is not in lower case.
+enum Grants {
+    Granted(u8, u8),
+    RefusedAt(usize),
+}
+
+enum ListRead {
+    Listed(Grants, usize),
+    NoList(Lost),
 }
 
 // The operation that a keyword of n bytes names.
@@ -140,4 +152,57 @@ fn comma(part: &[u8], base: usize) -> Step
     };
     let w2 = whitespace0(rest_at(part, base, c2), c2);
     Step::Next(w2.next)
+}
+
+fn separated_entry(part: &[u8], base: usize) -> AccessRead
+    requires { ⌜ base + length (now part) ≤ text-limit ⌝ }
+    ensures { λ r. ⌜ AccessTo separated-entry r base (now (part .entry)) ⌝ }
+{
+    let separator = comma(part, base);
+    let Step::Next(c) = separator else {
+        return AccessRead::NoAccess(step_lost(separator));
+    };
+    access_entry(rest_at(part, base, c), c)
+}
+
+// What is granted with one entry more.
+fn grants_with(grants: Grants, grant: Grant) -> Grants
+    ensures { λ r. ⌜ r ≡ grantsWith grants grant ⌝ }
+{
+    let Grants::Granted(read, write) = grants else {
+        return grants;
+    };
+    match grant {
+        Grant::ToRead(p) => Grants::Granted(p, write),
+        Grant::ToWrite(p) => Grants::Granted(read, p),
+        Grant::Misnamed(at) => Grants::RefusedAt(at),
+    }
+}
+
+// The end of a list at an offset: an entry that fails ends it, and a stop goes on.
+fn list_end(l: Lost, grants: Grants, c: usize) -> ListRead
+    ensures { λ x. ⌜ x ≡ listEnd l grants c ⌝ }
+{
+    match l {
+        Lost::Fail(_) => ListRead::Listed(grants, c),
+        Lost::Stop(n, p) => ListRead::NoList(Lost::Stop(n, p)),
+    }
+}
+
+// The entries behind the first one, with what that one granted.
+fn more_entries(part: &[u8], base: usize, first: Grants) -> ListRead
+    requires { ⌜ base + length (now part) ≤ text-limit ⌝ }
+    requires { ⌜ grantsSmall first ⌝ }
+    ensures { λ r. ⌜ ListTo first (many0 separated-entry) r base (now (part .entry)) ⌝ }
+{
+    let mut c = base;
+    let mut grants = first;
+    loop {
+        let r = separated_entry(rest_at(part, base, c), c);
+        let AccessRead::Access(grant, next) = r else {
+            return list_end(access_lost(r), grants, c);
+        };
+        c = next;
+        grants = grants_with(grants, grant);
+    }
 }

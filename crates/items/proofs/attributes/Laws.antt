@@ -1,15 +1,15 @@
 -- Lists of privileges, and attributes.
 use mathlib.Core.Path.{_≡_, refl, sym, ap, _∙_, subst}
 use mathlib.Core.Bool.{Bool, true, false}
-use mathlib.Core.List.{List, [], _∷_}
+use mathlib.Core.List.{List, [], _∷_, _++_}
 use Prim.Native.Nat.{ℕ, _+_, _-_, _≤_, _<_}
 use native.Mathlib.Omega.{arith}
 use lib.ListN.{take, drop}
 use Rattle.lexing.specs.bytes.{ascii, within, lower}
-use Rattle.lexing.specs.reply.{ok, fail, Parser}
+use Rattle.lexing.specs.reply.{ok, fail, Parser, _>>_, many0}
 use Rattle.lexing.specs.words.{Word, bytesOf, offsetOf, isKeyword, isLower, keyword, any-keyword}
 use Rattle.lexing.specs.word_sets.{same-bytes}
-use Rattle.lexing.specs.answers.{Rest, lostReply, reply, wordAt, wordReply}
+use Rattle.lexing.specs.answers.{Rest, lostReply, reply, wordAt, wordReply, got, lost, tagReply}
 use Rattle.lexing.specs.declared.answers.Lost.{Lost}
 use Rattle.lexing.specs.declared.answers.Lost.the-variants.{Fail, Stop}
 use Rattle.lexing.specs.declared.answers.Step.{Step}
@@ -18,8 +18,8 @@ use Rattle.lexing.proofs.TokenLocality.{any-keyword-chain}
 use Rattle.lexing.proofs.Slicing.{Took, took, walks, told-next}
 use Rattle.lexing.proofs.words.Laws.{keyword-says}
 use Rattle.items.specs.clusters.{mapped}
-use Rattle.items.specs.members.{Access as AccessOf, access-entry}
-use Rattle.items.specs.inner.attributes.{access-words, operation-of, operationBy, operationAnswer, operationLost, operationMeans, OperationTo, grantBy, grant-of, grantSmall, AccessTo}
+use Rattle.items.specs.members.{Access as AccessOf, access-entry, comma}
+use Rattle.items.specs.inner.attributes.{access-words, operation-of, operationBy, operationAnswer, operationLost, operationMeans, OperationTo, grantBy, grant-of, grantSmall, AccessTo, accessLost, separated-entry, grantsWith, grants-from, grantsSmall, listEnd, ListTo}
 use Rattle.items.specs.declared.attributes.Operation.{Operation}
 use Rattle.items.specs.declared.attributes.Operation.the-variants.{Read, Write, Neither}
 use Rattle.items.specs.declared.attributes.OperationRead.{OperationRead}
@@ -27,9 +27,19 @@ use Rattle.items.specs.declared.attributes.OperationRead.the-variants.{N
 use Rattle.items.specs.declared.attributes.Grant.{Grant}
 use Rattle.items.specs.declared.attributes.AccessRead.{AccessRead}
 use Rattle.items.specs.declared.attributes.AccessRead.the-variants.{Access, NoAccess}
-use Rattle.items.proofs.Mapped.{TookAs, took-as, mapped-ok, mapped-not}
+use Rattle.items.proofs.Mapped.{TookAs, took-as, mapped-ok, mapped-not, lost-as, read-as, mapped-after}
 use Rattle.items.proofs.members.Laws.{or-fails}
 use Rattle.items.proofs.structs.Laws.{other-case, by-case}
+use Rattle.lexing.proofs.Onward.{Onward}
+use Rattle.lexing.proofs.Locality.{Consumes, chain-inside, chain-then, consumes-then-right}
+use Rattle.lexing.proofs.Repetition.{ManyAt, manyEnd, many0-start, many0-step, many0-ends}
+use Rattle.items.specs.declared.attributes.Grant.the-variants.{ToRead, ToWrite, Misnamed}
+use Rattle.items.specs.declared.attributes.Grants.{Grants}
+use Rattle.items.specs.declared.attributes.Grants.the-variants.{Granted, RefusedAt}
+use Rattle.items.specs.declared.attributes.ListRead.{ListRead}
+use Rattle.items.specs.declared.attributes.ListRead.the-variants.{Listed, NoList}
+use Rattle.items.proofs.Answers.{read-within, read-lost}
+use Rattle.items.proofs.Locality.{access-entry-inside, access-entry-consumes, comma-local}
 
 -- the word of an entry
 pub read-operation : operation-of (ascii "read") ≡ Read
@@ -95,3 +105,78 @@ access-is {b} {n} {c} {d} {u} {k} {p} {g} t s e h =
     let v : AccessOf = record { operation = t .value; granted = p } in
     let z : grant-of v ≡ g = rw (t .names, t .starts) (sym e) in
     record { reads = mapped-ok grant-of access-entry b u v d (drop (d - b) u) z h; within = rw e (grant-small k p n s) }
+
+pub access-small : (m : Parser AccessOf) {a : AccessRead} {n : ℕ} {r : List ℕ} {g : Grant} {c : ℕ} → AccessTo m a n r → a ≡ Access g c → grantSmall g
+access-small m h e = read-within h e
+
+pub access-lost : (m : Parser AccessOf) {a : AccessRead} {n : ℕ} {r : List ℕ} {l l' : Lost} → AccessTo m a n r → l' ≡ accessLost a → a ≡ NoAccess l → lostReply l' ≡ m n r
+access-lost m {n = n} {r = r} {l' = l'} h e d = lost-as grant-of m n r l' (read-lost h d accessLost e refl)
+
+-- an entry behind a comma
+pub entry-onward : Onward access-entry
+entry-onward = walks (chain-inside access-entry-inside)
+
+pub separated-onward : Onward separated-entry
+separated-onward = walks (chain-then (comma-local .on-chain) (chain-inside access-entry-inside))
+
+separated-consumes : Consumes separated-entry
+separated-consumes = consumes-then-right (comma-local .on-chain) access-entry-consumes
+
+pub comma-took : {b n : ℕ} {u r : List ℕ} {a : Step} {c : ℕ} → Rest b u n r → tagReply a n r ≡ comma n r → a ≡ Next c → Took comma b u n tt c
+comma-took {n = n} {r = r} {a} {c} q h e = took (walks (comma-local .on-chain)) q (told-next (λ c. tt) a c n r (comma n r) e h)
+
+pub access-after : (a : AccessRead) {b n : ℕ} {u r : List ℕ} → Took comma b u b tt n → Rest b u n r → AccessTo access-entry a n r → AccessTo separated-entry a b u
+access-after (Access g c) t q h = record { reads = mapped-after grant-of entry-onward (got g c) t q (h .reads); within = h .within }
+access-after (NoAccess l) t q h = record { reads = mapped-after grant-of entry-onward (lost l) t q (h .reads); within = tt }
+
+-- what is granted with one entry more
+pub grants-with : (g : Grants) (x : Grant) {r w : ℕ} {y : Grant} → g ≡ Granted r w → x ≡ y → grantsWith (Granted r w) y ≡ grantsWith g x
+grants-with g x d e = rw (d, e) refl
+
+pub grants-refused : (g : Grants) (x : Grant) (o : ℕ) → g ≡ RefusedAt o → g ≡ grantsWith g x
+grants-refused g x o d = rw d refl
+
+grants-small : (g : Grants) (x : Grant) → grantsSmall g → grantSmall x → grantsSmall (grantsWith g x)
+grants-small (Granted r w) (ToRead p) h k = record { read = k; write = h .write }
+grants-small (Granted r w) (ToWrite p) h k = record { read = h .read; write = k }
+grants-small (Granted r w) (Misnamed o) h k = tt
+grants-small (RefusedAt o) x h k = tt
+
+grants-more : (g : Grants) (l : List AccessOf) (a : AccessOf) → grants-from g (l ++ (a ∷ [])) ≡ grantsWith (grants-from g l) (grant-of a)
+unfolding grants-from
+grants-more g [] a = refl
+grants-more g (x ∷ l) a = grants-more (grantsWith g (grant-of x)) l a
+
+-- the loop over the entries behind the first: those seen, and what they granted after s
+pub record Granting (s : Grants) (b : ℕ) (u : List ℕ) (c : ℕ) (g : Grants) : Type 0 where
+  pub seen : List AccessOf
+  pub run : ManyAt separated-entry b u c seen
+  pub so-far : grants-from s seen ≡ g
+  pub small : grantsSmall g
+
+pub granting-start : (s : Grants) (b : ℕ) (u : List ℕ) → grantsSmall s → Granting s b u b s
+unfolding grants-from
+granting-start s b u h = record { seen = []; run = many0-start separated-entry b u; so-far = refl; small = h }
+
+pub granting-more : {s : Grants} {b c n : ℕ} {u : List ℕ} {g t : Grants} {x : Grant} → Granting s b u c g → TookAs grant-of separated-entry b u c x n → grantSmall x → t ≡ grantsWith g x
+    → Granting s b u n t × (c < n)
+granting-more {s} {g = g} {t} {x} i k h e =
+    let m = many0-step separated-consumes (i .run) (k .step) in (
+      record {
+        seen = i .seen ++ (k .value ∷ []);
+        run = m .0;
+        so-far = grants-more s (i .seen) (k .value) ∙ (rw (i .so-far, k .is) (sym e));
+        small = rw e (grants-small g x (i .small) h);
+      },
+      m .1,
+    )
+
+list-ended : (s : Grants) (m : Parser AccessOf) (b c : ℕ) (u : List ℕ) (l : List AccessOf) (g : Grants) (x : Lost) → grants-from s l ≡ g → grantsSmall g
+    → many0 m b u ≡ manyEnd x l c (drop (c - b) u) → ListTo s (many0 m) (listEnd x g c) b u
+list-ended s m b c u l g (Fail p) d h e = record { reads = mapped-ok (grants-from s) (many0 m) b u l c (drop (c - b) u) d (sym e); within = h }
+list-ended s m b c u l g (Stop n p) d h e = record { reads = mapped-not (grants-from s) (many0 m) b u (Stop n p) (sym e); within = tt }
+
+pub granting-ends : {s : Grants} {b c : ℕ} {u r : List ℕ} {g : Grants} {t : ListRead} (x : Lost) → Granting s b u c g → Rest b u c r → lostReply x ≡ separated-entry c r → t ≡ listEnd x g c
+    → ListTo s (many0 separated-entry) t b u
+granting-ends {s} {b} {c} {u} {r} {g} x i q e d =
+    rw d (list-ended s separated-entry b c u (i .seen) g x (i .so-far) (i .small) (many0-ends separated-consumes x (i .run) q e))

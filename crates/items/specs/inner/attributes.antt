@@ -4,15 +4,16 @@ use mathlib.Core.Path.{_≡_}
 use mathlib.Core.Bool.{Bool, true, false}
 use mathlib.Core.List.{List, [], _∷_}
 use Rattle.lexing.specs.bytes.{ascii}
-use Rattle.lexing.specs.reply.{Parser}
+use Rattle.lexing.specs.reply.{Parser, _>>_}
 use Rattle.lexing.specs.words.{Word, offsetOf, bytesOf, any-keyword}
 use Rattle.lexing.specs.word_sets.{same-bytes}
 use Rattle.lexing.specs.answers.{Answer, got, lost, wordAt, reply}
 use Rattle.lexing.specs.declared.answers.Lost.{Lost}
 use Rattle.lexing.specs.declared.answers.Lost.the-variants.{Fail, Stop}
 use Rattle.items.specs.clusters.{mapped}
-use Rattle.items.specs.members.{Access as AccessOf}
+use Rattle.items.specs.members.{Access as AccessOf, access-entry, comma}
 use Rattle.items.specs.answers.{ReadTo}
+use Rattle.items.specs.answers.attributes.{SmallPrivileges}
 use Rattle.items.specs.declared.attributes.Operation.{Operation}
 use Rattle.items.specs.declared.attributes.Operation.the-variants.{Read, Write, Neither}
 use Rattle.items.specs.declared.attributes.OperationRead.{OperationRead}
@@ -21,6 +22,10 @@ use Rattle.items.specs.declared.attributes.Grant.{Grant}
 use Rattle.items.specs.declared.attributes.Grant.the-variants.{ToRead, ToWrite, Misnamed}
 use Rattle.items.specs.declared.attributes.AccessRead.{AccessRead}
 use Rattle.items.specs.declared.attributes.AccessRead.the-variants.{Access, NoAccess}
+use Rattle.items.specs.declared.attributes.Grants.{Grants}
+use Rattle.items.specs.declared.attributes.Grants.the-variants.{Granted, RefusedAt}
+use Rattle.items.specs.declared.attributes.ListRead.{ListRead}
+use Rattle.items.specs.declared.attributes.ListRead.the-variants.{Listed, NoList}
 
 -- the words of a list of privileges
 abbrev pub access-words : List (List ℕ)
@@ -84,3 +89,42 @@ accessSmall b (NoAccess l) = Unit {0}
 
 abbrev pub AccessTo : Parser AccessOf → AccessRead → ℕ → List ℕ → Type 0
 AccessTo m r b u = ReadTo accessAnswer accessSmall (mapped m grant-of) r b u
+
+-- what stands behind the first entry of a list, again and again
+abbrev pub separated-entry : Parser AccessOf
+separated-entry = comma >> access-entry
+
+-- what a list grants, read from its start on: of a repeated word the last wins; a word that is not in lower case refuses the list, and the first one counts
+abbrev pub grantsWith : Grants → Grant → Grants
+grantsWith (Granted r w) (ToRead p) = Granted p w
+grantsWith (Granted r w) (ToWrite p) = Granted r p
+grantsWith (Granted r w) (Misnamed o) = RefusedAt o
+grantsWith (RefusedAt o) x = RefusedAt o
+
+unfoldable pub grants-from : Grants → List AccessOf → Grants
+grants-from g [] = g
+grants-from g (a ∷ l) = grants-from (grantsWith g (grant-of a)) l
+
+abbrev pub grantsSmall : Grants → Type 0
+grantsSmall (Granted r w) = SmallPrivileges r w
+grantsSmall (RefusedAt o) = Unit {0}
+
+abbrev pub listAnswer : ℕ → List ℕ → ListRead → Answer Grants
+listAnswer b u (Listed g c) = got g c
+listAnswer b u (NoList l) = lost l
+
+abbrev pub listLost : ListRead → Lost
+listLost (Listed g c) = Fail c
+listLost (NoList l) = l
+
+abbrev pub listSmall : ℕ → ListRead → Type 0
+listSmall b (Listed g c) = grantsSmall g
+listSmall b (NoList l) = Unit {0}
+
+abbrev pub ListTo : Grants → Parser (List AccessOf) → ListRead → ℕ → List ℕ → Type 0
+ListTo g m r b u = ReadTo listAnswer listSmall (mapped m (grants-from g)) r b u
+
+-- the end of a list at c, by why the next entry was lost
+abbrev pub listEnd : Lost → Grants → ℕ → ListRead
+listEnd (Fail p) g c = Listed g c
+listEnd (Stop n p) g c = NoList (Stop n p)
