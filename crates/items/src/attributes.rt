@@ -6,8 +6,8 @@ ghost use Rattle.lexing.specs.words.{isLower};
 ghost use Rattle.lexing.specs.answers.{tagReply};
 ghost use Rattle.items.specs.layout.{text-limit};
 ghost use Rattle.lexing.specs.reply.{many0};
-ghost use Rattle.items.specs.members.{access-entry, comma};
-ghost use Rattle.items.specs.inner.attributes.{operationBy, operationLost, OperationTo, grantBy, accessLost, AccessTo, separated-entry, grantsWith, grantsSmall, listEnd, ListTo};
+ghost use Rattle.items.specs.members.{access-entry, comma, separated-list0, access-list};
+ghost use Rattle.items.specs.inner.attributes.{operationBy, operationLost, OperationTo, grantBy, accessLost, AccessTo, separated-entry, grantsWith, grantsSmall, listLost, listEnd, ListTo, no-grants};
 use crate::members::Level;
 use crate::members::access_privilege;
 use crate::members::level_lost;
@@ -205,4 +205,59 @@ fn more_entries(part: &[u8], base: usize, first: Grants) -> ListRead
         c = next;
         grants = grants_with(grants, grant);
     }
+}
+
+fn list_lost(r: ListRead) -> Lost
+    ensures { λ x. ⌜ x ≡ listLost r ⌝ }
+{
+    match r {
+        ListRead::Listed(_, c) => Lost::Fail(c),
+        ListRead::NoList(l) => l,
+    }
+}
+
+// Entries with commas between them; there may be none.
+fn access_entries(part: &[u8], base: usize) -> ListRead
+    requires { ⌜ base + length (now part) ≤ text-limit ⌝ }
+    ensures { λ r. ⌜ ListTo no-grants (separated-list0 comma access-entry) r base (now (part .entry)) ⌝ }
+{
+    let none = Grants::Granted(0, 1);
+    let first = access_entry(part, base);
+    let AccessRead::Access(grant, c) = first else {
+        return list_end(access_lost(first), none, base);
+    };
+    let grants = grants_with(none, grant);
+    more_entries(rest_at(part, base, c), c, grants)
+}
+
+// `access(..)`
+fn access_list(part: &[u8], base: usize) -> ListRead
+    requires { ⌜ base + length (now part) ≤ text-limit ⌝ }
+    ensures { λ r. ⌜ ListTo no-grants access-list r base (now (part .entry)) ⌝ }
+{
+    let w1 = whitespace0(part, base);
+    let c1 = w1.next;
+    let access = keyword(rest_at(part, base, c1), c1, b"access");
+    let Step::Next(c2) = access else {
+        return ListRead::NoList(step_lost(access));
+    };
+    let w2 = whitespace0(rest_at(part, base, c2), c2);
+    let c3 = w2.next;
+    let opening = tag(rest_at(part, base, c3), c3, b'(');
+    let Step::Next(c4) = opening else {
+        return ListRead::NoList(step_lost(opening));
+    };
+    let w3 = whitespace0(rest_at(part, base, c4), c4);
+    let c5 = w3.next;
+    let entries = access_entries(rest_at(part, base, c5), c5);
+    let ListRead::Listed(grants, c6) = entries else {
+        return ListRead::NoList(list_lost(entries));
+    };
+    let w4 = whitespace0(rest_at(part, base, c6), c6);
+    let c7 = w4.next;
+    let closing = tag(rest_at(part, base, c7), c7, b')');
+    let Step::Next(c8) = closing else {
+        return ListRead::NoList(step_lost(closing));
+    };
+    ListRead::Listed(grants, c8)
 }

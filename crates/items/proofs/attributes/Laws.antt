@@ -2,11 +2,11 @@
 use mathlib.Core.Path.{_≡_, refl, sym, ap, _∙_, subst}
 use mathlib.Core.Bool.{Bool, true, false}
 use mathlib.Core.List.{List, [], _∷_, _++_}
-use Prim.Native.Nat.{ℕ, _+_, _-_, _≤_, _<_}
+use Prim.Native.Nat.{ℕ, _+_, _-_, _≤_, _<_, zero, suc}
 use native.Mathlib.Omega.{arith}
-use lib.ListN.{take, drop}
+use lib.ListN.{take, drop, length}
 use Rattle.lexing.specs.bytes.{ascii, within, lower}
-use Rattle.lexing.specs.reply.{ok, fail, Parser, _>>_, many0}
+use Rattle.lexing.specs.reply.{ok, fail, Parser, _>>_, many0, Reply, stop, ret, _>>=_, catch, prepend, manyWithin}
 use Rattle.lexing.specs.words.{Word, bytesOf, offsetOf, isKeyword, isLower, keyword, any-keyword}
 use Rattle.lexing.specs.word_sets.{same-bytes}
 use Rattle.lexing.specs.answers.{Rest, lostReply, reply, wordAt, wordReply, got, lost, tagReply}
@@ -15,11 +15,11 @@ use Rattle.lexing.specs.declared.answers.Lost.the-variants.{Fail, Stop}
 use Rattle.lexing.specs.declared.answers.Step.{Step}
 use Rattle.lexing.specs.declared.answers.Step.the-variants.{Next, Not}
 use Rattle.lexing.proofs.TokenLocality.{any-keyword-chain}
-use Rattle.lexing.proofs.Slicing.{Took, took, walks, told-next}
+use Rattle.lexing.proofs.Slicing.{Took, took, walks, told-next, begin, go, lose, done, rest-self}
 use Rattle.lexing.proofs.words.Laws.{keyword-says}
 use Rattle.items.specs.clusters.{mapped}
-use Rattle.items.specs.members.{Access as AccessOf, access-entry, comma}
-use Rattle.items.specs.inner.attributes.{access-words, operation-of, operationBy, operationAnswer, operationLost, operationMeans, OperationTo, grantBy, grant-of, grantSmall, AccessTo, accessLost, separated-entry, grantsWith, grants-from, grantsSmall, listEnd, ListTo}
+use Rattle.items.specs.members.{Access as AccessOf, access-entry, comma, separated-list0}
+use Rattle.items.specs.inner.attributes.{access-words, operation-of, operationBy, operationAnswer, operationLost, operationMeans, OperationTo, grantBy, grant-of, grantSmall, AccessTo, accessLost, separated-entry, grantsWith, grants-from, grantsSmall, listEnd, ListTo, listLost, no-grants}
 use Rattle.items.specs.declared.attributes.Operation.{Operation}
 use Rattle.items.specs.declared.attributes.Operation.the-variants.{Read, Write, Neither}
 use Rattle.items.specs.declared.attributes.OperationRead.{OperationRead}
@@ -31,7 +31,7 @@ use Rattle.items.proofs.Mapped.{TookAs, took-as, mapped-ok, mapped-not,
 use Rattle.items.proofs.members.Laws.{or-fails}
 use Rattle.items.proofs.structs.Laws.{other-case, by-case}
 use Rattle.lexing.proofs.Onward.{Onward}
-use Rattle.lexing.proofs.Locality.{Consumes, chain-inside, chain-then, consumes-then-right}
+use Rattle.lexing.proofs.Locality.{Consumes, chain-inside, chain-then, consumes-then-right, chain-many0}
 use Rattle.lexing.proofs.Repetition.{ManyAt, manyEnd, many0-start, many0-step, many0-ends}
 use Rattle.items.specs.declared.attributes.Grant.the-variants.{ToRead, ToWrite, Misnamed}
 use Rattle.items.specs.declared.attributes.Grants.{Grants}
@@ -39,7 +39,7 @@ use Rattle.items.specs.declared.attributes.Grants.the-variants.{Granted,
 use Rattle.items.specs.declared.attributes.ListRead.{ListRead}
 use Rattle.items.specs.declared.attributes.ListRead.the-variants.{Listed, NoList}
 use Rattle.items.proofs.Answers.{read-within, read-lost}
-use Rattle.items.proofs.Locality.{access-entry-inside, access-entry-consumes, comma-local}
+use Rattle.items.proofs.Locality.{access-entry-inside, access-entry-consumes, comma-local, separated-list0-inside}
 
 -- the word of an entry
 pub read-operation : operation-of (ascii "read") ≡ Read
@@ -180,3 +180,92 @@ pub granting-ends : {s : Grants} {b c : ℕ} {u r : List ℕ} {g : Grants} {t : 
     → ListTo s (many0 separated-entry) t b u
 granting-ends {s} {b} {c} {u} {r} {g} x i q e d =
     rw d (list-ended s separated-entry b c u (i .seen) g x (i .so-far) (i .small) (many0-ends separated-consumes x (i .run) q e))
+
+-- a list's answer
+pub list-small : (s : Grants) (m : Parser (List AccessOf)) {a : ListRead} {n : ℕ} {r : List ℕ} {g : Grants} {c : ℕ} → ListTo s m a n r → a ≡ Listed g c → grantsSmall g
+list-small s m h e = read-within h e
+
+pub list-lost : (s : Grants) (m : Parser (List AccessOf)) {a : ListRead} {n : ℕ} {r : List ℕ} {l l' : Lost} → ListTo s m a n r → l' ≡ listLost a → a ≡ NoList l → lostReply l' ≡ m n r
+list-lost s m {n = n} {r = r} {l' = l'} h e d = lost-as (grants-from s) m n r l' (read-lost h d listLost e refl)
+
+pub list-not : (s : Grants) (m : Parser (List AccessOf)) (l : Lost) (b : ℕ) (u : List ℕ) → lostReply l ≡ m b u → ListTo s m (NoList l) b u
+list-not s m l b u e = record { reads = mapped-not (grants-from s) m b u l e; within = tt }
+
+pub list-is : (s : Grants) (m : Parser (List AccessOf)) {k : Parser (List AccessOf)} {b n c d : ℕ} {u : List ℕ} {g : Grants} (t : TookAs (grants-from s) k b u n g c) → grantsSmall g → ok (t .value) d (drop (d - b) u) ≡ m b u → ListTo s m (Listed g d) b u
+list-is s m {b = b} {d = d} {u = u} t h e = record { reads = mapped-ok (grants-from s) m b u (t .value) d (drop (d - b) u) (t .is) e; within = h }
+
+-- where a failure is caught
+module _ {A : Type 0} (m : Parser A) (h : ℕ → Parser A) (b : ℕ) (u : List ℕ) where
+  catch-ok : (a : A) (c : ℕ) (r : List ℕ) → ok a c r ≡ m b u → ok a c r ≡ catch m h b u
+  unfolding catch
+  catch-ok a c r e = rw (sym e, catch)
+
+  catch-fail : (p : ℕ) → fail p ≡ m b u → h p b u ≡ catch m h b u
+  unfolding catch
+  catch-fail p e = rw (sym e, catch)
+
+  catch-stop : (n p : ℕ) → stop n p ≡ m b u → stop n p ≡ catch m h b u
+  unfolding catch
+  catch-stop n p e = rw (sym e, catch)
+
+-- a repetition never fails
+within-calm : {A : Type 0} (n : ℕ) (m : Parser A) (b : ℕ) (u : List ℕ) (p : ℕ) → fail p ≡ manyWithin n m b u → ⊥
+unfolding manyWithin prepend
+within-calm zero m b u p e = let z : _≡_ {A = ℕ} 0 1 = cc in omega arith
+within-calm {A} (suc n) m b u p e = go (m b u) refl (within-calm n m)
+  where
+    after : (a : A) (x : Reply (List A)) → fail p ≡ prepend a x → (fail p ≡ x → ⊥) → ⊥
+    after a (ok l c r) d k = let z : _≡_ {A = ℕ} 0 1 = cc in omega arith
+    after a (fail q) d k = k d
+    after a (stop i q) d k = let z : _≡_ {A = ℕ} 0 1 = cc in omega arith
+
+    go : (x : Reply A) → m b u ≡ x → ((b : ℕ) (u : List ℕ) (p : ℕ) → fail p ≡ manyWithin n m b u → ⊥) → ⊥
+    go (ok a c r) d ih = after a (manyWithin n m c r) (rw (d, manyWithin) at e) (ih c r p)
+    go (fail q) d ih = let k = rw (d, manyWithin) at e in let z : _≡_ {A = ℕ} 0 1 = cc in omega arith
+    go (stop i q) d ih = let k = rw (d, manyWithin) at e in let z : _≡_ {A = ℕ} 0 1 = cc in omega arith
+
+many0-calm : {A : Type 0} (m : Parser A) (b : ℕ) (u : List ℕ) (p : ℕ) → fail p ≡ many0 m b u → ⊥
+unfolding many0
+many0-calm m b u p e = within-calm (suc (length u)) m b u p e
+
+-- entries with commas between them
+abbrev entries : Parser (List AccessOf)
+entries = separated-list0 comma access-entry
+
+abbrev some-entries : Parser (List AccessOf)
+some-entries = access-entry >>= λ a. many0 separated-entry >>= λ l. ret (a ∷ l)
+
+pub entries-onward : Onward entries
+entries-onward = walks (chain-inside (separated-list0-inside comma-local access-entry-inside access-entry-consumes))
+
+more-onward : Onward (many0 separated-entry)
+more-onward = walks (chain-many0 (chain-then (comma-local .on-chain) (chain-inside access-entry-inside)))
+
+first-lost : (x : Lost) (b : ℕ) (u : List ℕ) → lostReply x ≡ access-entry b u → ListTo no-grants entries (listEnd x no-grants b) b u
+unfolding separated-list0 ret grants-from
+first-lost (Fail p) b u e =
+    let z : b - b ≡ 0 = omega arith in
+    let k : ok [] b u ≡ entries b u = catch-fail some-entries (λ q. ret []) b u p (begin some-entries b u (lose access-entry _ (Fail p) (rest-self b u) e)) in
+    record { reads = mapped-ok (grants-from no-grants) entries b u [] b (drop (b - b) u) refl (rw z k); within = record { read = omega arith; write = omega arith } }
+first-lost (Stop n p) b u e =
+    record { reads = mapped-not (grants-from no-grants) entries b u (Stop n p) (catch-stop some-entries (λ q. ret []) b u n p (begin some-entries b u (lose access-entry _ (Stop n p) (rest-self b u) e))); within = tt }
+
+pub entries-none : (x : Lost) {t : ListRead} (b : ℕ) (u : List ℕ) → lostReply x ≡ access-entry b u → t ≡ listEnd x no-grants b → ListTo no-grants entries t b u
+entries-none x b u e d = rw d (first-lost x b u e)
+
+pub entries-some : {b c : ℕ} {u r : List ℕ} {x : Grant} {g : Grants} → TookAs grant-of access-entry b u b x c → g ≡ grantsWith no-grants x → (a : ListRead) → Rest b u c r → ListTo g (many0 separated-entry) a c r → ListTo no-grants entries a b u
+unfolding separated-list0 grants-from
+entries-some {b} {c} {u} {r} {x} {g} t e (Listed y d) q h =
+    let k : TookAs (grants-from g) (many0 separated-entry) b u c y d = read-as h refl more-onward q refl in
+    let z : grants-from no-grants (t .value ∷ k .value) ≡ y = ap (λ (i : Grant). grants-from (grantsWith no-grants i) (k .value)) (t .is) ∙ (ap (λ (i : Grants). grants-from i (k .value)) (sym e) ∙ k .is) in
+    record {
+      reads = mapped-ok (grants-from no-grants) entries b u (t .value ∷ k .value) d (drop (d - b) u) z (catch-ok some-entries (λ q. ret []) b u (t .value ∷ k .value) d (drop (d - b) u) (begin some-entries b u (go _ (t .step) (go _ (k .step) (done _ _ _ _)))));
+      within = h .within;
+    }
+entries-some {b} {c} {u} {r} {x} {g} t e (NoList (Fail p)) q h = absurd (many0-calm separated-entry c r p (lost-as (grants-from g) (many0 separated-entry) c r (Fail p) (h .reads)))
+entries-some {b} {c} {u} {r} {x} {g} t e (NoList (Stop n p)) q h =
+    let k = lost-as (grants-from g) (many0 separated-entry) c r (Stop n p) (h .reads) in
+    record { reads = mapped-not (grants-from no-grants) entries b u (Stop n p) (catch-stop some-entries (λ q. ret []) b u n p (begin some-entries b u (go _ (t .step) (lose _ _ (Stop n p) q k)))); within = tt }
+
+pub first-grants : {a : AccessRead} {n : ℕ} {r : List ℕ} {x : Grant} {c : ℕ} {g : Grants} → AccessTo access-entry a n r → a ≡ Access x c → g ≡ grantsWith no-grants x → grantsSmall g
+first-grants {x = x} h d e = rw e (grants-small no-grants x (record { read = omega arith; write = omega arith }) (access-small access-entry h d))

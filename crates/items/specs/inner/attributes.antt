@@ -128,3 +128,12 @@ ListTo g m r b u = ReadTo listAnswer listSmall (mapped m (grants-from g)) r b u
 abbrev pub listEnd : Lost → Grants → ℕ → ListRead
 listEnd (Fail p) g c = Listed g c
 listEnd (Stop n p) g c = NoList (Stop n p)
+
+-- before any entry: view to read, operate to write
+abbrev pub no-grants : Grants
+no-grants = Granted 0 1
+
+-- a list that may be absent at b
+abbrev pub optionalList : ListRead → ℕ → ListRead
+optionalList (Listed g c) b = Listed g c
+optionalList (NoList l) b = listEnd l no-grants b
