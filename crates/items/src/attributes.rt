@@ -3,22 +3,53 @@ ghost use mathlib.Core.Path.{_≡_};
 ghost use Prim.Native.Nat.{_+_, _≤_};
 ghost use lib.ListN.{length, take};
 ghost use Rattle.lexing.specs.words.{isLower};
-ghost use Rattle.lexing.specs.answers.{tagReply};
+ghost use Rattle.lexing.specs.answers.{docOf, tagReply};
 ghost use Rattle.items.specs.layout.{text-limit};
 ghost use Rattle.lexing.specs.reply.{many0};
-ghost use Rattle.items.specs.members.{access-entry, comma, separated-list0, access-list};
-ghost use Rattle.items.specs.inner.attributes.{operationBy, operationLost, OperationTo, grantBy, accessLost, AccessTo, separated-entry, grantsWith, grantsSmall, listLost, listEnd, ListTo, no-grants};
+ghost use Rattle.items.specs.members.{access-entry, comma, separated-list0, access-list, parse-attribute-after-doc-maturity};
+ghost use Rattle.items.specs.answers.attributes.{PrivilegesTo, privilegesLost, attributeLost, AttributeTo};
+ghost use Rattle.items.specs.inner.attributes.{operationBy, operationLost, OperationTo, grantBy, accessLost, AccessTo, separated-entry, grantsWith, grantsSmall, listLost, listEnd, ListTo, no-grants, optionalList};
 use crate::members::Level;
 use crate::members::access_privilege;
 use crate::members::level_lost;
+use crate::structs::StructFieldParts;
+use crate::structs::StructFieldRead;
+use crate::structs::parse_struct_field;
+use crate::structs::struct_field_lost;
 use lexing::answers::Lost;
 use lexing::answers::Step;
 use lexing::answers::step_lost;
+use lexing::blanks::DocSpan;
+use lexing::blanks::Gap;
+use lexing::blanks::gap_lost;
 use lexing::blanks::whitespace0;
+use lexing::blanks::whitespace1;
 use lexing::parts::rest_at;
 use lexing::word_sets::is_lower;
+use lexing::word_sets::keywords_set;
 use lexing::words::keyword;
 use lexing::words::tag;
+
+// The privileges to read and to write, and the offset behind them, or why there are none.
+pub enum PrivilegesRead {
+    Privileges(u8, u8, usize),
+    NoPrivileges(Lost),
+}
+
+// flags: readonly, writeonly, nosubscribe, timedwrite
+pub struct AttributeParts {
+    pub doc: DocSpan,
+    pub maturity: u8,
+    pub flags: u8,
+    pub read: u8,
+    pub write: u8,
+    pub field: StructFieldParts,
+}
+
+pub enum AttributeRead {
+    Attribute(AttributeParts, usize),
+    NoAttribute(Lost),
+}
 
 // What a word of the list names; in another case than the lower one it names neither.
 enum Operation {
@@ -260,4 +291,99 @@ fn access_list(part: &[u8], base: usize) -> ListRead
         return ListRead::NoList(step_lost(closing));
     };
     ListRead::Listed(grants, c8)
+}
+
+// A list that may be absent, at an offset: where it fails nothing is read, and a stop goes on.
+fn optional_list(r: ListRead, base: usize) -> ListRead
+    ensures { λ x. ⌜ x ≡ optionalList r base ⌝ }
+{
+    let ListRead::NoList(l) = r else {
+        return r;
+    };
+    list_end(l, Grants::Granted(0, 1), base)
+}
+
+// A list that was read whole and has a word that is not in lower case stops at that word.
+pub fn attribute_access(part: &[u8], base: usize) -> PrivilegesRead
+    requires { ⌜ base + length (now part) ≤ text-limit ⌝ }
+    ensures { λ r. ⌜ PrivilegesTo r base (now (part .entry)) ⌝ }
+{
+    let list = optional_list(access_list(part, base), base);
+    let ListRead::Listed(grants, c) = list else {
+        return PrivilegesRead::NoPrivileges(list_lost(list));
+    };
+    match grants {
+        Grants::Granted(read, write) => PrivilegesRead::Privileges(read, write, c),
+        Grants::RefusedAt(at) => PrivilegesRead::NoPrivileges(Lost::Stop(6, at)),
+    }
+}
+
+pub fn privileges_lost(r: PrivilegesRead) -> Lost
+    ensures { λ x. ⌜ x ≡ privilegesLost r ⌝ }
+{
+    match r {
+        PrivilegesRead::Privileges(_, _, c) => Lost::Fail(c),
+        PrivilegesRead::NoPrivileges(l) => l,
+    }
+}
+
+pub fn parse_attribute_after_doc_maturity(
+    part: &[u8],
+    base: usize,
+    doc: DocSpan,
+    maturity: u8,
+) -> AttributeRead
+    requires { ⌜ base + length (now part) ≤ text-limit ⌝ }
+    ensures { λ r. ⌜ AttributeTo (parse-attribute-after-doc-maturity (docOf doc) maturity) r base (now (part .entry)) ⌝ }
+{
+    let q = keywords_set(part, base, 4);
+    let c1 = q.next;
+    let w1 = whitespace0(rest_at(part, base, c1), c1);
+    let c2 = w1.next;
+    let attribute = keyword(rest_at(part, base, c2), c2, b"attribute");
+    let Step::Next(c3) = attribute else {
+        return AttributeRead::NoAttribute(step_lost(attribute));
+    };
+    let gap = whitespace1(rest_at(part, base, c3), c3);
+    let Gap::Passed(w2) = gap else {
+        return AttributeRead::NoAttribute(gap_lost(gap));
+    };
+    let c4 = w2.next;
+    let access = attribute_access(rest_at(part, base, c4), c4);
+    let PrivilegesRead::Privileges(read, write, c5) = access else {
+        return AttributeRead::NoAttribute(privileges_lost(access));
+    };
+    let w3 = whitespace0(rest_at(part, base, c5), c5);
+    let c6 = w3.next;
+    let r = parse_struct_field(rest_at(part, base, c6), c6);
+    let StructFieldRead::StructField(field, c7) = r else {
+        return AttributeRead::NoAttribute(struct_field_lost(r));
+    };
+    let w4 = whitespace0(rest_at(part, base, c7), c7);
+    let c8 = w4.next;
+    let semicolon = tag(rest_at(part, base, c8), c8, b';');
+    let Step::Next(c9) = semicolon else {
+        return AttributeRead::NoAttribute(step_lost(semicolon));
+    };
+    let flags = q.flags;
+    AttributeRead::Attribute(
+        AttributeParts {
+            doc,
+            maturity,
+            flags,
+            read,
+            write,
+            field,
+        },
+        c9,
+    )
+}
+
+pub fn attribute_lost(r: AttributeRead) -> Lost
+    ensures { λ x. ⌜ x ≡ attributeLost r ⌝ }
+{
+    match r {
+        AttributeRead::Attribute(_, c) => Lost::Fail(c),
+        AttributeRead::NoAttribute(l) => l,
+    }
 }

@@ -6,7 +6,7 @@ use Prim.Native.Nat.{ℕ, _+_, _-_, _≤_, _<_, zero, suc}
 use native.Mathlib.Omega.{arith}
 use lib.ListN.{take, drop, length}
 use Rattle.lexing.specs.bytes.{ascii, within, lower}
-use Rattle.lexing.specs.reply.{ok, fail, Parser, _>>_, many0, Reply, stop, ret, _>>=_, catch, prepend, manyWithin}
+use Rattle.lexing.specs.reply.{ok, fail, Parser, _>>_, many0, Reply, stop, ret, _>>=_, catch, prepend, manyWithin, opt, stopAt, pick}
 use Rattle.lexing.specs.words.{Word, bytesOf, offsetOf, isKeyword, isLower, keyword, any-keyword}
 use Rattle.lexing.specs.word_sets.{same-bytes}
 use Rattle.lexing.specs.answers.{Rest, lostReply, reply, wordAt, wordReply, got, lost, tagReply}
@@ -18,8 +18,8 @@ use Rattle.lexing.proofs.TokenLocality.{any-keyword-chain}
 use Rattle.lexing.proofs.Slicing.{Took, took, walks, told-next, begin, go, lose, done, rest-self}
 use Rattle.lexing.proofs.words.Laws.{keyword-says}
 use Rattle.items.specs.clusters.{mapped}
-use Rattle.items.specs.members.{Access as AccessOf, access-entry, comma, separated-list0}
-use Rattle.items.specs.inner.attributes.{access-words, operation-of, operationBy, operationAnswer, operationLost, operationMeans, OperationTo, grantBy, grant-of, grantSmall, AccessTo, accessLost, separated-entry, grantsWith, grants-from, grantsSmall, listEnd, ListTo, listLost, no-grants}
+use Rattle.items.specs.members.{Access as AccessOf, access-entry, comma, separated-list0, access-list, Privileges as PrivilegesOf, granted-by, default-privileges, listed, attribute-access}
+use Rattle.items.specs.inner.attributes.{access-words, operation-of, operationBy, operationAnswer, operationLost, operationMeans, OperationTo, grantBy, grant-of, grantSmall, AccessTo, accessLost, separated-entry, grantsWith, grants-from, grantsSmall, listEnd, ListTo, listLost, no-grants, listAnswer, listSmall, optionalList}
 use Rattle.items.specs.declared.attributes.Operation.{Operation}
 use Rattle.items.specs.declared.attributes.Operation.the-variants.{Read, Write, Neither}
 use Rattle.items.specs.declared.attributes.OperationRead.{OperationRead}
@@ -31,7 +31,7 @@ use Rattle.items.proofs.Mapped.{TookAs, took-as, mapped-ok, mapped-not,
 use Rattle.items.proofs.members.Laws.{or-fails}
 use Rattle.items.proofs.structs.Laws.{other-case, by-case}
 use Rattle.lexing.proofs.Onward.{Onward}
-use Rattle.lexing.proofs.Locality.{Consumes, chain-inside, chain-then, consumes-then-right, chain-many0}
+use Rattle.lexing.proofs.Locality.{Consumes, chain-inside, chain-then, consumes-then-right, chain-many0, chain-opt}
 use Rattle.lexing.proofs.Repetition.{ManyAt, manyEnd, many0-start, many0-step, many0-ends}
 use Rattle.items.specs.declared.attributes.Grant.the-variants.{ToRead, ToWrite, Misnamed}
 use Rattle.items.specs.declared.attributes.Grants.{Grants}
@@ -39,7 +39,13 @@ use Rattle.items.specs.declared.attributes.Grants.the-variants.{Granted,
 use Rattle.items.specs.declared.attributes.ListRead.{ListRead}
 use Rattle.items.specs.declared.attributes.ListRead.the-variants.{Listed, NoList}
 use Rattle.items.proofs.Answers.{read-within, read-lost}
-use Rattle.items.proofs.Locality.{access-entry-inside, access-entry-consumes, comma-local, separated-list0-inside}
+use Rattle.items.proofs.Locality.{access-entry-inside, access-entry-consumes, comma-local, separated-list0-inside, access-list-inside, attribute-access-inside}
+use mathlib.Core.Option.{none, some}
+use Rattle.items.specs.answers.{ReadTo}
+use Rattle.items.specs.answers.attributes.{SmallPrivileges, PrivilegesTo}
+use Rattle.items.specs.declared.attributes.PrivilegesRead.{PrivilegesRead}
+use Rattle.items.specs.declared.attributes.PrivilegesRead.the-variants.{Privileges, NoPrivileges}
+use Rattle.items.proofs.optional.Laws.{opt-ok, opt-fail, opt-stop}
 
 -- the word of an entry
 pub read-operation : operation-of (ascii "read") ≡ Read
@@ -269,3 +275,83 @@ entries-some {b} {c} {u} {r} {x} {g} t e (NoList (Stop n p)) q h =
 
 pub first-grants : {a : AccessRead} {n : ℕ} {r : List ℕ} {x : Grant} {c : ℕ} {g : Grants} → AccessTo access-entry a n r → a ≡ Access x c → g ≡ grantsWith no-grants x → grantsSmall g
 first-grants {x = x} h d e = rw e (grants-small no-grants x (record { read = omega arith; write = omega arith }) (access-small access-entry h d))
+
+-- a list that may be absent, by what it grants
+abbrev OptionalTo : ListRead → ℕ → List ℕ → Type 0
+OptionalTo a b u = ReadTo listAnswer listSmall (mapped (opt access-list) (λ o. grants-from no-grants (listed o))) a b u
+
+optional-reads : (a : ListRead) (b : ℕ) (u : List ℕ) → ListTo no-grants access-list a b u → OptionalTo (optionalList a b) b u
+unfolding listed grants-from
+optional-reads (Listed g c) b u h =
+    let t : TookAs (grants-from no-grants) access-list b u b g c = read-as h refl (walks (chain-inside access-list-inside)) (rest-self b u) refl in
+    let k : ok (t .value) c (drop (c - b) u) ≡ access-list b u = begin access-list b u (sym (t .step .goes)) in
+    record { reads = mapped-ok _ (opt access-list) b u (some (t .value)) c (drop (c - b) u) (t .is) (opt-ok access-list b u (t .value) c (drop (c - b) u) k); within = h .within }
+optional-reads (NoList (Fail p)) b u h =
+    let z : b - b ≡ 0 = omega arith in
+    let k : fail p ≡ access-list b u = lost-as (grants-from no-grants) access-list b u (Fail p) (h .reads) in
+    record { reads = mapped-ok _ (opt access-list) b u none b (drop (b - b) u) refl (rw z (opt-fail access-list b u p k)); within = record { read = omega arith; write = omega arith } }
+optional-reads (NoList (Stop n p)) b u h =
+    let k : stop n p ≡ access-list b u = lost-as (grants-from no-grants) access-list b u (Stop n p) (h .reads) in
+    record { reads = mapped-not _ (opt access-list) b u (Stop n p) (opt-stop access-list b u n p k); within = tt }
+
+pub optional-there : (r : ListRead) (b : ℕ) {g : Grants} {c : ℕ} → r ≡ Listed g c → r ≡ optionalList r b
+optional-there r b d = rw d refl
+
+pub optional-end : {r t : ListRead} (b : ℕ) {l : Lost} → r ≡ NoList l → t ≡ listEnd l no-grants b → t ≡ optionalList r b
+optional-end b d e = rw d e
+
+-- the definition's fold over the list
+abbrev granted : Grants → Parser PrivilegesOf
+granted (Granted r w) = ret (record { read = r; write = w })
+granted (RefusedAt o) = stopAt 6 o
+
+refused-stays : (o : ℕ) (l : List AccessOf) → grants-from (RefusedAt o) l ≡ RefusedAt o
+unfolding grants-from
+refused-stays o [] = refl
+refused-stays o (a ∷ l) = refused-stays o l
+
+granted-is : (r w : ℕ) (l : List AccessOf) → granted-by (record { read = r; write = w }) l ≡ granted (grants-from (Granted r w) l)
+unfolding granted-by grants-from grant-of operation-of pick
+granted-is r w [] = refl
+granted-is r w (a ∷ l) = go (same-bytes (bytesOf (a .operation)) (ascii "read")) refl (same-bytes (bytesOf (a .operation)) (ascii "write")) refl (λ r w. granted-is r w l)
+  where
+    go : (x : Bool) → same-bytes (bytesOf (a .operation)) (ascii "read") ≡ x → (y : Bool) → same-bytes (bytesOf (a .operation)) (ascii "write") ≡ y
+        → ((r w : ℕ) → granted-by (record { read = r; write = w }) l ≡ granted (grants-from (Granted r w) l)) → granted-by (record { read = r; write = w }) (a ∷ l) ≡ granted (grants-from (Granted r w) (a ∷ l))
+    go true d y e ih = rw d (ih (a .granted) w)
+    go false d true e ih = rw (d, e) (ih r (a .granted))
+    go false d false e ih = rw (d, e, refused-stays (offsetOf (a .operation)) l)
+
+module _ {b : ℕ} {u : List ℕ} {a t : ListRead} (h : ListTo no-grants access-list a b u) (d : t ≡ optionalList a b) where
+  optional-to : OptionalTo t b u
+  optional-to = rw d (optional-reads a b u h)
+
+  pub access-stops : {l l' : Lost} → l' ≡ listLost t → t ≡ NoList l → PrivilegesTo (NoPrivileges l') b u
+  unfolding attribute-access
+  access-stops {l} {l'} e f =
+      record { reads = begin attribute-access b u (lose (opt access-list) _ l' (rest-self b u) (lost-as (λ o. grants-from no-grants (listed o)) (opt access-list) b u l' (read-lost optional-to f listLost e refl))); within = tt }
+
+  whole : {g : Grants} {c : ℕ} → t ≡ Listed g c → TookAs (λ o. grants-from no-grants (listed o)) (opt access-list) b u b g c
+  whole f = read-as optional-to f (walks (chain-opt (chain-inside access-list-inside))) (rest-self b u) refl
+
+  pub access-grants : {g : Grants} {c r w : ℕ} → t ≡ Listed g c → g ≡ Granted r w → PrivilegesTo (Privileges r w c) b u
+  unfolding attribute-access default-privileges
+  access-grants {g} {c} {r} {w} f e =
+      let k = whole f in
+      let z : granted-by default-privileges (listed (k .value)) ≡ ret (record { read = r; write = w }) = granted-is 0 1 (listed (k .value)) ∙ ap (λ (y : Grants). granted y) (k .is ∙ e) in
+      record {
+        reads = begin attribute-access b u (go _ (k .step) (rw z (done _ _ _ _)));
+        within = subst (λ (y : Grants). grantsSmall y) e (read-within optional-to f);
+      }
+
+  pub access-refused : {g : Grants} {c o : ℕ} → t ≡ Listed g c → g ≡ RefusedAt o → PrivilegesTo (NoPrivileges (Stop 6 o)) b u
+  unfolding attribute-access default-privileges stopAt
+  access-refused {g} {c} {o} f e =
+      let k = whole f in
+      let z : granted-by default-privileges (listed (k .value)) ≡ stopAt 6 o = granted-is 0 1 (listed (k .value)) ∙ ap (λ (y : Grants). granted y) (k .is ∙ e) in
+      record { reads = begin attribute-access b u (go _ (k .step) (rw z)); within = tt }
+
+pub attribute-access-onward : Onward attribute-access
+attribute-access-onward = walks (chain-inside attribute-access-inside)
+
+pub privileges-small : {a : PrivilegesRead} {n : ℕ} {r : List ℕ} {x w c : ℕ} → PrivilegesTo a n r → a ≡ Privileges x w c → SmallPrivileges x w
+privileges-small h e = read-within h e
