@@ -13,7 +13,7 @@ use Rattle.lexing.specs.word_sets.{same-bytes, set-of, set-flags}
 use Rattle.lexing.proofs.FirstWord.{Starts, other-keyword, Lacks, other-keywords, no-blank, no-set}
 use Rattle.items.specs.entries.{shared-before, choice-head, choice-after-doc-maturity}
 use Rattle.items.specs.structs.{struct-head, parse-struct-after-doc-maturity}
-use Rattle.items.specs.members.{event-priority, event-head, parse-event-after-doc-maturity, command-head, parse-command-after-doc-maturity, parse-attribute-after-doc-maturity}
+use Rattle.items.specs.members.{event-priority, event-qualities, event-head, parse-event-after-doc-maturity, command-head, parse-command-after-doc-maturity, parse-attribute-after-doc-maturity}
 use Rattle.items.specs.clusters.{mapped, parse-revision}
 
 -- sequences whose first step is known
@@ -70,7 +70,7 @@ module _ {k u : List ℕ} (s : Starts k u) (b : ℕ) where
     command-elsewhere n e = bind-fail _ _ (bind-ok _ _ (no-set s b 3 n) ∙ (then-ok _ _ (no-blank s b) ∙ then-fail _ _ (other-keyword s b (ascii "command") e)))
 
     pub event-elsewhere : Lacks s b (set-of 2) → Lacks s b (ascii "info" ∷ ascii "critical" ∷ ascii "debug" ∷ []) → parse-event-after-doc-maturity d m b u ≡ fail b
-    unfolding parse-event-after-doc-maturity event-head event-priority
+    unfolding parse-event-after-doc-maturity event-head event-qualities event-priority
     event-elsewhere n l =
-        bind-fail _ _ (bind-ok _ _ (no-set s b 2 n) ∙ (then-ok _ _ (no-blank s b) ∙ bind-fail _ _ (or-both _ _ (then-fail _ _ (other-keyword s b (ascii "info") (l .0)))
-        (or-both _ _ (then-fail _ _ (other-keyword s b (ascii "critical") (l .1 .0))) (then-fail _ _ (other-keyword s b (ascii "debug") (l .1 .1 .0)))))))
+        bind-fail _ _ (bind-fail _ _ (bind-ok _ _ (no-set s b 2 n) ∙ (then-ok _ _ (no-blank s b) ∙ bind-fail _ _ (or-both _ _ (then-fail _ _ (other-keyword s b (ascii "info") (l .0)))
+        (or-both _ _ (then-fail _ _ (other-keyword s b (ascii "critical") (l .1 .0))) (then-fail _ _ (other-keyword s b (ascii "debug") (l .1 .1 .0))))))))

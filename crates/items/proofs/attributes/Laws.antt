@@ -18,7 +18,7 @@ use Rattle.lexing.proofs.TokenLocality.{any-keyword-chain}
 use Rattle.lexing.proofs.Slicing.{Took, took, walks, told-next, begin, go, lose, done, rest-self}
 use Rattle.lexing.proofs.words.Laws.{keyword-says}
 use Rattle.items.specs.clusters.{mapped}
-use Rattle.items.specs.members.{Access as AccessOf, access-entry, comma, separated-list0, access-list, Privileges as PrivilegesOf, granted-by, default-privileges, listed, attribute-access}
+use Rattle.items.specs.members.{Access as AccessOf, access-entry, comma, separated-list0, access-list, Privileges as PrivilegesOf, granted-by, default-privileges, listed, attribute-access, Attribute as AttributeOf}
 use Rattle.items.specs.inner.attributes.{access-words, operation-of, operationBy, operationAnswer, operationLost, operationMeans, OperationTo, grantBy, grant-of, grantSmall, AccessTo, accessLost, separated-entry, grantsWith, grants-from, grantsSmall, listEnd, ListTo, listLost, no-grants, listAnswer, listSmall, optionalList}
 use Rattle.items.specs.declared.attributes.Operation.{Operation}
 use Rattle.items.specs.declared.attributes.Operation.the-variants.{Read, Write, Neither}
@@ -46,6 +46,8 @@ use Rattle.items.specs.answers.attributes.{SmallPrivileges, PrivilegesTo
 use Rattle.items.specs.declared.attributes.PrivilegesRead.{PrivilegesRead}
 use Rattle.items.specs.declared.attributes.PrivilegesRead.the-variants.{Privileges, NoPrivileges}
 use Rattle.items.proofs.optional.Laws.{opt-ok, opt-fail, opt-stop}
+use Rattle.items.specs.records.{each, plain, documented, field-record, attribute-records}
+use Rattle.items.specs.layout.{layout-20, record-words, catalogue-words, word-count}
 
 -- the word of an entry
 pub read-operation : operation-of (ascii "read") ≡ Read
@@ -355,3 +357,8 @@ attribute-access-onward = walks (chain-inside attribute-access-inside)
 
 pub privileges-small : {a : PrivilegesRead} {n : ℕ} {r : List ℕ} {x w c : ℕ} → PrivilegesTo a n r → a ≡ Privileges x w c → SmallPrivileges x w
 privileges-small h e = read-within h e
+
+-- two words an attribute, and four its field
+pub attribute-words : (a : AttributeOf) → word-count (attribute-records a) ≡ 6
+unfolding word-count catalogue-words each record-words layout-20 attribute-records field-record plain documented
+attribute-words a = refl
