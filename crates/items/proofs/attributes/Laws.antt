@@ -1,53 +1,53 @@
 -- Lists of privileges, and attributes.
 use mathlib.Core.Path.{_≡_, refl, sym, ap, _∙_, subst}
 use mathlib.Core.Bool.{Bool, true, false}
+use mathlib.Core.Option.{none, some}
 use mathlib.Core.List.{List, [], _∷_, _++_}
-use Prim.Native.Nat.{ℕ, _+_, _-_, _≤_, _<_, zero, suc}
+use Prim.Native.Nat.{ℕ, zero, suc, _-_, _<_}
 use native.Mathlib.Omega.{arith}
-use lib.ListN.{take, drop, length}
+use lib.ListN.{length, take, drop}
 use Rattle.lexing.specs.bytes.{ascii, within, lower}
-use Rattle.lexing.specs.reply.{ok, fail, Parser, _>>_, many0, Reply, stop, ret, _>>=_, catch, prepend, manyWithin, opt, stopAt, pick}
+use Rattle.lexing.specs.reply.{Reply, ok, fail, stop, Parser, ret, _>>=_, _>>_, catch, opt, prepend, manyWithin, many0, stopAt, pick}
 use Rattle.lexing.specs.words.{Word, bytesOf, offsetOf, isKeyword, isLower, keyword, any-keyword}
 use Rattle.lexing.specs.word_sets.{same-bytes}
-use Rattle.lexing.specs.answers.{Rest, lostReply, reply, wordAt, wordReply, got, lost, tagReply}
+use Rattle.lexing.specs.answers.{got, lost, Rest, lostReply, reply, tagReply, wordAt, wordReply}
 use Rattle.lexing.specs.declared.answers.Lost.{Lost}
 use Rattle.lexing.specs.declared.answers.Lost.the-variants.{Fail, Stop}
 use Rattle.lexing.specs.declared.answers.Step.{Step}
-use Rattle.lexing.specs.declared.answers.Step.the-variants.{Next, Not}
+use Rattle.lexing.specs.declared.answers.Step.the-variants.{Next}
+use Rattle.lexing.proofs.Onward.{Onward}
+use Rattle.lexing.proofs.Locality.{Consumes, chain-inside, chain-then, consumes-then-right, chain-many0, chain-opt}
 use Rattle.lexing.proofs.TokenLocality.{any-keyword-chain}
-use Rattle.lexing.proofs.Slicing.{Took, took, walks, told-next, begin, go, lose, done, rest-self}
+use Rattle.lexing.proofs.Slicing.{Took, took, walks, told-next, rest-self, begin, go, lose, done}
+use Rattle.lexing.proofs.Repetition.{ManyAt, manyEnd, many0-start, many0-step, many0-ends}
 use Rattle.lexing.proofs.words.Laws.{keyword-says}
-use Rattle.items.specs.clusters.{mapped}
 use Rattle.items.specs.members.{Access as AccessOf, access-entry, comma, separated-list0, access-list, Privileges as PrivilegesOf, granted-by, default-privileges, listed, attribute-access, Attribute as AttributeOf}
-use Rattle.items.specs.inner.attributes.{access-words, operation-of, operationBy, operationAnswer, operationLost, operationMeans, OperationTo, grantBy, grant-of, grantSmall, AccessTo, accessLost, separated-entry, grantsWith, grants-from, grantsSmall, listEnd, ListTo, listLost, no-grants, listAnswer, listSmall, optionalList}
+use Rattle.items.specs.clusters.{mapped}
+use Rattle.items.specs.records.{each, plain, documented, field-record, attribute-records}
+use Rattle.items.specs.layout.{layout-20, record-words, catalogue-words, word-count}
+use Rattle.items.specs.answers.{ReadTo}
+use Rattle.items.specs.answers.attributes.{SmallPrivileges, PrivilegesTo}
+use Rattle.items.specs.inner.attributes.{access-words, operation-of, operationBy, operationAnswer, operationLost, operationMeans, OperationTo, grantBy, grant-of, grantSmall, accessLost, AccessTo, separated-entry, grantsWith, grants-from, grantsSmall, listAnswer, listLost, listSmall, ListTo, listEnd, no-grants, optionalList}
 use Rattle.items.specs.declared.attributes.Operation.{Operation}
 use Rattle.items.specs.declared.attributes.Operation.the-variants.{Read, Write, Neither}
 use Rattle.items.specs.declared.attributes.OperationRead.{OperationRead}
 use Rattle.items.specs.declared.attributes.OperationRead.the-variants.{Named, NoOperation}
 use Rattle.items.specs.declared.attributes.Grant.{Grant}
+use Rattle.items.specs.declared.attributes.Grant.the-variants.{ToRead, ToWrite, Misnamed}
 use Rattle.items.specs.declared.attributes.AccessRead.{AccessRead}
 use Rattle.items.specs.declared.attributes.AccessRead.the-variants.{Access, NoAccess}
-use Rattle.items.proofs.Mapped.{TookAs, took-as, mapped-ok, mapped-not, lost-as, read-as, mapped-after}
-use Rattle.items.proofs.members.Laws.{or-fails}
-use Rattle.items.proofs.structs.Laws.{other-case, by-case}
-use Rattle.lexing.proofs.Onward.{Onward}
-use Rattle.lexing.proofs.Locality.{Consumes, chain-inside, chain-then, consumes-then-right, chain-many0, chain-opt}
-use Rattle.lexing.proofs.Repetition.{ManyAt, manyEnd, many0-start, many0-step, many0-ends}
-use Rattle.items.specs.declared.attributes.Grant.the-variants.{ToRead, ToWrite, Misnamed}
 use Rattle.items.specs.declared.attributes.Grants.{Grants}
 use Rattle.items.specs.declared.attributes.Grants.the-variants.{Granted, RefusedAt}
 use Rattle.items.specs.declared.attributes.ListRead.{ListRead}
 use Rattle.items.specs.declared.attributes.ListRead.the-variants.{Listed, NoList}
-use Rattle.items.proofs.Answers.{read-within, read-lost}
-use Rattle.items.proofs.Locality.{access-entry-inside, access-entry-consumes, comma-local, separated-list0-inside, access-list-inside, attribute-access-inside}
-use mathlib.Core.Option.{none, some}
-use Rattle.items.specs.answers.{ReadTo}
-use Rattle.items.specs.answers.attributes.{SmallPrivileges, PrivilegesTo}
 use Rattle.items.specs.declared.attributes.PrivilegesRead.{PrivilegesRead}
 use Rattle.items.specs.declared.attributes.PrivilegesRead.the-variants.{Privileges, NoPrivileges}
+use Rattle.items.proofs.Answers.{read-within, read-lost}
+use Rattle.items.proofs.Mapped.{TookAs, lost-as, mapped-ok, mapped-not, read-as, mapped-after}
+use Rattle.items.proofs.Locality.{access-entry-inside, access-entry-consumes, comma-local, separated-list0-inside, access-list-inside, attribute-access-inside}
+use Rattle.items.proofs.members.Laws.{or-fails}
+use Rattle.items.proofs.structs.Laws.{other-case, by-case}
 use Rattle.items.proofs.optional.Laws.{opt-ok, opt-fail, opt-stop}
-use Rattle.items.specs.records.{each, plain, documented, field-record, attribute-records}
-use Rattle.items.specs.layout.{layout-20, record-words, catalogue-words, word-count}
 
 -- the word of an entry
 pub read-operation : operation-of (ascii "read") ≡ Read
@@ -149,6 +149,9 @@ grants-small (Granted r w) (ToRead p) h k = record { read = k; write = h .write 
 grants-small (Granted r w) (ToWrite p) h k = record { read = h .read; write = k }
 grants-small (Granted r w) (Misnamed o) h k = tt
 grants-small (RefusedAt o) x h k = tt
+
+first-small : grantsSmall no-grants
+first-small = record { read = omega arith; write = omega arith }
 
 grants-more : (g : Grants) (l : List AccessOf) (a : AccessOf) → grants-from g (l ++ (a ∷ [])) ≡ grantsWith (grants-from g l) (grant-of a)
 unfolding grants-from
@@ -254,7 +257,7 @@ unfolding separated-list0 ret grants-from
 first-lost (Fail p) b u e =
     let z : b - b ≡ 0 = omega arith in
     let k : ok [] b u ≡ entries b u = catch-fail some-entries (λ q. ret []) b u p (begin some-entries b u (lose access-entry _ (Fail p) (rest-self b u) e)) in
-    record { reads = mapped-ok (grants-from no-grants) entries b u [] b (drop (b - b) u) refl (rw z k); within = record { read = omega arith; write = omega arith } }
+    record { reads = mapped-ok (grants-from no-grants) entries b u [] b (drop (b - b) u) refl (rw z k); within = first-small }
 first-lost (Stop n p) b u e =
     record { reads = mapped-not (grants-from no-grants) entries b u (Stop n p) (catch-stop some-entries (λ q. ret []) b u n p (begin some-entries b u (lose access-entry _ (Stop n p) (rest-self b u) e))); within = tt }
 
@@ -276,7 +279,7 @@ entries-some {b} {c} {u} {r} {x} {g} t e (NoList (Stop n p)) q h =
     record { reads = mapped-not (grants-from no-grants) entries b u (Stop n p) (catch-stop some-entries (λ q. ret []) b u n p (begin some-entries b u (go _ (t .step) (lose _ _ (Stop n p) q k)))); within = tt }
 
 pub first-grants : {a : AccessRead} {n : ℕ} {r : List ℕ} {x : Grant} {c : ℕ} {g : Grants} → AccessTo access-entry a n r → a ≡ Access x c → g ≡ grantsWith no-grants x → grantsSmall g
-first-grants {x = x} h d e = rw e (grants-small no-grants x (record { read = omega arith; write = omega arith }) (access-small access-entry h d))
+first-grants {x = x} h d e = rw e (grants-small no-grants x first-small (access-small access-entry h d))
 
 -- a list that may be absent, by what it grants
 abbrev OptionalTo : ListRead → ℕ → List ℕ → Type 0
@@ -291,7 +294,7 @@ optional-reads (Listed g c) b u h =
 optional-reads (NoList (Fail p)) b u h =
     let z : b - b ≡ 0 = omega arith in
     let k : fail p ≡ access-list b u = lost-as (grants-from no-grants) access-list b u (Fail p) (h .reads) in
-    record { reads = mapped-ok _ (opt access-list) b u none b (drop (b - b) u) refl (rw z (opt-fail access-list b u p k)); within = record { read = omega arith; write = omega arith } }
+    record { reads = mapped-ok _ (opt access-list) b u none b (drop (b - b) u) refl (rw z (opt-fail access-list b u p k)); within = first-small }
 optional-reads (NoList (Stop n p)) b u h =
     let k : stop n p ≡ access-list b u = lost-as (grants-from no-grants) access-list b u (Stop n p) (h .reads) in
     record { reads = mapped-not _ (opt access-list) b u (Stop n p) (opt-stop access-list b u n p k); within = tt }

@@ -3,21 +3,21 @@ use mathlib.Core.Path.{_≡_, refl, sym, ap, _∙_, subst}
 use mathlib.Core.List.{List, [], _∷_, _++_}
 use Prim.Native.Nat.{ℕ, _+_, _-_, _*_, _≤_, _<_}
 use native.Mathlib.Omega.{arith}
-use lib.ListN.{length, drop}
-use Rattle.lexing.specs.reply.{Reply, ok, fail, stop, Parser, ret, _>>=_, many0}
-use Rattle.lexing.specs.answers.{Rest, lostReply, reply}
+use lib.ListN.{drop, length-drop}
+use Rattle.lexing.specs.reply.{ok, Parser, many0}
+use Rattle.lexing.specs.answers.{Answer, got, Rest, lostReply, reply}
 use Rattle.lexing.specs.declared.answers.Lost.{Lost}
 use Rattle.lexing.specs.declared.answers.Lost.the-variants.{Fail, Stop}
 use Rattle.lexing.proofs.Onward.{Onward}
 use Rattle.lexing.proofs.Locality.{Consumes}
-use Rattle.lexing.proofs.Slicing.{Took, took}
+use Rattle.lexing.proofs.Slicing.{Took}
 use Rattle.lexing.proofs.Repetition.{ManyAt, manyEnd, many0-start, many0-step, many0-ends}
-use Rattle.items.specs.clusters.{mapped}
 use Rattle.items.specs.records.{Record}
 use Rattle.items.specs.layout.{word-count}
-use Rattle.items.specs.answers.{counted, countAnswer, countEnd, Few, CountTo}
+use Rattle.items.specs.answers.{ReadTo, counted, countEnd, CountTo}
 use Rattle.items.specs.declared.counts.Count.{Count}
 use Rattle.items.specs.declared.counts.Count.the-variants.{Words, NoCount}
+use Rattle.items.proofs.Answers.{reads-as}
 use Rattle.items.proofs.Mapped.{TookAs, took-as, lost-as, mapped-ok, mapped-not}
 use Rattle.items.proofs.RecordWords.{Elementwise, word-count-none, word-count-more}
 
@@ -55,6 +55,14 @@ module _ {A : Type 0} (f : A → List Record) (m : Parser A) (b : ℕ) (u : List
   -- an answer that is passed on
   pub count-pass : (a : Count) (l : Lost) → a ≡ NoCount l → lostReply l ≡ m b u → CountTo f m a b u
   count-pass a l d e = subst (λ (x : Count). CountTo f m x b u) (sym d) (count-not l e)
+
+-- an answer of a reader that takes a byte, once its variant x is known, counted by the words of its value
+pub read-counted : {T A : Type 0} {f : ℕ → List ℕ → T → Answer A} {W : ℕ → T → Type 0} {m : Parser A} (records : A → List Record) (w : Consumes m) {a x : T} {b : ℕ} {u : List ℕ} → ReadTo f W m a b u → a ≡ x
+    → {v : A} {k c : ℕ} → f b u x ≡ got v c → word-count (records v) ≡ k → k ≤ 8 → CountTo records m (Words k c) b u
+read-counted {A = A} {m = m} records w {b = b} {u = u} h d {v} {k} {c} z e s =
+    let g : ok v c (drop (c - b) u) ≡ m b u = sym (ap (λ (y : Answer A). reply y b u) z) ∙ reads-as h d in
+    let l = rw (← g) at (w .consumes b u) in
+    count-is records m b u v k c e (omega (arith, s, l, length-drop (c - b) u)) g
 
 -- a loop that counts a repetition
 pub record Counting {A : Type 0} (f : List A → List Record) (m : Parser A) (b : ℕ) (u : List ℕ) (c n : ℕ) : Type 0 where

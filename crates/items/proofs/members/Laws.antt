@@ -24,10 +24,10 @@ use Rattle.lexing.proofs.Slicing.{Took, took, walks, told-not, rebase, begin, o
 use Rattle.lexing.proofs.words.Laws.{Says, keyword-says}
 use Rattle.items.specs.members.{or-else, event-qualities, command-head, CommandTypes as CommandTypesOf, command-types, Command as CommandOf, event-head, parse-event-after-doc-maturity}
 use Rattle.items.specs.answers.{optionOf, wordBetween, optionalStep, Front}
-use Rattle.items.specs.answers.members.{levelAnswer, levelLost, levelSmall, LevelTo, levelOr, EventQualitiesTo, optionalBetween, CommandHeadBetween, commandHeadAnswer, commandHeadWithin, CommandHeadTo, commandTypesAt, commandTypesAnswer, CommandTypesBetween, commandTypesWithin, CommandTypesTo, commandAt, CommandTo, SmallEventQualities, eventHeadAt, eventHeadAnswer, eventHeadLost, EventHeadBetween, eventHeadWithin, EventHeadTo}
+use Rattle.items.specs.answers.members.{levelAnswer, levelLost, levelSmall, LevelTo, levelOr, EventQualitiesTo, optionalBetween, CommandHeadBetween, commandHeadAnswer, commandHeadWithin, CommandHeadTo, commandTypesAt, commandTypesAnswer, CommandTypesBetween, commandTypesWithin, CommandTypesTo, commandAt, CommandTo, SmallEventQualities, eventHeadAt, eventHeadLost, EventHeadBetween, EventHeadTo}
 use Rattle.items.specs.declared.members.Level.{Level}
 use Rattle.items.specs.declared.members.Level.the-variants.{Chosen, NoLevel}
-use Rattle.items.specs.declared.members.EventQualitiesRead.the-variants.{EventQualities, NoEventQualities}
+use Rattle.items.specs.declared.members.EventQualitiesRead.the-variants.{EventQualities}
 use Rattle.items.specs.declared.members.CommandHeadParts.{CommandHeadParts}
 use Rattle.items.specs.declared.members.CommandHeadRead.{CommandHeadRead}
 use Rattle.items.specs.declared.members.CommandHeadRead.the-variants.{CommandHead, NoCommandHead}
