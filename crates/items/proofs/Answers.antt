@@ -20,7 +20,7 @@ module _ {T A : Type 0} {f : ℕ → List ℕ → T → Answer A} {W : ℕ → T
 
   -- the answer, once its variant x is known
   module _ {a x : T} {n : ℕ} {r : List ℕ} (h : ReadTo f W m a n r) (d : a ≡ x) where
-    reads-as : reply (f n r x) n r ≡ m n r
+    pub reads-as : reply (f n r x) n r ≡ m n r
     reads-as = sym (ap (λ (y : T). reply (f n r y) n r) d) ∙ h .reads
 
     pub read-within : W n x

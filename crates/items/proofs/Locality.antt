@@ -20,7 +20,7 @@ use Rattle.lexing.proofs.Locality.{OnChain, KeepsCut, Consumes, Local, LocalIns
 use Rattle.lexing.proofs.TokenLocality.{parse-id-chain, parse-id-keeps, parse-id-consumes, parse-id-local, keyword-chain, keyword-keeps, keyword-consumes, keyword-local, any-keyword-chain, any-keyword-keeps, any-keyword-consumes, any-keyword-local, tag-consumes, tag-ext, tag-keeps, tag-local, integer-chain, integer-keeps, integer-consumes, integer-local, signed-chain, signed-keeps, signed-local, whitespace0-chain, whitespace0-keeps, whitespace0-local, whitespace1-chain, whitespace1-keeps, whitespace1-local, whitespace1-consumes, string-chain, string-keeps, string-local, set-flags-chain, set-flags-keeps, set-flags-local}
 use Rattle.items.specs.entries.{enclosed, where-missing, braces, api-maturity, constant-annotation, blank-annotation, annotations-in-brackets, constant-annotations-list, constant-entry, blank-entry, constant-entries, constant-entries-list, shared-before, choice-head, choice-after-doc-maturity, parse-enum-after-doc-maturity, parse-bitmap-after-doc-maturity}
 use Rattle.items.specs.structs.{max-length, list-marker, parse-field, parse-struct-field, closed-field, fields-run, struct-fields, response-code, struct-kind, struct-type-of, struct-head, parse-struct-after-doc-maturity}
-use Rattle.items.specs.members.{access-privilege, event-priority, access-to, event-head, parse-event-after-doc-maturity, command-head, command-types, parse-command-after-doc-maturity, Access, access-entry, comma, separated-list0, access-list, Privileges, granted-by, default-privileges, listed, attribute-access, parse-attribute-after-doc-maturity}
+use Rattle.items.specs.members.{access-privilege, event-priority, access-to, event-qualities, event-head, parse-event-after-doc-maturity, command-head, command-types, parse-command-after-doc-maturity, Access, access-entry, comma, separated-list0, access-list, Privileges, granted-by, default-privileges, listed, attribute-access, parse-attribute-after-doc-maturity}
 use Rattle.items.specs.clusters.{mapped, parse-revision, member-tries, parse-cluster-member, cluster-members, side, cluster-head, parse-cluster}
 use Rattle.items.specs.endpoints.{Tried, Deep, intercept, deep-step, deeper, deep-run, deep-place, deep-braces, name-behind, device-version, device-type, value-tries, default-attribute-value, attribute-handling-type, attribute-instantiation, named-after, instance-tries, cluster-instantiation, part-tries, endpoint}
 use Rattle.items.specs.items.{with-doc-maturity, item}
@@ -381,13 +381,21 @@ pub access-to-inside : (k : List ℕ) → LocalInside (access-to k)
 unfolding access-to
 access-to-inside k = search (inside-rules, token-rules, access-privilege-local) depth 24
 
+pub event-qualities-inside : LocalInside event-qualities
+unfolding event-qualities
+event-qualities-inside = search (inside-rules, token-rules, event-priority-local, access-to-inside) depth 24
+
+pub event-qualities-consumes : Consumes event-qualities
+unfolding event-qualities
+event-qualities-consumes = search (consumes-rules, chain-rules, chain-inside, punct-local, event-priority-consumes, access-to-inside) depth 24
+
 pub event-head-inside : LocalInside event-head
 unfolding event-head
-event-head-inside = search (inside-rules, token-rules, event-priority-local, access-to-inside) depth 24
+event-head-inside = search (inside-rules, token-rules, event-qualities-inside) depth 24
 
 pub event-head-consumes : Consumes event-head
 unfolding event-head
-event-head-consumes = search (consumes-rules, chain-rules, chain-inside, punct-local, event-priority-consumes, access-to-inside) depth 24
+event-head-consumes = search (consumes-rules, chain-rules, chain-inside, punct-local, event-qualities-consumes) depth 24
 
 pub parse-event-inside : (d : Doc) (m : ℕ) → LocalInside (parse-event-after-doc-maturity d m)
 unfolding parse-event-after-doc-maturity

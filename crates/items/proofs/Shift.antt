@@ -12,7 +12,7 @@ use Rattle.lexing.specs.strings.{quoted-string, default-string}
 use Rattle.lexing.proofs.Shift.{shiftWord, shiftDoc, shiftOption, still, shiftSpan, Shifts, shift-ret, shift-bind, shift-then, shift-opt, shift-or, shift-many0, shift-fail, shift-stop, shift-position, shift-catch, shift-pick, shift-iter, shift-parse-id, shift-keyword, shift-any-keyword, shift-tag, shift-integer, shift-signed, shift-whitespace0, shift-whitespace1, shift-string, shift-set-flags}
 use Rattle.items.specs.entries.{present, enclosed, where-missing, braces, api-maturity, Annotation, constant-annotation, blank-annotation, annotations-in-brackets, constant-annotations-list, Entry, constant-entry, blank-entry, constant-entries, constant-entries-list, Choice, shared-before, ChoiceHead, choice-head, choice-after-doc-maturity, parse-enum-after-doc-maturity, parse-bitmap-after-doc-maturity}
 use Rattle.items.specs.structs.{Field, max-length, list-marker, parse-field, StructField, parse-struct-field, closed-field, fields-run, struct-fields, Struct, response-code, struct-kind, struct-type-of, StructHead, struct-head, parse-struct-after-doc-maturity}
-use Rattle.items.specs.members.{access-privilege, event-priority, Event, access-to, event-head, parse-event-after-doc-maturity, Command, CommandHead, command-head, CommandTypes, command-types, parse-command-after-doc-maturity, Access, access-entry, comma, separated-list0, access-list, Privileges, granted-by, default-privileges, listed, attribute-access, Attribute, parse-attribute-after-doc-maturity}
+use Rattle.items.specs.members.{access-privilege, event-priority, Event, access-to, event-qualities, EventHead, event-head, parse-event-after-doc-maturity, Command, CommandHead, command-head, CommandTypes, command-types, parse-command-after-doc-maturity, Access, access-entry, comma, separated-list0, access-list, Privileges, granted-by, default-privileges, listed, attribute-access, Attribute, parse-attribute-after-doc-maturity}
 use Rattle.items.specs.clusters.{Member, revision, bitmap, enum, struct, attribute, command, event, mapped, parse-revision, member-tries, parse-cluster-member, cluster-members, Cluster, side, ClusterHead, cluster-head, parse-cluster}
 use Rattle.items.specs.endpoints.{Tried, Deep, intercept, deep-step, deeper, deep-run, deep-place, deep-braces, DeviceType, name-behind, device-version, device-type, Default, number, signed-number, truth, text, value-tries, default-attribute-value, attribute-handling-type, AttributeInstance, attribute-instantiation, named-after, Instance, attribute-instance, command-instance, event-instance, instance-tries, Instantiation, cluster-instantiation, Part, device, binding, instantiation, part-tries, Endpoint, endpoint}
 use Rattle.items.specs.items.{Item, cluster-item, endpoint-item, enum-item, bitmap-item, struct-item, blank-item, with-doc-maturity, item}
@@ -79,6 +79,9 @@ shiftCommand d c = record {
   output = shiftWord d (c .output);
   code = c .code;
 }
+
+unfoldable pub shiftEventHead : ℕ → EventHead → EventHead
+shiftEventHead d h = record { sensitive = h .sensitive; rank = h .rank; privilege = h .privilege; id = shiftWord d (h .id); number = h .number }
 
 unfoldable pub shiftCommandHead : ℕ → CommandHead → CommandHead
 shiftCommandHead d h = record { qualities = h .qualities; privilege = h .privilege; id = shiftWord d (h .id) }
@@ -351,16 +354,19 @@ module _ (d : ℕ) where
   unfolding access-to
   shift-access-to k = key _ ▹ ws0 ▹ mark _ ▹ ws0 ▹ key _ ▹ mark _ ▹ ws0 ▹ shift-access-privilege ▸ λ p' p ep. ws0 ▹ mark _ ▹ shift-ret d _ _ ep
 
-  pub shift-event-head : Shifts d still event-head event-head
-  unfolding event-head still
-  shift-event-head =
+  pub shift-event-qualities : Shifts d still event-qualities event-qualities
+  unfolding event-qualities still
+  shift-event-qualities =
       shift-set-flags d _ ▸ λ q' q eq. ws0 ▹ shift-event-priority ▸ λ y' y ey. ws1 ▹ key _ ▹ ws1 ▹ shift-opt d (shift-access-to _) ▸ λ a' a ea.
       shift-ret d _ _ (rw (eq, ey, ea, still-option a))
 
+  pub shift-event-head : Shifts d (shiftEventHead d) event-head event-head
+  unfolding event-head shiftEventHead still
+  shift-event-head = shift-event-qualities ▸ λ q' q eq. ws0 ▹ name ▸ λ n' n en. ws0 ▹ mark _ ▹ ws0 ▹ int ▸ λ i' i ei. ws0 ▹ shift-ret d _ _ (rw (eq, en, ei))
+
   pub shift-parse-event-after-doc-maturity : ShiftsAfter d (shiftEvent d) parse-event-after-doc-maturity
-  unfolding parse-event-after-doc-maturity shiftEvent still
-  shift-parse-event-after-doc-maturity c' c m' m ec em =
-      shift-event-head ▸ λ h' h eh. ws0 ▹ name ▸ λ n' n en. ws0 ▹ mark _ ▹ ws0 ▹ int ▸ λ i' i ei. ws0 ▹ shift-struct-fields ▸ λ l' l el. shift-ret d _ _ (rw (ec, em, eh, en, ei, el))
+  unfolding parse-event-after-doc-maturity shiftEvent shiftEventHead
+  shift-parse-event-after-doc-maturity c' c m' m ec em = shift-event-head ▸ λ h' h eh. shift-struct-fields ▸ λ l' l el. shift-ret d _ _ (rw (ec, em, eh, el))
 
   -- commands
   pub shift-command-head : Shifts d (shiftCommandHead d) command-head command-head

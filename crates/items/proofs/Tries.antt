@@ -12,7 +12,7 @@ use Rattle.lexing.specs.word_sets.{sets, set-of, set-flags}
 use Rattle.lexing.proofs.FirstWord.{Frees, free-keywords, free-set}
 use Rattle.items.specs.entries.{shared-before, choice-head, choice-after-doc-maturity}
 use Rattle.items.specs.structs.{struct-head, parse-struct-after-doc-maturity}
-use Rattle.items.specs.members.{event-priority, event-head, parse-event-after-doc-maturity, command-head, parse-command-after-doc-maturity, parse-attribute-after-doc-maturity}
+use Rattle.items.specs.members.{event-priority, event-qualities, event-head, parse-event-after-doc-maturity, command-head, parse-command-after-doc-maturity, parse-attribute-after-doc-maturity}
 use Rattle.items.specs.clusters.{mapped, parse-revision}
 use Rattle.items.specs.inner.clusters.{revision-words, struct-words, attribute-words, command-words, event-words}
 
@@ -72,7 +72,7 @@ module _ (b : ℕ) (u : List ℕ) where
       command-elsewhere f = bind-fail _ _ (bind-ok _ _ (free-set b u 3 (f .0, (f .1 .0, tt))) ∙ (then-ok _ _ clear ∙ then-fail _ _ (f .1 .1 .0)))
 
       pub event-elsewhere : Frees b u event-words → parse-event-after-doc-maturity d m b u ≡ fail b
-      unfolding parse-event-after-doc-maturity event-head event-priority set-of sets
+      unfolding parse-event-after-doc-maturity event-head event-qualities event-priority set-of sets
       event-elsewhere f =
-          bind-fail _ _ (bind-ok _ _ (free-set b u 2 (f .0, tt)) ∙ (then-ok _ _ clear ∙ bind-fail _ _ (or-both _ _ (then-fail _ _ (f .1 .0))
-          (or-both _ _ (then-fail _ _ (f .1 .1 .0)) (then-fail _ _ (f .1 .1 .1 .0))))))
+          bind-fail _ _ (bind-fail _ _ (bind-ok _ _ (free-set b u 2 (f .0, tt)) ∙ (then-ok _ _ clear ∙ bind-fail _ _ (or-both _ _ (then-fail _ _ (f .1 .0))
+          (or-both _ _ (then-fail _ _ (f .1 .1 .0)) (then-fail _ _ (f .1 .1 .1 .0)))))))

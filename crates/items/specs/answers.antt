@@ -3,6 +3,7 @@ pub mod entries
 pub mod structs
 pub mod choices
 pub mod members
+pub mod attributes
 pub mod endpoints
 use Prim.Native.Nat.{ℕ, _+_, _-_, _*_, _≤_, _<_}
 use mathlib.Core.Path.{_≡_}

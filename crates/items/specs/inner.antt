@@ -2,4 +2,5 @@
 pub mod entries
 pub mod structs
 pub mod choices
+pub mod attributes
 pub mod clusters

@@ -54,13 +54,13 @@ access-to k = do
   ret p
 
 -- up to the name
-pub record EventHead : Type 0 where
+pub record EventQualities : Type 0 where
   pub sensitive : ℕ
   pub rank : ℕ
   pub privilege : ℕ
 
-unfoldable pub event-head : Parser EventHead
-event-head = do
+unfoldable pub event-qualities : Parser EventQualities
+event-qualities = do
   q ← set-flags 2
   whitespace0
   y ← event-priority
@@ -70,9 +70,17 @@ event-head = do
   a ← opt (access-to (ascii "read"))
   ret (record { sensitive = q; rank = y; privilege = or-else 0 a })
 
-unfoldable pub parse-event-after-doc-maturity : Doc → ℕ → Parser Event
-parse-event-after-doc-maturity d m = do
-  h ← event-head
+-- up to the fields
+pub record EventHead : Type 0 where
+  pub sensitive : ℕ
+  pub rank : ℕ
+  pub privilege : ℕ
+  pub id : Word
+  pub number : ℕ
+
+unfoldable pub event-head : Parser EventHead
+event-head = do
+  q ← event-qualities
   whitespace0
   n ← parse-id
   whitespace0
@@ -80,8 +88,13 @@ parse-event-after-doc-maturity d m = do
   whitespace0
   c ← positive-integer
   whitespace0
+  ret (record { sensitive = q .sensitive; rank = q .rank; privilege = q .privilege; id = n; number = c })
+
+unfoldable pub parse-event-after-doc-maturity : Doc → ℕ → Parser Event
+parse-event-after-doc-maturity d m = do
+  h ← event-head
   fs ← struct-fields
-  ret (record { doc = d; maturity = m; fabric-sensitive = h .sensitive; priority = h .rank; access = h .privilege; name = n; code = c; fields = fs })
+  ret (record { doc = d; maturity = m; fabric-sensitive = h .sensitive; priority = h .rank; access = h .privilege; name = h .id; code = h .number; fields = fs })
 
 -- `parse_command_after_doc_maturity`, line 833; flags: timed, fabric
 pub record Command : Type 0 where

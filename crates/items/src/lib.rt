@@ -1,4 +1,5 @@
 // Declarations of Matter IDL: each module reads one kind of declaration, counts its records and writes them.
+pub mod attributes;
 pub mod choices;
 pub mod counts;
 pub mod endpoints;

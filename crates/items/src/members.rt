@@ -5,8 +5,10 @@ ghost use lib.ListN.{length};
 ghost use Rattle.lexing.specs.answers.{docOf};
 ghost use Rattle.items.specs.layout.{text-limit};
 ghost use Rattle.items.specs.members.{access-privilege, event-priority, access-to, invoke-access, parse-command-after-doc-maturity};
-ghost use Rattle.items.specs.answers.members.{levelLost, LevelTo, levelOr, EventHeadTo, commandHeadLost, CommandHeadTo, commandTypesLost, CommandTypesTo, CommandTo};
+ghost use Rattle.items.specs.answers.members.{levelLost, LevelTo, levelOr, eventQualitiesLost, EventQualitiesTo, eventHeadLost, EventHeadTo, EventCountTo, commandHeadLost, CommandHeadTo, commandTypesLost, CommandTypesTo, commandLost, CommandTo};
+use crate::counts::Count;
 use crate::optional::optional;
+use crate::structs::struct_fields;
 use lexing::answers::Lost;
 use lexing::answers::Step;
 use lexing::answers::step_lost;
@@ -31,10 +33,25 @@ pub enum Level {
 }
 
 // Up to an event's name: its flag, its priority and the privilege to read it.
+pub struct EventQualitiesParts {
+    pub sensitive: u8,
+    pub rank: u8,
+    pub privilege: u8,
+}
+
+pub enum EventQualitiesRead {
+    EventQualities(EventQualitiesParts, usize),
+    NoEventQualities(Lost),
+}
+
+// An event up to its fields: the offsets of its name and behind it, and its code.
 pub struct EventHeadParts {
     pub sensitive: u8,
     pub rank: u8,
     pub privilege: u8,
+    pub name: usize,
+    pub end: usize,
+    pub code: u64,
 }
 
 pub enum EventHeadRead {
@@ -193,9 +210,9 @@ pub fn access_to(part: &[u8], base: usize, key: &[u8]) -> Level
     Level::Chosen(p, c10)
 }
 
-pub fn event_head(part: &[u8], base: usize) -> EventHeadRead
+pub fn event_qualities(part: &[u8], base: usize) -> EventQualitiesRead
     requires { ⌜ base + length (now part) ≤ text-limit ⌝ }
-    ensures { λ r. ⌜ EventHeadTo r base (now (part .entry)) ⌝ }
+    ensures { λ r. ⌜ EventQualitiesTo r base (now (part .entry)) ⌝ }
 {
     let q = keywords_set(part, base, 2);
     let c1 = q.next;
@@ -203,35 +220,109 @@ pub fn event_head(part: &[u8], base: usize) -> EventHeadRead
     let c2 = w1.next;
     let priority = event_priority(rest_at(part, base, c2), c2);
     let Level::Chosen(rank, c3) = priority else {
-        return EventHeadRead::NoEventHead(level_lost(priority));
+        return EventQualitiesRead::NoEventQualities(level_lost(priority));
     };
     let gap1 = whitespace1(rest_at(part, base, c3), c3);
     let Gap::Passed(w2) = gap1 else {
-        return EventHeadRead::NoEventHead(gap_lost(gap1));
+        return EventQualitiesRead::NoEventQualities(gap_lost(gap1));
     };
     let c4 = w2.next;
     let event = keyword(rest_at(part, base, c4), c4, b"event");
     let Step::Next(c5) = event else {
-        return EventHeadRead::NoEventHead(step_lost(event));
+        return EventQualitiesRead::NoEventQualities(step_lost(event));
     };
     let gap2 = whitespace1(rest_at(part, base, c5), c5);
     let Gap::Passed(w3) = gap2 else {
-        return EventHeadRead::NoEventHead(gap_lost(gap2));
+        return EventQualitiesRead::NoEventQualities(gap_lost(gap2));
     };
     let c6 = w3.next;
     let access = level_or(access_to(rest_at(part, base, c6), c6, b"read"), 0, c6);
     let Level::Chosen(privilege, c7) = access else {
-        return EventHeadRead::NoEventHead(level_lost(access));
+        return EventQualitiesRead::NoEventQualities(level_lost(access));
     };
     let sensitive = q.flags;
-    EventHeadRead::EventHead(
-        EventHeadParts {
+    EventQualitiesRead::EventQualities(
+        EventQualitiesParts {
             sensitive,
             rank,
             privilege,
         },
         c7,
     )
+}
+
+pub fn event_qualities_lost(r: EventQualitiesRead) -> Lost
+    ensures { λ x. ⌜ x ≡ eventQualitiesLost r ⌝ }
+{
+    match r {
+        EventQualitiesRead::EventQualities(_, c) => Lost::Fail(c),
+        EventQualitiesRead::NoEventQualities(l) => l,
+    }
+}
+
+pub fn event_head(part: &[u8], base: usize) -> EventHeadRead
+    requires { ⌜ base + length (now part) ≤ text-limit ⌝ }
+    ensures { λ r. ⌜ EventHeadTo r base (now (part .entry)) ⌝ }
+{
+    let qualities = event_qualities(part, base);
+    let EventQualitiesRead::EventQualities(q, c1) = qualities else {
+        return EventHeadRead::NoEventHead(event_qualities_lost(qualities));
+    };
+    let w1 = whitespace0(rest_at(part, base, c1), c1);
+    let c2 = w1.next;
+    let id = parse_id(rest_at(part, base, c2), c2);
+    let Step::Next(c3) = id else {
+        return EventHeadRead::NoEventHead(step_lost(id));
+    };
+    let w2 = whitespace0(rest_at(part, base, c3), c3);
+    let c4 = w2.next;
+    let equals = tag(rest_at(part, base, c4), c4, b'=');
+    let Step::Next(c5) = equals else {
+        return EventHeadRead::NoEventHead(step_lost(equals));
+    };
+    let w3 = whitespace0(rest_at(part, base, c5), c5);
+    let c6 = w3.next;
+    let number = positive_integer(rest_at(part, base, c6), c6);
+    let Number::Value(code, c7) = number else {
+        return EventHeadRead::NoEventHead(number_lost(number));
+    };
+    let w4 = whitespace0(rest_at(part, base, c7), c7);
+    EventHeadRead::EventHead(
+        EventHeadParts {
+            sensitive: q.sensitive,
+            rank: q.rank,
+            privilege: q.privilege,
+            name: c2,
+            end: c3,
+            code,
+        },
+        w4.next,
+    )
+}
+
+pub fn event_head_lost(r: EventHeadRead) -> Lost
+    ensures { λ x. ⌜ x ≡ eventHeadLost r ⌝ }
+{
+    match r {
+        EventHeadRead::EventHead(_, c) => Lost::Fail(c),
+        EventHeadRead::NoEventHead(l) => l,
+    }
+}
+
+// The first pass over an event: three words, and those of its fields.
+pub fn parse_event_after_doc_maturity(part: &[u8], base: usize) -> Count
+    requires { ⌜ base + length (now part) ≤ text-limit ⌝ }
+    ensures { λ r. ⌜ EventCountTo r base (now (part .entry)) ⌝ }
+{
+    let head = event_head(part, base);
+    let EventHeadRead::EventHead(_, c1) = head else {
+        return Count::NoCount(event_head_lost(head));
+    };
+    let fields = struct_fields(rest_at(part, base, c1), c1);
+    let Count::Words(n, c2) = fields else {
+        return fields;
+    };
+    Count::Words(n + 3, c2)
 }
 
 fn invoke_access(part: &[u8], base: usize) -> Level
@@ -392,4 +483,13 @@ pub fn parse_command_after_doc_maturity(
         },
         c8,
     )
+}
+
+pub fn command_lost(r: CommandRead) -> Lost
+    ensures { λ x. ⌜ x ≡ commandLost r ⌝ }
+{
+    match r {
+        CommandRead::Command(_, c) => Lost::Fail(c),
+        CommandRead::NoCommand(l) => l,
+    }
 }

@@ -3,55 +3,23 @@ use mathlib.Core.Path.{_≡_, refl, sym, ap, _∙_, subst}
 use mathlib.Core.List.{List, [], _∷_, _++_}
 use Prim.Native.Nat.{ℕ, _+_, _-_, _*_, _≤_, _<_}
 use native.Mathlib.Omega.{arith}
-use lib.ListN.{length, drop}
-use Rattle.lexing.specs.reply.{Reply, ok, fail, stop, Parser, ret, _>>=_, many0}
-use Rattle.lexing.specs.answers.{Rest, lostReply, reply}
+use lib.ListN.{drop, length-drop}
+use Rattle.lexing.specs.reply.{ok, Parser, many0}
+use Rattle.lexing.specs.answers.{Answer, got, Rest, lostReply, reply}
 use Rattle.lexing.specs.declared.answers.Lost.{Lost}
 use Rattle.lexing.specs.declared.answers.Lost.the-variants.{Fail, Stop}
 use Rattle.lexing.proofs.Onward.{Onward}
 use Rattle.lexing.proofs.Locality.{Consumes}
-use Rattle.lexing.proofs.Slicing.{Took, took}
+use Rattle.lexing.proofs.Slicing.{Took}
 use Rattle.lexing.proofs.Repetition.{ManyAt, manyEnd, many0-start, many0-step, many0-ends}
-use Rattle.items.specs.clusters.{mapped}
 use Rattle.items.specs.records.{Record}
 use Rattle.items.specs.layout.{word-count}
-use Rattle.items.specs.answers.{counted, countAnswer, countEnd, Few, CountTo}
+use Rattle.items.specs.answers.{ReadTo, counted, countEnd, CountTo}
 use Rattle.items.specs.declared.counts.Count.{Count}
 use Rattle.items.specs.declared.counts.Count.the-variants.{Words, NoCount}
+use Rattle.items.proofs.Answers.{reads-as}
+use Rattle.items.proofs.Mapped.{TookAs, took-as, lost-as, mapped-ok, mapped-not}
 use Rattle.items.proofs.RecordWords.{Elementwise, word-count-none, word-count-more}
-
--- a reply, its value counted
-abbrev counting : {A : Type 0} → (A → List Record) → Reply A → Reply ℕ
-counting f (ok a c r) = ok (word-count (f a)) c r
-counting f (fail p) = fail p
-counting f (stop n p) = stop n p
-
-counted-is : {A : Type 0} (f : A → List Record) (m : Parser A) (b : ℕ) (u : List ℕ) → counted f m b u ≡ counting f (m b u)
-unfolding counted mapped _>>=_ ret
-counted-is {A} f m b u = go (m b u) refl
-  where
-    go : (x : Reply A) → m b u ≡ x → counted f m b u ≡ counting f (m b u)
-    go (ok a c r) e = rw (e, counted, mapped, _>>=_)
-    go (fail p) e = rw (e, counted, mapped, _>>=_)
-    go (stop n p) e = rw (e, counted, mapped, _>>=_)
-
--- the value behind a count
-value-of : {A : Type 0} (f : A → List Record) (x : Reply A) (k c : ℕ) (v : List ℕ) → ok k c v ≡ counting f x → (a : A) × ((word-count (f a) ≡ k) × (ok a c v ≡ x))
-value-of f (ok a c' r') k c v e =
-    let z1 : word-count (f a) ≡ k = cc in
-    let z2 : c ≡ c' = cc in
-    let z3 : v ≡ r' = cc in
-    (a, (z1, rw (z2, z3) refl))
-value-of f (fail p) k c v e = absurd (let z : _≡_ {A = ℕ} 0 1 = cc in omega arith)
-value-of f (stop n p) k c v e = absurd (let z : _≡_ {A = ℕ} 0 1 = cc in omega arith)
-
-lost-of : {A : Type 0} (f : A → List Record) (l : Lost) (x : Reply A) → lostReply {A = ℕ} l ≡ counting f x → lostReply l ≡ x
-lost-of f (Fail p) (ok a c r) e = absurd (let z : _≡_ {A = ℕ} 0 1 = cc in omega arith)
-lost-of f (Fail p) (fail q) e = let z : p ≡ q = cc in rw z refl
-lost-of f (Fail p) (stop n q) e = absurd (let z : _≡_ {A = ℕ} 0 1 = cc in omega arith)
-lost-of f (Stop i p) (ok a c r) e = absurd (let z : _≡_ {A = ℕ} 0 1 = cc in omega arith)
-lost-of f (Stop i p) (fail q) e = absurd (let z : _≡_ {A = ℕ} 0 1 = cc in omega arith)
-lost-of f (Stop i p) (stop n q) e = let z : p ≡ q = cc in let y : i ≡ n = cc in rw (z, y) refl
 
 -- a count as a step of a sequence: the value, its words, the step, and how few they are
 pub record Counted {A : Type 0} (f : A → List Record) (m : Parser A) (b : ℕ) (u : List ℕ) (n k c : ℕ) : Type 0 where
@@ -61,26 +29,40 @@ pub record Counted {A : Type 0} (f : A → List Record) (m : Parser A) (b : ℕ)
   pub few : k ≤ 8 * (c - n)
 
 module _ {A : Type 0} {f : A → List Record} {m : Parser A} where
+  told : {n : ℕ} {r : List ℕ} {a x : Count} → a ≡ x → CountTo f m a n r → CountTo f m x n r
+  told {n} {r} e h = subst (λ (y : Count). CountTo f m y n r) e h
+
   pub count-took : (w : Onward m) {b n : ℕ} {u r : List ℕ} {a : Count} {k c : ℕ} → Rest b u n r → a ≡ Words k c → CountTo f m a n r → Counted f m b u n k c
+  unfolding counted
   count-took w {b} {n} {u} {r} {a} {k} {c} q e h =
-      let s = value-of f (m n r) k c (drop (c - n) r) (subst (λ (x : Count). reply (countAnswer x) n r ≡ counted f m n r) e (h .reads) ∙ counted-is f m n r) in
-      record { value = s .0; words = s .1 .0; step = took w q (s .1 .1); few = subst (λ (x : Count). Few x n) e (h .few) }
+      let s : TookAs (λ x. word-count (f x)) m b u n k c = took-as w q (told e h .reads) in
+      record { value = s .value; words = s .is; step = s .step; few = told e h .few }
 
   pub count-lost : {a : Count} (l : Lost) → a ≡ NoCount l → (n : ℕ) (r : List ℕ) → CountTo f m a n r → lostReply l ≡ m n r
-  count-lost {a} l e n r h = lost-of f l (m n r) (subst (λ (x : Count). reply (countAnswer x) n r ≡ counted f m n r) e (h .reads) ∙ counted-is f m n r)
+  unfolding counted
+  count-lost {a} l e n r h = lost-as (λ x. word-count (f x)) m n r l (told e h .reads)
 
 -- the ends of a sequence that counts
 module _ {A : Type 0} (f : A → List Record) (m : Parser A) (b : ℕ) (u : List ℕ) where
   pub count-is : (a : A) (k c : ℕ) → word-count (f a) ≡ k → k ≤ 8 * (c - b) → ok a c (drop (c - b) u) ≡ m b u → CountTo f m (Words k c) b u
-  count-is a k c s q e = record { reads = rw (counted-is f m b u, ← e, ← s) refl; few = q }
+  unfolding counted
+  count-is a k c s q e = record { reads = mapped-ok (λ x. word-count (f x)) m b u a c (drop (c - b) u) s e; few = q }
 
   pub count-not : (l : Lost) → lostReply l ≡ m b u → CountTo f m (NoCount l) b u
-  count-not (Fail p) e = record { reads = rw (counted-is f m b u, ← e) refl; few = tt }
-  count-not (Stop n p) e = record { reads = rw (counted-is f m b u, ← e) refl; few = tt }
+  unfolding counted
+  count-not l e = record { reads = mapped-not (λ x. word-count (f x)) m b u l e; few = tt }
 
   -- an answer that is passed on
   pub count-pass : (a : Count) (l : Lost) → a ≡ NoCount l → lostReply l ≡ m b u → CountTo f m a b u
   count-pass a l d e = subst (λ (x : Count). CountTo f m x b u) (sym d) (count-not l e)
+
+-- an answer of a reader that takes a byte, once its variant x is known, counted by the words of its value
+pub read-counted : {T A : Type 0} {f : ℕ → List ℕ → T → Answer A} {W : ℕ → T → Type 0} {m : Parser A} (records : A → List Record) (w : Consumes m) {a x : T} {b : ℕ} {u : List ℕ} → ReadTo f W m a b u → a ≡ x
+    → {v : A} {k c : ℕ} → f b u x ≡ got v c → word-count (records v) ≡ k → k ≤ 8 → CountTo records m (Words k c) b u
+read-counted {A = A} {m = m} records w {b = b} {u = u} h d {v} {k} {c} z e s =
+    let g : ok v c (drop (c - b) u) ≡ m b u = sym (ap (λ (y : Answer A). reply y b u) z) ∙ reads-as h d in
+    let l = rw (← g) at (w .consumes b u) in
+    count-is records m b u v k c e (omega (arith, s, l, length-drop (c - b) u)) g
 
 -- a loop that counts a repetition
 pub record Counting {A : Type 0} (f : List A → List Record) (m : Parser A) (b : ℕ) (u : List ℕ) (c n : ℕ) : Type 0 where

@@ -2,7 +2,7 @@
 use mathlib.Core.Path.{_≡_, refl, sym, ap, _∙_, subst}
 use mathlib.Core.Bool.{true, false}
 use mathlib.Core.Option.{Option, none, some}
-use mathlib.Core.List.{List}
+use mathlib.Core.List.{List, [], _∷_, map}
 use Prim.Native.Nat.{ℕ, _+_, _-_, _≤_, _<_}
 use native.Mathlib.Omega.{arith}
 use native.Mathlib.Nat.{max-eq-left}
@@ -22,12 +22,12 @@ use Rattle.lexing.proofs.Locality.{OnChain, chain-opt, chain-inside}
 use Rattle.lexing.proofs.TokenLocality.{parse-id-chain}
 use Rattle.lexing.proofs.Slicing.{Took, took, walks, told-not, rebase, begin, on}
 use Rattle.lexing.proofs.words.Laws.{Says, keyword-says}
-use Rattle.items.specs.members.{or-else, event-head, command-head, CommandTypes as CommandTypesOf, command-types, Command as CommandOf}
-use Rattle.items.specs.answers.{optionOf, wordBetween, optionalStep}
-use Rattle.items.specs.answers.members.{levelAnswer, levelLost, levelSmall, LevelTo, levelOr, EventHeadTo, optionalBetween, CommandHeadBetween, commandHeadAnswer, commandHeadWithin, CommandHeadTo, commandTypesAt, commandTypesAnswer, CommandTypesBetween, commandTypesWithin, CommandTypesTo, commandAt, CommandTo}
+use Rattle.items.specs.members.{or-else, event-qualities, command-head, CommandTypes as CommandTypesOf, command-types, Command as CommandOf, event-head, parse-event-after-doc-maturity}
+use Rattle.items.specs.answers.{optionOf, wordBetween, optionalStep, Front}
+use Rattle.items.specs.answers.members.{levelAnswer, levelLost, levelSmall, LevelTo, levelOr, EventQualitiesTo, optionalBetween, CommandHeadBetween, commandHeadAnswer, commandHeadWithin, CommandHeadTo, commandTypesAt, commandTypesAnswer, CommandTypesBetween, commandTypesWithin, CommandTypesTo, commandAt, CommandTo, SmallEventQualities, eventHeadAt, eventHeadLost, EventHeadBetween, EventHeadTo}
 use Rattle.items.specs.declared.members.Level.{Level}
 use Rattle.items.specs.declared.members.Level.the-variants.{Chosen, NoLevel}
-use Rattle.items.specs.declared.members.EventHeadRead.the-variants.{EventHead, NoEventHead}
+use Rattle.items.specs.declared.members.EventQualitiesRead.the-variants.{EventQualities}
 use Rattle.items.specs.declared.members.CommandHeadParts.{CommandHeadParts}
 use Rattle.items.specs.declared.members.CommandHeadRead.{CommandHeadRead}
 use Rattle.items.specs.declared.members.CommandHeadRead.the-variants.{CommandHead, NoCommandHead}
@@ -40,15 +40,27 @@ use Rattle.items.proofs.Answers.{read-within, read-took, read-lost}
 use Rattle.items.proofs.WordBetween.{word-moved}
 use Rattle.items.proofs.maturity.Laws.{fail-then}
 use Rattle.items.proofs.optional.Laws.{opt-ok, opt-fail, opt-stop}
-use Rattle.items.proofs.Locality.{command-types-inside}
+use Rattle.items.proofs.Locality.{command-types-inside, event-head-inside}
+use Rattle.items.specs.structs.{struct-fields}
+use Rattle.items.specs.records.{bits, value, each, word-extent, documented, field-record, command-record, event-records}
+use Rattle.items.specs.layout.{layout-20, record-words, catalogue-words, word-count}
+use Rattle.items.specs.declared.members.EventQualitiesParts.{EventQualitiesParts}
+use Rattle.items.specs.declared.members.EventQualitiesRead.{EventQualitiesRead}
+use Rattle.items.specs.declared.members.EventHeadParts.{EventHeadParts}
+use Rattle.items.specs.declared.members.EventHeadRead.{EventHeadRead}
+use Rattle.items.specs.declared.members.EventHeadRead.the-variants.{EventHead, NoEventHead}
+use Rattle.items.proofs.Headed.{Headed}
 
 -- a choice of keywords: one that is not there fails at its start, and so do all
 keyword-lost : (k : List ℕ) (b : ℕ) (u : List ℕ) (l : Lost) → lostReply l ≡ keyword k b u → fail b ≡ keyword k b u
 keyword-lost k b u (Fail p) e = ap fail (sym (rw (← e) at (keyword-says k b u))) ∙ e
 keyword-lost k b u (Stop n p) e = absurd (rw (← e) at (keyword-says k b u))
 
+pub keyword-not : (k : List ℕ) (b : ℕ) (u : List ℕ) (a : Step) → wordReply a b u ≡ keyword k b u → (l : Lost) → a ≡ Not l → fail b ≡ keyword k b u
+keyword-not k b u a h l e = keyword-lost k b u l (told-not (wordAt b u) a l b u (keyword k b u) e h)
+
 pub keyword-fails : (k : List ℕ) (v b : ℕ) (u : List ℕ) (a : Step) → wordReply a b u ≡ keyword k b u → (l : Lost) → a ≡ Not l → fail b ≡ (keyword k >> ret v) b u
-keyword-fails k v b u a h l e = fail-then k v b u b (keyword-lost k b u l (told-not (wordAt b u) a l b u (keyword k b u) e h))
+keyword-fails k v b u a h l e = fail-then k v b u b (keyword-not k b u a h l e)
 
 pub or-fails : {A : Type 0} (m k : Parser A) (b : ℕ) (u : List ℕ) → fail b ≡ m b u → fail b ≡ k b u → fail b ≡ (m or k) b u
 unfolding _or_ further
@@ -115,13 +127,39 @@ level-after {m = m} {k} w (Chosen v c) {b = b} {u = u} t q h = record { reads = 
 level-after {m = m} {k} w (NoLevel l) {b = b} {n} {u} t q h = record { reads = begin (m >> k) b u (on k t (h .reads ∙ ap (k n) (q .same))); within = tt }
 
 -- events, up to the name
-pub event-head-is : (q y z v : ℕ) (o : Option ℕ) (b c : ℕ) (u : List ℕ) → q < 16 → y < 4 → v < 4 → or-else z o ≡ v
-    → ok (record { sensitive = q; rank = y; privilege = or-else z o }) c (drop (c - b) u) ≡ event-head b u → EventHeadTo (EventHead (record { sensitive = q; rank = y; privilege = v }) c) b u
-event-head-is q y z v o b c u f g h d e =
+pub event-qualities-is : (q y z v : ℕ) (o : Option ℕ) (b c : ℕ) (u : List ℕ) → q < 16 → y < 4 → v < 4 → or-else z o ≡ v
+    → ok (record { sensitive = q; rank = y; privilege = or-else z o }) c (drop (c - b) u) ≡ event-qualities b u → EventQualitiesTo (EventQualities (record { sensitive = q; rank = y; privilege = v }) c) b u
+event-qualities-is q y z v o b c u f g h d e =
     record {
-      reads = subst (λ (x : ℕ). ok (record { sensitive = q; rank = y; privilege = x }) c (drop (c - b) u) ≡ event-head b u) d e;
+      reads = subst (λ (x : ℕ). ok (record { sensitive = q; rank = y; privilege = x }) c (drop (c - b) u) ≡ event-qualities b u) d e;
       within = record { sensitive = f; rank = g; privilege = h };
     }
+
+pub event-qualities-small : {a : EventQualitiesRead} {q : EventQualitiesParts} {b c : ℕ} {u : List ℕ} → EventQualitiesTo a b u → a ≡ EventQualities q c → SmallEventQualities q
+event-qualities-small t e = read-within t e
+
+-- up to the fields
+event-head-moved : {b n : ℕ} {u r : List ℕ} {c : ℕ} → Rest b u n r → (h : EventHeadParts) → EventHeadBetween n h c → eventHeadAt n r h ≡ eventHeadAt b u h
+event-head-moved {b} {n} {u} {r} q h w =
+    ap (λ (v : Word). record { sensitive = h .sensitive; rank = h .rank; privilege = h .privilege; id = v; number = h .code }) (word-moved b n u r (h .name) (h .end) q (w .name-from))
+
+module _ {b n : ℕ} {u r : List ℕ} {a : EventHeadRead} (q : Rest b u n r) (t : EventHeadTo a n r) where
+  pub event-head-took : {h : EventHeadParts} {c : ℕ} → a ≡ EventHead h c → Took event-head b u n (eventHeadAt b u h) c
+  event-head-took {h} e = rw (← event-head-moved q h (read-within t e)) (read-took t e (walks (chain-inside event-head-inside)) q refl)
+
+  pub event-head-none : {l l' : Lost} → l' ≡ eventHeadLost a → a ≡ NoEventHead l → lostReply l' ≡ event-head n r
+  event-head-none e d = read-lost t d eventHeadLost e refl
+
+-- three words an event, and those of its fields
+pub event-headed : Headed {I = Front} (λ i. parse-event-after-doc-maturity (i .doc) (i .maturity)) (λ i. event-records) event-head struct-fields (map field-record) 3
+unfolding parse-event-after-doc-maturity word-count catalogue-words each record-words layout-20 event-records documented
+event-headed = record {
+  make = λ i h l. record { doc = i .doc; maturity = i .maturity; fabric-sensitive = h .sensitive; priority = h .rank; access = h .privilege; name = h .id; code = h .number; fields = l };
+  first = λ i h l. documented 9 0 (i .maturity) (i .doc) (bits 2 (h .rank) ∷ bits 1 (h .sensitive) ∷ []) (word-extent (h .id)) (h .privilege) 0 (value (h .number) ∷ []);
+  reads = λ i. refl;
+  hands = λ i h l. refl;
+  size = λ i h l. refl;
+}
 
 -- commands, up to the name
 pub command-head-is : (q z v : ℕ) (o : Option ℕ) (b n c : ℕ) (u : List ℕ) → q < 16 → v < 4 → b ≤ n → n ≤ c → or-else z o ≡ v
@@ -202,3 +240,8 @@ command-is m d v k h t b c1 c2 c u x y l e =
         before = omega (arith, y .before);
       };
     }
+
+-- five words a command
+pub command-words : (c : CommandOf) → word-count (command-record c ∷ []) ≡ 5
+unfolding word-count catalogue-words each record-words layout-20 command-record documented
+command-words c = refl

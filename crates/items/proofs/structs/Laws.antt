@@ -175,7 +175,7 @@ pub count-field : {b c n d : ℕ} {u : List ℕ} (a : StructFieldOf) → Countin
 count-field a i t = counting-more (map-elementwise field-record) closed-field closed-field-consumes a i t (field-words a) (λ h. omega arith)
 
 -- the word before a struct: in lower case it is the keyword, in another case it says nothing
-other-case : (w k : List ℕ) → isLower k ≡ true → isLower w ≡ false → same-bytes w k ≡ false
+pub other-case : (w k : List ℕ) → isLower k ≡ true → isLower w ≡ false → same-bytes w k ≡ false
 other-case w k h e = false-if (same-bytes w k) (λ q. false≢true (sym e ∙ (ap (λ v. isLower v) (same-eq w k q) ∙ h)))
 
 other-kind : (w : List ℕ) → isLower w ≡ false → struct-kind w ≡ ret regular
@@ -194,13 +194,17 @@ pub shared-kind : struct-kind (ascii "shared") ≡ typeBy Shared
 unfolding struct-kind pick same-bytes typeBy
 shared-kind = refl
 
+-- what a keyword k says, by whether its bytes w are in lower case
+pub by-case : {T : Type 0} (f : List ℕ → T) (g : Bool → T) (w k : List ℕ) → isKeyword w k ≡ true → f k ≡ g true → (isLower w ≡ false → f w ≡ g false) → f w ≡ g (isLower w)
+by-case f g w k i s o = go (isLower w) refl
+  where
+    go : (t : Bool) → isLower w ≡ t → f w ≡ g (isLower w)
+    go true e = rw e (ap f (same-eq w k (like-keyword w k i ∙ e)) ∙ s)
+    go false e = rw e (o e)
+
 kind-means : (w k : List ℕ) (x : StructKind) → isKeyword w k ≡ true → struct-kind k ≡ typeBy x → struct-kind w ≡ typeBy (kindBy (isLower w) x)
 unfolding typeBy
-kind-means w k x i s = go (isLower w) refl
-  where
-    go : (t : Bool) → isLower w ≡ t → struct-kind w ≡ typeBy (kindBy (isLower w) x)
-    go true e = rw e (ap struct-kind (same-eq w k (like-keyword w k i ∙ e)) ∙ s)
-    go false e = rw e (other-kind w e)
+kind-means w k x i s = by-case struct-kind (λ t. typeBy (kindBy t x)) w k i s (other-kind w)
 
 -- the keyword k, which says the kind x
 pub word-is : (k : List ℕ) (x t : StructKind) (b c : ℕ) (u : List ℕ) (a : Step) → wordReply a b u ≡ keyword k b u → a ≡ Next c → struct-kind k ≡ typeBy x

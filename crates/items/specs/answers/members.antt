@@ -8,10 +8,15 @@ use Rattle.lexing.specs.words.{Word}
 use Rattle.lexing.specs.answers.{Answer, got, lost, docOf}
 use Rattle.lexing.specs.declared.answers.Lost.{Lost}
 use Rattle.lexing.specs.declared.answers.Lost.the-variants.{Fail, Stop}
-use Rattle.items.specs.members.{EventHead as EventHeadOf, event-head, CommandHead as CommandHeadOf, command-head, CommandTypes as CommandTypesOf, command-types, Command as CommandOf}
-use Rattle.items.specs.answers.{optionOf, ReadTo, wordBetween}
+use Rattle.items.specs.members.{EventQualities as EventQualitiesOf, event-qualities, EventHead as EventHeadOf, event-head, parse-event-after-doc-maturity, CommandHead as CommandHeadOf, command-head, CommandTypes as CommandTypesOf, command-types, Command as CommandOf}
+use Rattle.items.specs.answers.{optionOf, ReadTo, wordBetween, Front, CountsTo}
+use Rattle.items.specs.records.{event-records}
+use Rattle.items.specs.declared.counts.Count.{Count}
 use Rattle.items.specs.declared.members.Level.{Level}
 use Rattle.items.specs.declared.members.Level.the-variants.{Chosen, NoLevel}
+use Rattle.items.specs.declared.members.EventQualitiesParts.{EventQualitiesParts}
+use Rattle.items.specs.declared.members.EventQualitiesRead.{EventQualitiesRead}
+use Rattle.items.specs.declared.members.EventQualitiesRead.the-variants.{EventQualities, NoEventQualities}
 use Rattle.items.specs.declared.members.EventHeadParts.{EventHeadParts}
 use Rattle.items.specs.declared.members.EventHeadRead.{EventHeadRead}
 use Rattle.items.specs.declared.members.EventHeadRead.the-variants.{EventHead, NoEventHead}
@@ -48,28 +53,58 @@ levelOr (NoLevel (Fail p)) z b = Chosen z b
 levelOr (NoLevel (Stop n p)) z b = NoLevel (Stop n p)
 
 -- up to an event's name
-abbrev pub eventHeadOf : EventHeadParts → EventHeadOf
-eventHeadOf h = record { sensitive = h .sensitive; rank = h .rank; privilege = h .privilege }
+abbrev pub eventQualitiesOf : EventQualitiesParts → EventQualitiesOf
+eventQualitiesOf h = record { sensitive = h .sensitive; rank = h .rank; privilege = h .privilege }
+
+abbrev pub eventQualitiesAnswer : ℕ → List ℕ → EventQualitiesRead → Answer EventQualitiesOf
+eventQualitiesAnswer b u (EventQualities h c) = got (eventQualitiesOf h) c
+eventQualitiesAnswer b u (NoEventQualities l) = lost l
+
+abbrev pub eventQualitiesLost : EventQualitiesRead → Lost
+eventQualitiesLost (EventQualities h c) = Fail c
+eventQualitiesLost (NoEventQualities l) = l
+
+pub record SmallEventQualities (h : EventQualitiesParts) : Type 0 where
+  pub sensitive : h .sensitive < 16
+  pub rank : h .rank < 4
+  pub privilege : h .privilege < 4
+
+abbrev pub eventQualitiesSmall : ℕ → EventQualitiesRead → Type 0
+eventQualitiesSmall b (EventQualities h c) = SmallEventQualities h
+eventQualitiesSmall b (NoEventQualities l) = Unit {0}
+
+abbrev pub EventQualitiesTo : EventQualitiesRead → ℕ → List ℕ → Type 0
+EventQualitiesTo r b u = ReadTo eventQualitiesAnswer eventQualitiesSmall event-qualities r b u
+
+-- up to an event's fields
+abbrev pub eventHeadAt : ℕ → List ℕ → EventHeadParts → EventHeadOf
+eventHeadAt b u h = record { sensitive = h .sensitive; rank = h .rank; privilege = h .privilege; id = wordBetween b u (h .name) (h .end); number = h .code }
 
 abbrev pub eventHeadAnswer : ℕ → List ℕ → EventHeadRead → Answer EventHeadOf
-eventHeadAnswer b u (EventHead h c) = got (eventHeadOf h) c
+eventHeadAnswer b u (EventHead h c) = got (eventHeadAt b u h) c
 eventHeadAnswer b u (NoEventHead l) = lost l
 
 abbrev pub eventHeadLost : EventHeadRead → Lost
 eventHeadLost (EventHead h c) = Fail c
 eventHeadLost (NoEventHead l) = l
 
-pub record SmallEventHead (h : EventHeadParts) : Type 0 where
+pub record EventHeadBetween (b : ℕ) (h : EventHeadParts) (c : ℕ) : Type 0 where
   pub sensitive : h .sensitive < 16
   pub rank : h .rank < 4
   pub privilege : h .privilege < 4
+  pub name-from : b ≤ h .name
+  pub name-to : h .name ≤ h .end
+  pub before : h .end ≤ c
 
-abbrev pub eventHeadSmall : ℕ → EventHeadRead → Type 0
-eventHeadSmall b (EventHead h c) = SmallEventHead h
-eventHeadSmall b (NoEventHead l) = Unit {0}
+abbrev pub eventHeadWithin : ℕ → EventHeadRead → Type 0
+eventHeadWithin b (EventHead h c) = EventHeadBetween b h c
+eventHeadWithin b (NoEventHead l) = Unit {0}
 
 abbrev pub EventHeadTo : EventHeadRead → ℕ → List ℕ → Type 0
-EventHeadTo r b u = ReadTo eventHeadAnswer eventHeadSmall event-head r b u
+EventHeadTo r b u = ReadTo eventHeadAnswer eventHeadWithin event-head r b u
+
+abbrev pub EventCountTo : Count → ℕ → List ℕ → Type 0
+EventCountTo r b u = CountsTo {I = Front} (λ i. event-records) (λ i. parse-event-after-doc-maturity (i .doc) (i .maturity)) r b u
 
 -- an optional word is absent where it is empty
 abbrev pub optionalBetween : ℕ → List ℕ → ℕ → ℕ → Option Word

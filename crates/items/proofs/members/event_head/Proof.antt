@@ -2,171 +2,150 @@ use borrow.Author.Needs.{needs}
 use Rattle.items.proofs.members.event_head.Statement.{statement}
 use Rattle.items.proofs.members.event_head.Tie as tie
 use Rattle.items.specs.members.{event-head}
-use Rattle.items.proofs.members.Laws.{level-small, event-head-is, level-took, level-lost, level-or-took, level-or-lost}
+use Rattle.items.proofs.members.Laws.{event-qualities-small}
 use mathlib.Core.Path.{refl}
 use native.Mathlib.Omega.{arith}
-use Rattle.lexing.specs.bytes.{ascii}
 use Rattle.lexing.specs.answers.{wordAt}
-use Rattle.lexing.proofs.Slicing.{rest-self, begin, go, on, lose, fall, done, blank-took, gap-took, set-took, keyword-took, step-lost, gap-lost, walks}
-use Rattle.items.proofs.Answers.{read-not}
+use Rattle.lexing.proofs.Slicing.{rest-self, begin, go, on, lose, fall, done, blank-took, word-took, tag-took, integer-took, step-lost, integer-lost, walks}
+use Rattle.items.proofs.Answers.{read-is, read-not, read-took, read-lost}
 use Rattle.lexing.proofs.Locality.{chain-inside}
-use Rattle.items.proofs.Locality.{event-priority-local, access-to-inside}
+use Rattle.items.specs.answers.members.{eventQualitiesLost}
+use Rattle.items.proofs.Locality.{event-qualities-inside}
 
-keywords-set-requires : tie.Need-keywords-set-requires
-keywords-set-requires c κs = search needs
+event-qualities-requires : tie.Need-event-qualities-requires
+event-qualities-requires c κs = search needs
 
-rest-at-requires : tie.Need-rest-at-requires
-rest-at-requires c κs = omega (arith, (set-took (rest-self _ _) (c .keywords-set .ensures)) .up, (set-took (rest-self _ _) (c .keywords-set .ensures)) .inside)
-
-whitespace0-requires : tie.Need-whitespace0-requires
-whitespace0-requires c κs = omega (arith, c .rest-at .ensures .size, c .before .before .before .pre)
-
-rest-at-requires-2 : tie.Need-rest-at-requires-2
-rest-at-requires-2 c κs = omega (arith, (blank-took (c .before .rest-at .ensures) (c .whitespace0 .ensures)) .up, (blank-took (c .before .rest-at .ensures) (c .whitespace0 .ensures)) .inside, c .before .rest-at .ensures .from)
-
-event-priority-requires : tie.Need-event-priority-requires
-event-priority-requires c κs = omega (arith, c .rest-at2 .ensures .size, c .before .before .before .before .before .pre)
-
-enum-known-priority : tie.Need-enum-known-priority
-enum-known-priority c = search needs
+enum-known-qualities : tie.Need-enum-known-qualities
+enum-known-qualities c = search needs
 
 enum-told : tie.Need-enum-told
 enum-told c = search needs
 
-level-lost-requires : tie.Need-level-lost-requires
-level-lost-requires c κs = search needs
+event-qualities-lost-requires : tie.Need-event-qualities-lost-requires
+event-qualities-lost-requires c κs = search needs
 
 returns : tie.Need-returns
 unfolding event-head
-returns c = read-not _ refl tt (begin (event-head) _ _ (go _ (set-took (rest-self _ _) (c .before .before .before .before .before .before .before .keywords-set .ensures)) (on _ (blank-took (c .before .before .before .before .before .before .rest-at .ensures) (c .before .before .before .before .before .whitespace0 .ensures)) (lose _ _ (c .level-lost .result) (c .before .before .before .before .rest-at2 .ensures) (level-lost (c .before .before .before .event-priority .ensures) (c .level-lost .ensures) (c .before .enum-told .given .1))))))
+returns c = read-not _ refl tt (begin (event-head) _ _ (lose _ _ (c .event-qualities-lost .result) (rest-self _ _) (read-lost (c .before .before .before .event-qualities .ensures) (c .before .enum-told .given .1) eventQualitiesLost (c .event-qualities-lost .ensures) refl)))
 
-rest-at-requires-3 : tie.Need-rest-at-requires-3
-rest-at-requires-3 c κs = omega (arith, (level-took (c .before .before .before .event-priority .ensures) (walks (event-priority-local .on-chain)) (c .before .before .before .before .rest-at2 .ensures) (c .before .priority .given .1)) .up, (level-took (c .before .before .before .event-priority .ensures) (walks (event-priority-local .on-chain)) (c .before .before .before .before .rest-at2 .ensures) (c .before .priority .given .1)) .inside, c .before .before .before .before .rest-at2 .ensures .from)
+rest-at-requires : tie.Need-rest-at-requires
+rest-at-requires c κs = omega (arith, (read-took (c .before .before .before .event-qualities .ensures) (c .before .qualities .given .1) (walks (chain-inside event-qualities-inside)) (rest-self _ _) refl) .up, (read-took (c .before .before .before .event-qualities .ensures) (c .before .qualities .given .1) (walks (chain-inside event-qualities-inside)) (rest-self _ _) refl) .inside)
 
-whitespace1-requires : tie.Need-whitespace1-requires
-whitespace1-requires c κs = omega (arith, c .rest-at3 .ensures .size, c .before .before .before .before .before .before .before .before .before .before .pre)
+whitespace0-requires : tie.Need-whitespace0-requires
+whitespace0-requires c κs = omega (arith, c .rest-at .ensures .size, c .before .before .before .before .before .before .pre)
 
-enum-known-gap1 : tie.Need-enum-known-gap1
-enum-known-gap1 c = search needs
+rest-at-requires-2 : tie.Need-rest-at-requires-2
+rest-at-requires-2 c κs = omega (arith, (blank-took (c .before .rest-at .ensures) (c .whitespace0 .ensures)) .up, (blank-took (c .before .rest-at .ensures) (c .whitespace0 .ensures)) .inside, c .before .rest-at .ensures .from)
+
+parse-id-requires : tie.Need-parse-id-requires
+parse-id-requires c κs = omega (arith, c .rest-at2 .ensures .size, c .before .before .before .before .before .before .before .before .pre)
+
+enum-known-id : tie.Need-enum-known-id
+enum-known-id c = search needs
 
 enum-told-2 : tie.Need-enum-told-2
 enum-told-2 c = search needs
 
-gap-lost-requires : tie.Need-gap-lost-requires
-gap-lost-requires c κs = search needs
+step-lost-requires : tie.Need-step-lost-requires
+step-lost-requires c κs = search needs
 
 returns-2 : tie.Need-returns-2
 unfolding event-head
-returns-2 c = read-not _ refl tt (begin (event-head) _ _ (go _ (set-took (rest-self _ _) (c .before .before .before .before .before .before .before .before .before .before .before .before .keywords-set .ensures)) (on _ (blank-took (c .before .before .before .before .before .before .before .before .before .before .before .rest-at .ensures) (c .before .before .before .before .before .before .before .before .before .before .whitespace0 .ensures)) (go _ (level-took (c .before .before .before .before .before .before .before .before .event-priority .ensures) (walks (event-priority-local .on-chain)) (c .before .before .before .before .before .before .before .before .before .rest-at2 .ensures) (c .before .before .before .before .before .before .priority .given .1)) (fall _ _ (c .gap-lost .result) (c .before .before .before .before .rest-at3 .ensures) (gap-lost (c .gap-lost .ensures) (c .before .enum-told2 .given .1) _ _ _ (c .before .before .before .whitespace1 .ensures)))))))
+returns-2 c = read-not _ refl tt (begin (event-head) _ _ (go _ (read-took (c .before .before .before .before .before .before .before .before .before .before .event-qualities .ensures) (c .before .before .before .before .before .before .before .before .qualities .given .1) (walks (chain-inside event-qualities-inside)) (rest-self _ _) refl) (on _ (blank-took (c .before .before .before .before .before .before .rest-at .ensures) (c .before .before .before .before .before .whitespace0 .ensures)) (lose _ _ (c .step-lost .result) (c .before .before .before .before .rest-at2 .ensures) (step-lost (wordAt _ _) (c .step-lost .ensures) (c .before .enum-told2 .given .1) _ _ _ (c .before .before .before .parse-id .ensures))))))
+
+rest-at-requires-3 : tie.Need-rest-at-requires-3
+rest-at-requires-3 c κs = omega (arith, (word-took (c .before .before .before .before .rest-at2 .ensures) (c .before .id .given .1) (c .before .before .before .parse-id .ensures)) .up, (word-took (c .before .before .before .before .rest-at2 .ensures) (c .before .id .given .1) (c .before .before .before .parse-id .ensures)) .inside, c .before .before .before .before .rest-at2 .ensures .from)
+
+whitespace0-requires-2 : tie.Need-whitespace0-requires-2
+whitespace0-requires-2 c κs = omega (arith, c .rest-at3 .ensures .size, c .before .before .before .before .before .before .before .before .before .before .before .before .before .pre)
 
 rest-at-requires-4 : tie.Need-rest-at-requires-4
-rest-at-requires-4 c κs = omega (arith, (gap-took (c .before .before .before .before .rest-at3 .ensures) (c .before .gap1 .given .1) (c .before .before .before .whitespace1 .ensures)) .up, (gap-took (c .before .before .before .before .rest-at3 .ensures) (c .before .gap1 .given .1) (c .before .before .before .whitespace1 .ensures)) .inside, c .before .before .before .before .rest-at3 .ensures .from)
+rest-at-requires-4 c κs = omega (arith, (blank-took (c .before .rest-at3 .ensures) (c .whitespace02 .ensures)) .up, (blank-took (c .before .rest-at3 .ensures) (c .whitespace02 .ensures)) .inside, c .before .rest-at3 .ensures .from)
 
-slice-aggregate-keyword : tie.Need-slice-aggregate-keyword
-slice-aggregate-keyword c = search needs
+tag-requires : tie.Need-tag-requires
+tag-requires c κs = omega (arith, c .rest-at4 .ensures .size, c .before .before .before .before .before .before .before .before .before .before .before .before .before .before .before .pre)
 
-keyword-requires : tie.Need-keyword-requires
-keyword-requires c κs = omega (arith, c .before .rest-at4 .ensures .size, c .before .before .before .before .before .before .before .before .before .before .before .before .before .before .before .before .pre)
-
-enum-known-event : tie.Need-enum-known-event
-enum-known-event c = search needs
+enum-known-equals : tie.Need-enum-known-equals
+enum-known-equals c = search needs
 
 enum-told-3 : tie.Need-enum-told-3
 enum-told-3 c = search needs
 
-step-lost-requires : tie.Need-step-lost-requires
-step-lost-requires c κs = search needs
+step-lost-requires-2 : tie.Need-step-lost-requires-2
+step-lost-requires-2 c κs = search needs
 
 returns-3 : tie.Need-returns-3
 unfolding event-head
-returns-3 c = read-not _ refl tt (begin (event-head) _ _ (go _ (set-took (rest-self _ _) (c .before .before .before .before .before .before .before .before .before .before .before .before .before .before .before .before .before .before .keywords-set .ensures)) (on _ (blank-took (c .before .before .before .before .before .before .before .before .before .before .before .before .before .before .before .before .before .rest-at .ensures) (c .before .before .before .before .before .before .before .before .before .before .before .before .before .before .before .before .whitespace0 .ensures)) (go _ (level-took (c .before .before .before .before .before .before .before .before .before .before .before .before .before .before .event-priority .ensures) (walks (event-priority-local .on-chain)) (c .before .before .before .before .before .before .before .before .before .before .before .before .before .before .before .rest-at2 .ensures) (c .before .before .before .before .before .before .before .before .before .before .before .before .priority .given .1)) (on _ (gap-took (c .before .before .before .before .before .before .before .before .before .before .rest-at3 .ensures) (c .before .before .before .before .before .before .before .gap1 .given .1) (c .before .before .before .before .before .before .before .before .before .whitespace1 .ensures)) (fall _ _ (c .step-lost .result) (c .before .before .before .before .before .rest-at4 .ensures) (step-lost (wordAt _ _) (c .step-lost .ensures) (c .before .enum-told3 .given .1) _ _ _ (c .before .before .before .keyword .ensures))))))))
+returns-3 c = read-not _ refl tt (begin (event-head) _ _ (go _ (read-took (c .before .before .before .before .before .before .before .before .before .before .before .before .before .before .before .before .before .event-qualities .ensures) (c .before .before .before .before .before .before .before .before .before .before .before .before .before .before .before .qualities .given .1) (walks (chain-inside event-qualities-inside)) (rest-self _ _) refl) (on _ (blank-took (c .before .before .before .before .before .before .before .before .before .before .before .before .before .rest-at .ensures) (c .before .before .before .before .before .before .before .before .before .before .before .before .whitespace0 .ensures)) (go _ (word-took (c .before .before .before .before .before .before .before .before .before .before .before .rest-at2 .ensures) (c .before .before .before .before .before .before .before .before .id .given .1) (c .before .before .before .before .before .before .before .before .before .before .parse-id .ensures)) (on _ (blank-took (c .before .before .before .before .before .before .rest-at3 .ensures) (c .before .before .before .before .before .whitespace02 .ensures)) (fall _ _ (c .step-lost2 .result) (c .before .before .before .before .rest-at4 .ensures) (step-lost (λ c. tt) (c .step-lost2 .ensures) (c .before .enum-told3 .given .1) _ _ _ (c .before .before .before .tag .ensures))))))))
 
 rest-at-requires-5 : tie.Need-rest-at-requires-5
-rest-at-requires-5 c κs = omega (arith, (keyword-took (c .before .before .before .before .before .rest-at4 .ensures) (c .before .event .given .1) (ascii "event") (c .before .before .before .keyword .ensures)) .up, (keyword-took (c .before .before .before .before .before .rest-at4 .ensures) (c .before .event .given .1) (ascii "event") (c .before .before .before .keyword .ensures)) .inside, c .before .before .before .before .before .rest-at4 .ensures .from)
+rest-at-requires-5 c κs = omega (arith, (tag-took (c .before .before .before .before .rest-at4 .ensures) (c .before .equals .given .1) 61 (c .before .before .before .tag .ensures)) .up, (tag-took (c .before .before .before .before .rest-at4 .ensures) (c .before .equals .given .1) 61 (c .before .before .before .tag .ensures)) .inside, c .before .before .before .before .rest-at4 .ensures .from)
 
-whitespace1-requires-2 : tie.Need-whitespace1-requires-2
-whitespace1-requires-2 c κs = omega (arith, c .rest-at5 .ensures .size, c .before .before .before .before .before .before .before .before .before .before .before .before .before .before .before .before .before .before .before .before .before .pre)
+whitespace0-requires-3 : tie.Need-whitespace0-requires-3
+whitespace0-requires-3 c κs = omega (arith, c .rest-at5 .ensures .size, c .before .before .before .before .before .before .before .before .before .before .before .before .before .before .before .before .before .before .before .before .pre)
 
-enum-known-gap2 : tie.Need-enum-known-gap2
-enum-known-gap2 c = search needs
+rest-at-requires-6 : tie.Need-rest-at-requires-6
+rest-at-requires-6 c κs = omega (arith, (blank-took (c .before .rest-at5 .ensures) (c .whitespace03 .ensures)) .up, (blank-took (c .before .rest-at5 .ensures) (c .whitespace03 .ensures)) .inside, c .before .rest-at5 .ensures .from)
+
+positive-integer-requires : tie.Need-positive-integer-requires
+positive-integer-requires c κs = omega (arith, c .rest-at6 .ensures .size, c .before .before .before .before .before .before .before .before .before .before .before .before .before .before .before .before .before .before .before .before .before .before .pre)
+
+enum-known-number : tie.Need-enum-known-number
+enum-known-number c = search needs
 
 enum-told-4 : tie.Need-enum-told-4
 enum-told-4 c = search needs
 
-gap-lost-requires-2 : tie.Need-gap-lost-requires-2
-gap-lost-requires-2 c κs = search needs
+number-lost-requires : tie.Need-number-lost-requires
+number-lost-requires c κs = search needs
 
 returns-4 : tie.Need-returns-4
 unfolding event-head
-returns-4 c = read-not _ refl tt (begin (event-head) _ _ (go _ (set-took (rest-self _ _) (c .before .before .before .before .before .before .before .before .before .before .before .before .before .before .before .before .before .before .before .before .before .before .before .keywords-set .ensures)) (on _ (blank-took (c .before .before .before .before .before .before .before .before .before .before .before .before .before .before .before .before .before .before .before .before .before .before .rest-at .ensures) (c .before .before .before .before .before .before .before .before .before .before .before .before .before .before .before .before .before .before .before .before .before .whitespace0 .ensures)) (go _ (level-took (c .before .before .before .before .before .before .before .before .before .before .before .before .before .before .before .before .before .before .before .event-priority .ensures) (walks (event-priority-local .on-chain)) (c .before .before .before .before .before .before .before .before .before .before .before .before .before .before .before .before .before .before .before .before .rest-at2 .ensures) (c .before .before .before .before .before .before .before .before .before .before .before .before .before .before .before .before .before .priority .given .1)) (on _ (gap-took (c .before .before .before .before .before .before .before .before .before .before .before .before .before .before .before .rest-at3 .ensures) (c .before .before .before .before .before .before .before .before .before .before .before .before .gap1 .given .1) (c .before .before .before .before .before .before .before .before .before .before .before .before .before .before .whitespace1 .ensures)) (on _ (keyword-took (c .before .before .before .before .before .before .before .before .before .before .rest-at4 .ensures) (c .before .before .before .before .before .before .event .given .1) (ascii "event") (c .before .before .before .before .before .before .before .before .keyword .ensures)) (fall _ _ (c .gap-lost2 .result) (c .before .before .before .before .rest-at5 .ensures) (gap-lost (c .gap-lost2 .ensures) (c .before .enum-told4 .given .1) _ _ _ (c .before .before .before .whitespace12 .ensures)))))))))
+returns-4 c = read-not _ refl tt (begin (event-head) _ _ (go _ (read-took (c .before .before .before .before .before .before .before .before .before .before .before .before .before .before .before .before .before .before .before .before .before .before .before .before .event-qualities .ensures) (c .before .before .before .before .before .before .before .before .before .before .before .before .before .before .before .before .before .before .before .before .before .before .qualities .given .1) (walks (chain-inside event-qualities-inside)) (rest-self _ _) refl) (on _ (blank-took (c .before .before .before .before .before .before .before .before .before .before .before .before .before .before .before .before .before .before .before .before .rest-at .ensures) (c .before .before .before .before .before .before .before .before .before .before .before .before .before .before .before .before .before .before .before .whitespace0 .ensures)) (go _ (word-took (c .before .before .before .before .before .before .before .before .before .before .before .before .before .before .before .before .before .before .rest-at2 .ensures) (c .before .before .before .before .before .before .before .before .before .before .before .before .before .before .before .id .given .1) (c .before .before .before .before .before .before .before .before .before .before .before .before .before .before .before .before .before .parse-id .ensures)) (on _ (blank-took (c .before .before .before .before .before .before .before .before .before .before .before .before .before .rest-at3 .ensures) (c .before .before .before .before .before .before .before .before .before .before .before .before .whitespace02 .ensures)) (on _ (tag-took (c .before .before .before .before .before .before .before .before .before .before .before .rest-at4 .ensures) (c .before .before .before .before .before .before .before .before .equals .given .1) 61 (c .before .before .before .before .before .before .before .before .before .before .tag .ensures)) (on _ (blank-took (c .before .before .before .before .before .before .rest-at5 .ensures) (c .before .before .before .before .before .whitespace03 .ensures)) (lose _ _ (c .number-lost .result) (c .before .before .before .before .rest-at6 .ensures) (integer-lost (c .number-lost .ensures) (c .before .enum-told4 .given .1) _ _ _ (c .before .before .before .positive-integer .ensures))))))))))
 
-rest-at-requires-6 : tie.Need-rest-at-requires-6
-rest-at-requires-6 c κs = omega (arith, (gap-took (c .before .before .before .before .rest-at5 .ensures) (c .before .gap2 .given .1) (c .before .before .before .whitespace12 .ensures)) .up, (gap-took (c .before .before .before .before .rest-at5 .ensures) (c .before .gap2 .given .1) (c .before .before .before .whitespace12 .ensures)) .inside, c .before .before .before .before .rest-at5 .ensures .from)
+rest-at-requires-7 : tie.Need-rest-at-requires-7
+rest-at-requires-7 c κs = omega (arith, (integer-took (c .before .before .before .before .rest-at6 .ensures) (c .before .number .given .1) (c .before .before .before .positive-integer .ensures)) .up, (integer-took (c .before .before .before .before .rest-at6 .ensures) (c .before .number .given .1) (c .before .before .before .positive-integer .ensures)) .inside, c .before .before .before .before .rest-at6 .ensures .from)
 
-slice-aggregate-access-to : tie.Need-slice-aggregate-access-to
-slice-aggregate-access-to c = search needs
-
-access-to-requires : tie.Need-access-to-requires
-access-to-requires c κs = omega (arith, c .before .rest-at6 .ensures .size, c .before .before .before .before .before .before .before .before .before .before .before .before .before .before .before .before .before .before .before .before .before .before .before .before .before .before .before .pre)
-
-level-or-requires : tie.Need-level-or-requires
-level-or-requires c κs = search needs
-
-enum-known-access : tie.Need-enum-known-access
-enum-known-access c = search needs
-
-enum-told-5 : tie.Need-enum-told-5
-enum-told-5 c = search needs
-
-level-lost-requires-2 : tie.Need-level-lost-requires-2
-level-lost-requires-2 c κs = search needs
+whitespace0-requires-4 : tie.Need-whitespace0-requires-4
+whitespace0-requires-4 c κs = omega (arith, c .rest-at7 .ensures .size, c .before .before .before .before .before .before .before .before .before .before .before .before .before .before .before .before .before .before .before .before .before .before .before .before .before .before .before .pre)
 
 returns-5 : tie.Need-returns-5
 unfolding event-head
-returns-5 c = read-not _ refl tt (begin (event-head) _ _ (go _ (set-took (rest-self _ _) (c .before .before .before .before .before .before .before .before .before .before .before .before .before .before .before .before .before .before .before .before .before .before .before .before .before .before .before .before .before .before .keywords-set .ensures)) (on _ (blank-took (c .before .before .before .before .before .before .before .before .before .before .before .before .before .before .before .before .before .before .before .before .before .before .before .before .before .before .before .before .before .rest-at .ensures) (c .before .before .before .before .before .before .before .before .before .before .before .before .before .before .before .before .before .before .before .before .before .before .before .before .before .before .before .before .whitespace0 .ensures)) (go _ (level-took (c .before .before .before .before .before .before .before .before .before .before .before .before .before .before .before .before .before .before .before .before .before .before .before .before .before .before .event-priority .ensures) (walks (event-priority-local .on-chain)) (c .before .before .before .before .before .before .before .before .before .before .before .before .before .before .before .before .before .before .before .before .before .before .before .before .before .before .before .rest-at2 .ensures) (c .before .before .before .before .before .before .before .before .before .before .before .before .before .before .before .before .before .before .before .before .before .before .before .before .priority .given .1)) (on _ (gap-took (c .before .before .before .before .before .before .before .before .before .before .before .before .before .before .before .before .before .before .before .before .before .before .rest-at3 .ensures) (c .before .before .before .before .before .before .before .before .before .before .before .before .before .before .before .before .before .before .before .gap1 .given .1) (c .before .before .before .before .before .before .before .before .before .before .before .before .before .before .before .before .before .before .before .before .before .whitespace1 .ensures)) (on _ (keyword-took (c .before .before .before .before .before .before .before .before .before .before .before .before .before .before .before .before .before .rest-at4 .ensures) (c .before .before .before .before .before .before .before .before .before .before .before .before .before .event .given .1) (ascii "event") (c .before .before .before .before .before .before .before .before .before .before .before .before .before .before .before .keyword .ensures)) (on _ (gap-took (c .before .before .before .before .before .before .before .before .before .before .before .rest-at5 .ensures) (c .before .before .before .before .before .before .before .before .gap2 .given .1) (c .before .before .before .before .before .before .before .before .before .before .whitespace12 .ensures)) (lose _ _ (c .level-lost2 .result) (c .before .before .before .before .before .before .rest-at6 .ensures) (level-or-lost 0 (c .before .before .before .before .access-to .ensures) (c .before .before .before .level-or .ensures) (c .level-lost2 .ensures) (c .before .enum-told5 .given .1))))))))))
-
-returns-6 : tie.Need-returns-6
-unfolding event-head
-returns-6 c = event-head-is _ _ 0 _ ((level-or-took 0 (c .before .before .before .before .access-to .ensures) (c .before .before .before .level-or .ensures) (chain-inside (access-to-inside (ascii "read"))) (omega arith) (c .before .before .before .before .before .before .rest-at6 .ensures) (c .before .access .given .1)) .granted) _ _ _ (c .before .before .before .before .before .before .before .before .before .before .before .before .before .before .before .before .before .before .before .before .before .before .before .before .before .before .before .before .before .before .keywords-set .ensures .small) (level-small (c .before .before .before .before .before .before .before .before .before .before .before .before .before .before .before .before .before .before .before .before .before .before .before .before .before .before .event-priority .ensures) (c .before .before .before .before .before .before .before .before .before .before .before .before .before .before .before .before .before .before .before .before .before .before .before .before .priority .given .1)) ((level-or-took 0 (c .before .before .before .before .access-to .ensures) (c .before .before .before .level-or .ensures) (chain-inside (access-to-inside (ascii "read"))) (omega arith) (c .before .before .before .before .before .before .rest-at6 .ensures) (c .before .access .given .1)) .small) ((level-or-took 0 (c .before .before .before .before .access-to .ensures) (c .before .before .before .level-or .ensures) (chain-inside (access-to-inside (ascii "read"))) (omega arith) (c .before .before .before .before .before .before .rest-at6 .ensures) (c .before .access .given .1)) .is) (begin (event-head) _ _ (go _ (set-took (rest-self _ _) (c .before .before .before .before .before .before .before .before .before .before .before .before .before .before .before .before .before .before .before .before .before .before .before .before .before .before .before .before .before .before .keywords-set .ensures)) (on _ (blank-took (c .before .before .before .before .before .before .before .before .before .before .before .before .before .before .before .before .before .before .before .before .before .before .before .before .before .before .before .before .before .rest-at .ensures) (c .before .before .before .before .before .before .before .before .before .before .before .before .before .before .before .before .before .before .before .before .before .before .before .before .before .before .before .before .whitespace0 .ensures)) (go _ (level-took (c .before .before .before .before .before .before .before .before .before .before .before .before .before .before .before .before .before .before .before .before .before .before .before .before .before .before .event-priority .ensures) (walks (event-priority-local .on-chain)) (c .before .before .before .before .before .before .before .before .before .before .before .before .before .before .before .before .before .before .before .before .before .before .before .before .before .before .before .rest-at2 .ensures) (c .before .before .before .before .before .before .before .before .before .before .before .before .before .before .before .before .before .before .before .before .before .before .before .before .priority .given .1)) (on _ (gap-took (c .before .before .before .before .before .before .before .before .before .before .before .before .before .before .before .before .before .before .before .before .before .before .rest-at3 .ensures) (c .before .before .before .before .before .before .before .before .before .before .before .before .before .before .before .before .before .before .before .gap1 .given .1) (c .before .before .before .before .before .before .before .before .before .before .before .before .before .before .before .before .before .before .before .before .before .whitespace1 .ensures)) (on _ (keyword-took (c .before .before .before .before .before .before .before .before .before .before .before .before .before .before .before .before .before .rest-at4 .ensures) (c .before .before .before .before .before .before .before .before .before .before .before .before .before .event .given .1) (ascii "event") (c .before .before .before .before .before .before .before .before .before .before .before .before .before .before .before .keyword .ensures)) (on _ (gap-took (c .before .before .before .before .before .before .before .before .before .before .before .rest-at5 .ensures) (c .before .before .before .before .before .before .before .before .gap2 .given .1) (c .before .before .before .before .before .before .before .before .before .before .whitespace12 .ensures)) (go _ ((level-or-took 0 (c .before .before .before .before .access-to .ensures) (c .before .before .before .level-or .ensures) (chain-inside (access-to-inside (ascii "read"))) (omega arith) (c .before .before .before .before .before .before .rest-at6 .ensures) (c .before .access .given .1)) .step) (done _ _ _ _)))))))))
+returns-5 c = read-is refl (begin (event-head) _ _ (go _ (read-took (c .before .before .before .before .before .before .before .before .before .before .before .before .before .before .before .before .before .before .before .before .before .before .before .before .before .before .event-qualities .ensures) (c .before .before .before .before .before .before .before .before .before .before .before .before .before .before .before .before .before .before .before .before .before .before .before .before .qualities .given .1) (walks (chain-inside event-qualities-inside)) (rest-self _ _) refl) (on _ (blank-took (c .before .before .before .before .before .before .before .before .before .before .before .before .before .before .before .before .before .before .before .before .before .before .rest-at .ensures) (c .before .before .before .before .before .before .before .before .before .before .before .before .before .before .before .before .before .before .before .before .before .whitespace0 .ensures)) (go _ (word-took (c .before .before .before .before .before .before .before .before .before .before .before .before .before .before .before .before .before .before .before .before .rest-at2 .ensures) (c .before .before .before .before .before .before .before .before .before .before .before .before .before .before .before .before .before .id .given .1) (c .before .before .before .before .before .before .before .before .before .before .before .before .before .before .before .before .before .before .before .parse-id .ensures)) (on _ (blank-took (c .before .before .before .before .before .before .before .before .before .before .before .before .before .before .before .rest-at3 .ensures) (c .before .before .before .before .before .before .before .before .before .before .before .before .before .before .whitespace02 .ensures)) (on _ (tag-took (c .before .before .before .before .before .before .before .before .before .before .before .before .before .rest-at4 .ensures) (c .before .before .before .before .before .before .before .before .before .before .equals .given .1) 61 (c .before .before .before .before .before .before .before .before .before .before .before .before .tag .ensures)) (on _ (blank-took (c .before .before .before .before .before .before .before .before .rest-at5 .ensures) (c .before .before .before .before .before .before .before .whitespace03 .ensures)) (go _ (integer-took (c .before .before .before .before .before .before .rest-at6 .ensures) (c .before .before .before .number .given .1) (c .before .before .before .before .before .positive-integer .ensures)) (on _ (blank-took (c .before .rest-at7 .ensures) (c .whitespace04 .ensures)) (done _ _ _ _)))))))))) (let w = event-qualities-small (c .before .before .before .before .before .before .before .before .before .before .before .before .before .before .before .before .before .before .before .before .before .before .before .before .before .before .event-qualities .ensures) (c .before .before .before .before .before .before .before .before .before .before .before .before .before .before .before .before .before .before .before .before .before .before .before .before .qualities .given .1) in record { sensitive = w .sensitive; rank = w .rank; privilege = w .privilege; name-from = omega (arith, (read-took (c .before .before .before .before .before .before .before .before .before .before .before .before .before .before .before .before .before .before .before .before .before .before .before .before .before .before .event-qualities .ensures) (c .before .before .before .before .before .before .before .before .before .before .before .before .before .before .before .before .before .before .before .before .before .before .before .before .qualities .given .1) (walks (chain-inside event-qualities-inside)) (rest-self _ _) refl) .up, (blank-took (c .before .before .before .before .before .before .before .before .before .before .before .before .before .before .before .before .before .before .before .before .before .before .rest-at .ensures) (c .before .before .before .before .before .before .before .before .before .before .before .before .before .before .before .before .before .before .before .before .before .whitespace0 .ensures)) .up); name-to = (word-took (c .before .before .before .before .before .before .before .before .before .before .before .before .before .before .before .before .before .before .before .before .rest-at2 .ensures) (c .before .before .before .before .before .before .before .before .before .before .before .before .before .before .before .before .before .id .given .1) (c .before .before .before .before .before .before .before .before .before .before .before .before .before .before .before .before .before .before .before .parse-id .ensures)) .up; before = omega (arith, (blank-took (c .before .before .before .before .before .before .before .before .before .before .before .before .before .before .before .rest-at3 .ensures) (c .before .before .before .before .before .before .before .before .before .before .before .before .before .before .whitespace02 .ensures)) .up, (tag-took (c .before .before .before .before .before .before .before .before .before .before .before .before .before .rest-at4 .ensures) (c .before .before .before .before .before .before .before .before .before .before .equals .given .1) 61 (c .before .before .before .before .before .before .before .before .before .before .before .before .tag .ensures)) .up, (blank-took (c .before .before .before .before .before .before .before .before .rest-at5 .ensures) (c .before .before .before .before .before .before .before .whitespace03 .ensures)) .up, (integer-took (c .before .before .before .before .before .before .rest-at6 .ensures) (c .before .before .before .number .given .1) (c .before .before .before .before .before .positive-integer .ensures)) .up, (blank-took (c .before .rest-at7 .ensures) (c .whitespace04 .ensures)) .up) })
 
 pub event-head-spec : {M : Type 1} → statement M
 event-head-spec =
     tie.close
     (tie.spec
-    keywords-set-requires
+    event-qualities-requires
+    enum-known-qualities
+    enum-told
+    event-qualities-lost-requires
+    returns
     rest-at-requires
     whitespace0-requires
     rest-at-requires-2
-    event-priority-requires
-    enum-known-priority
-    enum-told
-    level-lost-requires
-    returns
-    rest-at-requires-3
-    whitespace1-requires
-    enum-known-gap1
+    parse-id-requires
+    enum-known-id
     enum-told-2
-    gap-lost-requires
-    returns-2
-    rest-at-requires-4
-    slice-aggregate-keyword
-    keyword-requires
-    enum-known-event
-    enum-told-3
     step-lost-requires
+    returns-2
+    rest-at-requires-3
+    whitespace0-requires-2
+    rest-at-requires-4
+    tag-requires
+    enum-known-equals
+    enum-told-3
+    step-lost-requires-2
     returns-3
     rest-at-requires-5
-    whitespace1-requires-2
-    enum-known-gap2
-    enum-told-4
-    gap-lost-requires-2
-    returns-4
+    whitespace0-requires-3
     rest-at-requires-6
-    slice-aggregate-access-to
-    access-to-requires
-    level-or-requires
-    enum-known-access
-    enum-told-5
-    level-lost-requires-2
-    returns-5
-    returns-6)
+    positive-integer-requires
+    enum-known-number
+    enum-told-4
+    number-lost-requires
+    returns-4
+    rest-at-requires-7
+    whitespace0-requires-4
+    returns-5)

@@ -1,0 +1,84 @@
+-- A parser by what a function makes of its value.
+use mathlib.Core.Path.{_≡_, refl, sym, ap, _∙_}
+use mathlib.Core.List.{List}
+use Prim.Native.Nat.{ℕ, _-_}
+use native.Mathlib.Omega.{arith}
+use lib.ListN.{drop}
+use Rattle.lexing.specs.reply.{Reply, ok, fail, stop, Parser, ret, _>>=_, _>>_}
+use Rattle.lexing.specs.answers.{Answer, got, lost, Rest, lostReply, reply}
+use Rattle.lexing.specs.declared.answers.Lost.{Lost}
+use Rattle.lexing.specs.declared.answers.Lost.the-variants.{Fail, Stop}
+use Rattle.lexing.proofs.Onward.{Onward}
+use Rattle.lexing.proofs.Slicing.{Took, took, begin, on}
+use Rattle.items.specs.clusters.{mapped}
+use Rattle.items.specs.answers.{ReadTo}
+use Rattle.items.proofs.Answers.{reads-as}
+
+abbrev through : {A B : Type 0} → (A → B) → Reply A → Reply B
+through f (ok a c r) = ok (f a) c r
+through f (fail p) = fail p
+through f (stop n p) = stop n p
+
+mapped-is : {A B : Type 0} (f : A → B) (m : Parser A) (b : ℕ) (u : List ℕ) → mapped m f b u ≡ through f (m b u)
+unfolding mapped _>>=_ ret
+mapped-is {A} f m b u = go (m b u) refl
+  where
+    go : (x : Reply A) → m b u ≡ x → mapped m f b u ≡ through f (m b u)
+    go (ok a c r) e = rw (e, mapped, _>>=_)
+    go (fail p) e = rw (e, mapped, _>>=_)
+    go (stop n p) e = rw (e, mapped, _>>=_)
+
+value-of : {A B : Type 0} (f : A → B) (x : Reply A) (k : B) (c : ℕ) (v : List ℕ) → ok k c v ≡ through f x → (a : A) × ((f a ≡ k) × (ok a c v ≡ x))
+value-of f (ok a c' r') k c v e =
+    let z1 : f a ≡ k = cc in
+    let z2 : c ≡ c' = cc in
+    let z3 : v ≡ r' = cc in
+    (a, (z1, rw (z2, z3) refl))
+value-of f (fail p) k c v e = absurd (let z : _≡_ {A = ℕ} 0 1 = cc in omega arith)
+value-of f (stop n p) k c v e = absurd (let z : _≡_ {A = ℕ} 0 1 = cc in omega arith)
+
+lost-of : {A B : Type 0} (f : A → B) (l : Lost) (x : Reply A) → lostReply {A = B} l ≡ through f x → lostReply l ≡ x
+lost-of f (Fail p) (ok a c r) e = absurd (let z : _≡_ {A = ℕ} 0 1 = cc in omega arith)
+lost-of f (Fail p) (fail q) e = let z : p ≡ q = cc in rw z refl
+lost-of f (Fail p) (stop n q) e = absurd (let z : _≡_ {A = ℕ} 0 1 = cc in omega arith)
+lost-of f (Stop i p) (ok a c r) e = absurd (let z : _≡_ {A = ℕ} 0 1 = cc in omega arith)
+lost-of f (Stop i p) (fail q) e = absurd (let z : _≡_ {A = ℕ} 0 1 = cc in omega arith)
+lost-of f (Stop i p) (stop n q) e = let z : p ≡ q = cc in let y : i ≡ n = cc in rw (z, y) refl
+
+-- a step of a sequence whose value is known by what f makes of it
+pub record TookAs {A B : Type 0} (f : A → B) (m : Parser A) (b : ℕ) (u : List ℕ) (n : ℕ) (v : B) (c : ℕ) : Type 0 where
+  pub value : A
+  pub is : f value ≡ v
+  pub step : Took m b u n value c
+
+-- an answer taken apart
+pub took-as : {A B : Type 0} {f : A → B} {m : Parser A} → Onward m → {b n : ℕ} {u r : List ℕ} {v : B} {c : ℕ} → Rest b u n r → ok v c (drop (c - n) r) ≡ mapped m f n r → TookAs f m b u n v c
+took-as {A} {B} {f} {m} w {b} {n} {u} {r} {v} {c} q e =
+    let s = value-of f (m n r) v c (drop (c - n) r) (e ∙ mapped-is f m n r) in
+    record { value = s .0; is = s .1 .0; step = took w q (s .1 .1) }
+
+module _ {A B : Type 0} (f : A → B) (m : Parser A) (b : ℕ) (u : List ℕ) where
+  pub lost-as : (l : Lost) → lostReply l ≡ mapped m f b u → lostReply l ≡ m b u
+  lost-as l e = lost-of f l (m b u) (e ∙ mapped-is f m b u)
+
+  -- and made
+  pub mapped-ok : (a : A) {v : B} (c : ℕ) (r : List ℕ) → f a ≡ v → ok a c r ≡ m b u → ok v c r ≡ mapped m f b u
+  mapped-ok a c r d e = rw (mapped-is f m b u, ← e, ← d) refl
+
+  pub mapped-not : (l : Lost) → lostReply l ≡ m b u → lostReply l ≡ mapped m f b u
+  mapped-not (Fail p) e = rw (mapped-is f m b u, ← e) refl
+  mapped-not (Stop n p) e = rw (mapped-is f m b u, ← e) refl
+
+-- an answer taken apart, once its variant x is known
+pub read-as : {T A B : Type 0} {f : ℕ → List ℕ → T → Answer B} {W : ℕ → T → Type 0} {g : A → B} {m : Parser A} {a x : T} {n : ℕ} {r : List ℕ} → ReadTo f W (mapped m g) a n r → a ≡ x
+    → Onward m → {b : ℕ} {u : List ℕ} {v : B} {c : ℕ} → Rest b u n r → f n r x ≡ got v c → TookAs g m b u n v c
+read-as {B = B} {n = n} {r = r} h d w q z = took-as w q (sym (ap (λ (y : Answer B). reply y n r) z) ∙ reads-as h d)
+
+-- an answer that is passed on behind another step
+pub mapped-after : {A B C : Type 0} {m : Parser A} {k : Parser B} (g : B → C) → Onward k → (a : Answer C) {x : A} {b n : ℕ} {u r : List ℕ} → Took m b u b x n → Rest b u n r
+    → reply a n r ≡ mapped k g n r → reply a b u ≡ mapped (m >> k) g b u
+mapped-after {m = m} {k = k} g w (got v c) {b = b} {u = u} t q h =
+    let s : TookAs g k b u _ v c = took-as w q h in
+    mapped-ok g (m >> k) b u (s .value) c (drop (c - b) u) (s .is) (begin (m >> k) b u (on k t (sym (s .step .goes))))
+mapped-after {m = m} {k = k} g w (lost l) {b = b} {n = n} {u = u} {r = r} t q h =
+    mapped-not g (m >> k) b u l (begin (m >> k) b u (on k t (lost-as g k n r l h ∙ ap (k n) (q .same))))

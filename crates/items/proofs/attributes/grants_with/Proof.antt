@@ -1,0 +1,45 @@
+use borrow.Author.Needs.{needs}
+use Rattle.items.proofs.attributes.grants_with.Statement.{statement}
+use Rattle.items.proofs.attributes.grants_with.Tie as tie
+use Rattle.items.proofs.attributes.Laws.{grants-with, grants-refused}
+
+enum-known-grants : tie.Need-enum-known-grants
+enum-known-grants c = search needs
+
+enum-told : tie.Need-enum-told
+enum-told c = search needs
+
+returns : tie.Need-returns
+returns c = grants-refused _ _ _ (c .enum-told .given .1)
+
+enum-known-grant : tie.Need-enum-known-grant
+enum-known-grant c = search needs
+
+enum-known-grant-2 : tie.Need-enum-known-grant-2
+enum-known-grant-2 c = search needs
+
+enum-known-grant-3 : tie.Need-enum-known-grant-3
+enum-known-grant-3 c = search needs
+
+returns-2 : tie.Need-returns-2
+returns-2 c = grants-with _ _ (c .before .before .before .before .grants .given .1) (c .before .grant .given .1)
+
+returns-3 : tie.Need-returns-3
+returns-3 c = grants-with _ _ (c .before .before .before .before .grants .given .1) (c .before .grant2 .given .1)
+
+returns-4 : tie.Need-returns-4
+returns-4 c = grants-with _ _ (c .before .before .before .before .grants .given .1) (c .before .grant3 .given .1)
+
+pub grants-with-spec : {M : Type 1} → statement M
+grants-with-spec =
+    tie.close
+    (tie.spec
+    enum-known-grants
+    enum-told
+    returns
+    enum-known-grant
+    enum-known-grant-2
+    enum-known-grant-3
+    returns-2
+    returns-3
+    returns-4)

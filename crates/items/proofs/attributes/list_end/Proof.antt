@@ -1,0 +1,21 @@
+use borrow.Author.Needs.{needs}
+use Rattle.items.proofs.attributes.list_end.Statement.{statement}
+use Rattle.items.proofs.attributes.list_end.Tie as tie
+use mathlib.Core.Path.{sym, ap}
+use Rattle.lexing.specs.declared.answers.Lost.{Lost}
+use Rattle.items.specs.inner.attributes.{listEnd}
+
+enum-told : tie.Need-enum-told
+enum-told c = search needs
+
+enum-known-l : tie.Need-enum-known-l
+enum-known-l c = search needs
+
+returns : tie.Need-returns
+returns c = sym (ap (λ (x : Lost). listEnd x (c .before .before .args .grants) (c .before .before .args .c)) (c .enum-told .given .1))
+
+returns-2 : tie.Need-returns-2
+returns-2 c = sym (ap (λ (x : Lost). listEnd x (c .before .before .before .args .grants) (c .before .before .before .args .c)) (c .before .l .given .1))
+
+pub list-end-spec : {M : Type 1} → statement M
+list-end-spec = tie.close (tie.spec enum-told enum-known-l returns returns-2)
