@@ -9,7 +9,8 @@ pub mod Locality
 pub mod Tries
 -- what an answer gives its caller
 pub mod Answers
--- parts that are dropped, parts between braces, a head and then a list, words by their offsets, and the words of records
+-- values that are changed, parts that are dropped, parts between braces, a head and then a list, words by their offsets, and the words of records
+pub mod Mapped
 pub mod Dropping
 pub mod Braces
 pub mod Headed

@@ -4,7 +4,7 @@ use mathlib.Core.List.{List, [], _∷_, _++_}
 use Prim.Native.Nat.{ℕ, _+_, _-_, _*_, _≤_, _<_}
 use native.Mathlib.Omega.{arith}
 use lib.ListN.{length, drop}
-use Rattle.lexing.specs.reply.{Reply, ok, fail, stop, Parser, ret, _>>=_, many0}
+use Rattle.lexing.specs.reply.{ok, Parser, many0}
 use Rattle.lexing.specs.answers.{Rest, lostReply, reply}
 use Rattle.lexing.specs.declared.answers.Lost.{Lost}
 use Rattle.lexing.specs.declared.answers.Lost.the-variants.{Fail, Stop}
@@ -12,46 +12,13 @@ use Rattle.lexing.proofs.Onward.{Onward}
 use Rattle.lexing.proofs.Locality.{Consumes}
 use Rattle.lexing.proofs.Slicing.{Took, took}
 use Rattle.lexing.proofs.Repetition.{ManyAt, manyEnd, many0-start, many0-step, many0-ends}
-use Rattle.items.specs.clusters.{mapped}
 use Rattle.items.specs.records.{Record}
 use Rattle.items.specs.layout.{word-count}
 use Rattle.items.specs.answers.{counted, countAnswer, countEnd, Few, CountTo}
 use Rattle.items.specs.declared.counts.Count.{Count}
 use Rattle.items.specs.declared.counts.Count.the-variants.{Words, NoCount}
+use Rattle.items.proofs.Mapped.{mapped-ok, mapped-lost, mapped-value, mapped-none}
 use Rattle.items.proofs.RecordWords.{Elementwise, word-count-none, word-count-more}
-
--- a reply, its value counted
-abbrev counting : {A : Type 0} → (A → List Record) → Reply A → Reply ℕ
-counting f (ok a c r) = ok (word-count (f a)) c r
-counting f (fail p) = fail p
-counting f (stop n p) = stop n p
-
-counted-is : {A : Type 0} (f : A → List Record) (m : Parser A) (b : ℕ) (u : List ℕ) → counted f m b u ≡ counting f (m b u)
-unfolding counted mapped _>>=_ ret
-counted-is {A} f m b u = go (m b u) refl
-  where
-    go : (x : Reply A) → m b u ≡ x → counted f m b u ≡ counting f (m b u)
-    go (ok a c r) e = rw (e, counted, mapped, _>>=_)
-    go (fail p) e = rw (e, counted, mapped, _>>=_)
-    go (stop n p) e = rw (e, counted, mapped, _>>=_)
-
--- the value behind a count
-value-of : {A : Type 0} (f : A → List Record) (x : Reply A) (k c : ℕ) (v : List ℕ) → ok k c v ≡ counting f x → (a : A) × ((word-count (f a) ≡ k) × (ok a c v ≡ x))
-value-of f (ok a c' r') k c v e =
-    let z1 : word-count (f a) ≡ k = cc in
-    let z2 : c ≡ c' = cc in
-    let z3 : v ≡ r' = cc in
-    (a, (z1, rw (z2, z3) refl))
-value-of f (fail p) k c v e = absurd (let z : _≡_ {A = ℕ} 0 1 = cc in omega arith)
-value-of f (stop n p) k c v e = absurd (let z : _≡_ {A = ℕ} 0 1 = cc in omega arith)
-
-lost-of : {A : Type 0} (f : A → List Record) (l : Lost) (x : Reply A) → lostReply {A = ℕ} l ≡ counting f x → lostReply l ≡ x
-lost-of f (Fail p) (ok a c r) e = absurd (let z : _≡_ {A = ℕ} 0 1 = cc in omega arith)
-lost-of f (Fail p) (fail q) e = let z : p ≡ q = cc in rw z refl
-lost-of f (Fail p) (stop n q) e = absurd (let z : _≡_ {A = ℕ} 0 1 = cc in omega arith)
-lost-of f (Stop i p) (ok a c r) e = absurd (let z : _≡_ {A = ℕ} 0 1 = cc in omega arith)
-lost-of f (Stop i p) (fail q) e = absurd (let z : _≡_ {A = ℕ} 0 1 = cc in omega arith)
-lost-of f (Stop i p) (stop n q) e = let z : p ≡ q = cc in let y : i ≡ n = cc in rw (z, y) refl
 
 -- a count as a step of a sequence: the value, its words, the step, and how few they are
 pub record Counted {A : Type 0} (f : A → List Record) (m : Parser A) (b : ℕ) (u : List ℕ) (n k c : ℕ) : Type 0 where
@@ -62,21 +29,24 @@ pub record Counted {A : Type 0} (f : A → List Record) (m : Parser A) (b : ℕ)
 
 module _ {A : Type 0} {f : A → List Record} {m : Parser A} where
   pub count-took : (w : Onward m) {b n : ℕ} {u r : List ℕ} {a : Count} {k c : ℕ} → Rest b u n r → a ≡ Words k c → CountTo f m a n r → Counted f m b u n k c
+  unfolding counted
   count-took w {b} {n} {u} {r} {a} {k} {c} q e h =
-      let s = value-of f (m n r) k c (drop (c - n) r) (subst (λ (x : Count). reply (countAnswer x) n r ≡ counted f m n r) e (h .reads) ∙ counted-is f m n r) in
+      let s = mapped-value m (λ x. word-count (f x)) n r k c (drop (c - n) r) (subst (λ (x : Count). reply (countAnswer x) n r ≡ counted f m n r) e (h .reads)) in
       record { value = s .0; words = s .1 .0; step = took w q (s .1 .1); few = subst (λ (x : Count). Few x n) e (h .few) }
 
   pub count-lost : {a : Count} (l : Lost) → a ≡ NoCount l → (n : ℕ) (r : List ℕ) → CountTo f m a n r → lostReply l ≡ m n r
-  count-lost {a} l e n r h = lost-of f l (m n r) (subst (λ (x : Count). reply (countAnswer x) n r ≡ counted f m n r) e (h .reads) ∙ counted-is f m n r)
+  unfolding counted
+  count-lost {a} l e n r h = mapped-none m (λ x. word-count (f x)) n r l (subst (λ (x : Count). reply (countAnswer x) n r ≡ counted f m n r) e (h .reads))
 
 -- the ends of a sequence that counts
 module _ {A : Type 0} (f : A → List Record) (m : Parser A) (b : ℕ) (u : List ℕ) where
   pub count-is : (a : A) (k c : ℕ) → word-count (f a) ≡ k → k ≤ 8 * (c - b) → ok a c (drop (c - b) u) ≡ m b u → CountTo f m (Words k c) b u
-  count-is a k c s q e = record { reads = rw (counted-is f m b u, ← e, ← s) refl; few = q }
+  unfolding counted
+  count-is a k c s q e = record { reads = rw (← s) (mapped-ok m (λ x. word-count (f x)) b u a c (drop (c - b) u) e); few = q }
 
   pub count-not : (l : Lost) → lostReply l ≡ m b u → CountTo f m (NoCount l) b u
-  count-not (Fail p) e = record { reads = rw (counted-is f m b u, ← e) refl; few = tt }
-  count-not (Stop n p) e = record { reads = rw (counted-is f m b u, ← e) refl; few = tt }
+  unfolding counted
+  count-not l e = record { reads = mapped-lost m (λ x. word-count (f x)) b u l e; few = tt }
 
   -- an answer that is passed on
   pub count-pass : (a : Count) (l : Lost) → a ≡ NoCount l → lostReply l ≡ m b u → CountTo f m a b u

@@ -37,6 +37,7 @@ use Rattle.items.specs.declared.endpoints.Default.{Default}
 use Rattle.items.specs.declared.endpoints.Default.the-variants.{Absent, Present}
 use Rattle.items.specs.declared.endpoints.DefaultRead.{DefaultRead}
 use Rattle.items.proofs.Locality.{name-behind-local, device-version-local, value-tries-local, default-attribute-value-local, attribute-handling-type-local}
+use Rattle.items.proofs.Mapped.{mapped-ok, mapped-lost}
 use Rattle.items.proofs.Answers.{read-within, read-took, last-lost}
 use Rattle.items.proofs.WordBetween.{word-moved}
 use Rattle.items.proofs.optional.Laws.{opt-ok, opt-fail, opt-stop}
@@ -87,15 +88,6 @@ or-past m k b u (stop n q) d p e = rw (sym d, _or_) (rw (← e))
 pub or-stop : {A : Type 0} (m k : Parser A) (b : ℕ) (u : List ℕ) (n p : ℕ) → stop n p ≡ m b u → stop n p ≡ (m or k) b u
 unfolding _or_
 or-stop m k b u n p e = rw (sym e, _or_)
-
-mapped-ok : {A B : Type 0} (m : Parser A) (f : A → B) (b : ℕ) (u : List ℕ) (a : A) (c : ℕ) (r : List ℕ) → ok a c r ≡ m b u → ok (f a) c r ≡ mapped m f b u
-unfolding mapped _>>=_ ret
-mapped-ok m f b u a c r e = rw (sym e, mapped, _>>=_)
-
-mapped-lost : {A B : Type 0} (m : Parser A) (f : A → B) (b : ℕ) (u : List ℕ) (l : Lost) → lostReply l ≡ m b u → lostReply l ≡ mapped m f b u
-unfolding mapped _>>=_
-mapped-lost m f b u (Fail p) e = rw (sym e, mapped, _>>=_)
-mapped-lost m f b u (Stop n p) e = rw (sym e, mapped, _>>=_)
 
 -- the tries of a default's value
 module _ (b : ℕ) (u : List ℕ) {a : Number} (h : numberReply a b u ≡ positive-integer b u) where
