@@ -1,11 +1,14 @@
 // What stands in an endpoint: names behind keywords, device types, instances of attributes.
 ghost use mathlib.Core.Path.{_≡_};
-ghost use Prim.Native.Nat.{_+_, _≤_};
+ghost use mathlib.Core.List.{[], _∷_};
+ghost use Prim.Native.Nat.{_+_, _≤_, max};
 ghost use lib.ListN.{length};
-ghost use Rattle.lexing.specs.answers.{numberReply};
+ghost use Rattle.lexing.specs.answers.{tagReply, numberReply};
 ghost use Rattle.items.specs.layout.{text-limit};
-ghost use Rattle.items.specs.endpoints.{name-behind, named-after, device-version, value-tries, default-attribute-value};
-ghost use Rattle.items.specs.answers.endpoints.{NamedTo, namedLost, DeviceTypeTo, HandlingTo, handlingLost, ValueTo, valueLost, optionalValue, DefaultTo, defaultLost, AttributeInstanceTo};
+ghost use Rattle.items.specs.records.{instance-record};
+ghost use Rattle.items.specs.endpoints.{name-behind, named-after, device-version, value-tries, default-attribute-value, instance-tries};
+ghost use Rattle.items.specs.answers.endpoints.{NamedTo, namedLost, DeviceTypeTo, deviceTypeLost, HandlingTo, handlingLost, ValueTo, valueLost, optionalValue, DefaultTo, defaultLost, AttributeInstanceTo, attributeInstanceLost, triedLost, TriedTo};
+ghost use Rattle.items.specs.inner.endpoints.{furtherLost, triedEnd, deep-close};
 use lexing::answers::Lost;
 use lexing::answers::Step;
 use lexing::answers::step_lost;
@@ -89,6 +92,12 @@ pub struct AttributeInstanceParts {
 pub enum AttributeInstanceRead {
     AttributeInstance(AttributeInstanceParts, usize),
     NoAttributeInstance(Lost),
+}
+
+// What a try between braces found: the words of its records, the offset behind it, and the furthest place of any try so far.
+pub enum Tried {
+    Found(usize, usize, usize),
+    NotFound(Lost),
 }
 
 // Two keywords and the name behind them.
@@ -211,6 +220,15 @@ pub fn device_type(part: &[u8], base: usize) -> DeviceTypeRead
         version,
     };
     DeviceTypeRead::DeviceType(t, c6)
+}
+
+pub fn device_type_lost(r: DeviceTypeRead) -> Lost
+    ensures { λ x. ⌜ x ≡ deviceTypeLost r ⌝ }
+{
+    match r {
+        DeviceTypeRead::DeviceType(_, c) => Lost::Fail(c),
+        DeviceTypeRead::NoDeviceType(l) => l,
+    }
 }
 
 // Where none stands it fails at its start, as each keyword does.
@@ -384,4 +402,93 @@ pub fn attribute_instantiation(part: &[u8], base: usize) -> AttributeInstanceRea
         default,
     };
     AttributeInstanceRead::AttributeInstance(a, c8)
+}
+
+pub fn attribute_instance_lost(r: AttributeInstanceRead) -> Lost
+    ensures { λ x. ⌜ x ≡ attributeInstanceLost r ⌝ }
+{
+    match r {
+        AttributeInstanceRead::AttributeInstance(_, c) => Lost::Fail(c),
+        AttributeInstanceRead::NoAttributeInstance(l) => l,
+    }
+}
+
+pub fn tried_lost(r: Tried) -> Lost
+    ensures { λ x. ⌜ x ≡ triedLost r ⌝ }
+{
+    match r {
+        Tried::Found(_, c, _) => Lost::Fail(c),
+        Tried::NotFound(l) => l,
+    }
+}
+
+fn furthest(p: usize, q: usize) -> usize
+    ensures { λ r. ⌜ r ≡ max p q ⌝ }
+{
+    if p < q {
+        return q;
+    }
+    p
+}
+
+// What is lost, its place no nearer than the furthest so far.
+fn further(l: Lost, q: usize) -> Lost
+    ensures { λ x. ⌜ x ≡ furtherLost l q ⌝ }
+{
+    match l {
+        Lost::Fail(p) => Lost::Fail(furthest(p, q)),
+        Lost::Stop(n, p) => Lost::Stop(n, p),
+    }
+}
+
+// The end of a loop of tries after n words, at an offset: a try that fails ends it at the furthest place, and a stop goes on.
+fn tried_end(l: Lost, n: usize, c: usize) -> Tried
+    ensures { λ x. ⌜ x ≡ triedEnd l n c ⌝ }
+{
+    match l {
+        Lost::Fail(p) => Tried::Found(n, c, p),
+        Lost::Stop(i, p) => Tried::NotFound(Lost::Stop(i, p)),
+    }
+}
+
+// The closing brace behind tries; where it is missing the place is the furthest.
+fn deep_close(part: &[u8], base: usize, q: usize) -> Step
+    requires { ⌜ base + length (now part) ≤ text-limit ⌝ }
+    ensures { λ r. ⌜ tagReply r base (now (part .entry)) ≡ deep-close q base (now (part .entry)) ⌝ }
+{
+    let w = whitespace0(part, base);
+    let c1 = w.next;
+    let close = tag(rest_at(part, base, c1), c1, b'}');
+    let Step::Next(c2) = close else {
+        return Step::Not(further(step_lost(close), q));
+    };
+    Step::Next(c2)
+}
+
+// The tries for an instance, after the furthest place so far: those of attributes take two words, the others one.
+fn instance_tries(part: &[u8], base: usize, q: usize) -> Tried
+    requires { ⌜ base + length (now part) ≤ text-limit ⌝ }
+    ensures { λ r. ⌜ TriedTo (λ i. instance-record i ∷ []) (instance-tries q) r base (now (part .entry)) ⌝ }
+{
+    let attribute = attribute_instantiation(part, base);
+    if let AttributeInstanceRead::AttributeInstance(_, c) = attribute {
+        return Tried::Found(2, c, q);
+    }
+    let first = further(attribute_instance_lost(attribute), q);
+    let Lost::Fail(q1) = first else {
+        return Tried::NotFound(first);
+    };
+    let command = named_after(part, base, b"handle", b"command");
+    if let Named::Name(_, _, c) = command {
+        return Tried::Found(1, c, q1);
+    }
+    let second = further(named_lost(command), q1);
+    let Lost::Fail(q2) = second else {
+        return Tried::NotFound(second);
+    };
+    let event = named_after(part, base, b"emits", b"event");
+    if let Named::Name(_, _, c) = event {
+        return Tried::Found(1, c, q2);
+    }
+    Tried::NotFound(further(named_lost(event), q2))
 }

@@ -1,6 +1,6 @@
 -- Laws of names behind keywords, device types, defaults and instances of attributes.
 use mathlib.Core.Path.{_≡_, refl, sym, ap, _∙_, subst}
-use mathlib.Core.List.{List}
+use mathlib.Core.List.{List, [], _∷_}
 use mathlib.Core.Bool.{Bool}
 use mathlib.Core.Option.{Option}
 use Prim.Native.Nat.{ℕ, suc, _+_, _-_, _≤_, _<_, max}
@@ -25,7 +25,9 @@ use Rattle.lexing.proofs.Locality.{chain-opt, chain-then}
 use Rattle.lexing.proofs.TokenLocality.{whitespace1-chain}
 use Rattle.lexing.proofs.Slicing.{Took, took, walks, rebase, begin, on, told-next, step-lost, integer-lost, or-next}
 use Rattle.items.specs.clusters.{mapped}
-use Rattle.items.specs.endpoints.{name-behind, device-version, Default as DefaultOf, number, signed-number, text, value-tries, default-attribute-value, attribute-handling-type}
+use Rattle.items.specs.endpoints.{name-behind, device-version, Default as DefaultOf, number, signed-number, text, value-tries, default-attribute-value, attribute-handling-type, AttributeInstance as AttributeInstanceOf, attribute-instantiation, named-after, attribute-instance, command-instance, event-instance, instance-tries}
+use Rattle.items.specs.records.{plain, each, instance-record}
+use Rattle.items.specs.layout.{layout-20, record-words, catalogue-words, word-count}
 use Rattle.items.specs.answers.{NameIn, wordBetween}
 use Rattle.items.specs.answers.endpoints.{NamedTo, valueOf, valueLost, valueAnswer, ValueIn, ValueTo, DefaultIn, optionalValue, OptionalTo}
 use Rattle.items.specs.declared.endpoints.Named.{Named}
@@ -36,7 +38,7 @@ use Rattle.items.specs.declared.endpoints.ValueRead.the-variants.{Read, 
 use Rattle.items.specs.declared.endpoints.Default.{Default}
 use Rattle.items.specs.declared.endpoints.Default.the-variants.{Absent, Present}
 use Rattle.items.specs.declared.endpoints.DefaultRead.{DefaultRead}
-use Rattle.items.proofs.Locality.{name-behind-local, device-version-local, value-tries-local, default-attribute-value-local, attribute-handling-type-local}
+use Rattle.items.proofs.Locality.{name-behind-local, device-version-local, value-tries-local, default-attribute-value-local, attribute-handling-type-local, attribute-instantiation-inside, named-after-local, instance-tries-inside}
 use Rattle.items.proofs.Mapped.{mapped-ok, mapped-lost}
 use Rattle.items.proofs.Answers.{read-within, read-took, last-lost}
 use Rattle.items.proofs.WordBetween.{word-moved}
@@ -183,3 +185,25 @@ default-within (Present (Num n)) c e h k = tt
 default-within (Present (SignedValue m n)) c e h k = tt
 default-within (Present (Truth x)) c e h k = tt
 default-within (Present (Text s)) c e h k = omega (arith, h, k)
+
+-- the tries of an instance, and the words that each takes
+pub attribute-instance-on : Onward attribute-instantiation
+attribute-instance-on = walks (attribute-instantiation-inside .on-chain)
+
+pub named-after-on : (k j : List ℕ) → Onward (named-after k j)
+named-after-on k j = walks (named-after-local k j .on-chain)
+
+pub instance-tries-on : (q : ℕ) → Onward (instance-tries q)
+instance-tries-on q = walks (instance-tries-inside q .on-chain)
+
+pub attribute-words : (a : AttributeInstanceOf) → word-count (instance-record (attribute-instance a) ∷ []) ≡ 2
+unfolding word-count catalogue-words each record-words layout-20 instance-record plain
+attribute-words a = refl
+
+pub command-words : (n : Word) → word-count (instance-record (command-instance n) ∷ []) ≡ 1
+unfolding word-count catalogue-words each record-words layout-20 instance-record plain
+command-words n = refl
+
+pub event-words : (n : Word) → word-count (instance-record (event-instance n) ∷ []) ≡ 1
+unfolding word-count catalogue-words each record-words layout-20 instance-record plain
+event-words n = refl
