@@ -108,7 +108,7 @@ ext-bind {A} m f i j b u s p h v = go (m b u) refl p
     go (stop n q) e p = rw (h, e, _>>=_)
 
 module _ {S : Type 0} (g : S → ℕ → ℕ) where
-  close-moves : (s : S) (k b : ℕ) (u : List ℕ) → MovesTo (suc k) k b u (catch (whitespace0 >> tag 125) (λ p. failAt (g s p)) b u)
+  pub close-moves : (s : S) (k b : ℕ) (u : List ℕ) → MovesTo (suc k) k b u (catch (whitespace0 >> tag 125) (λ p. failAt (g s p)) b u)
   unfolding catch _>>_ failAt
   close-moves s k b u = go ((whitespace0 >> tag 125) b u) refl (moves-bind whitespace0 _ (suc k) (suc k) k b u (whitespace0-chain .chain (suc k) b u) λ d c r. close-at k c r)
     where

@@ -1,14 +1,16 @@
 // What stands in an endpoint: names behind keywords, device types, instances of attributes.
 ghost use mathlib.Core.Path.{_≡_};
-ghost use mathlib.Core.List.{[], _∷_};
+ghost use mathlib.Core.List.{[], _∷_, map};
 ghost use Prim.Native.Nat.{_+_, _≤_, max};
 ghost use lib.ListN.{length};
 ghost use Rattle.lexing.specs.answers.{tagReply, numberReply};
 ghost use Rattle.items.specs.layout.{text-limit};
-ghost use Rattle.items.specs.records.{instance-record};
-ghost use Rattle.items.specs.endpoints.{name-behind, named-after, device-version, value-tries, default-attribute-value, instance-tries};
-ghost use Rattle.items.specs.answers.endpoints.{NamedTo, namedLost, DeviceTypeTo, deviceTypeLost, HandlingTo, handlingLost, ValueTo, valueLost, optionalValue, DefaultTo, defaultLost, AttributeInstanceTo, attributeInstanceLost, triedLost, TriedTo};
+ghost use Rattle.items.specs.records.{instance-record, part-records};
+ghost use Rattle.items.specs.endpoints.{name-behind, named-after, device-version, value-tries, default-attribute-value, deep-run, deep-braces, instance-tries, instantiation, instantiation-head, cluster-instantiation};
+ghost use Rattle.items.specs.answers.{CountTo};
+ghost use Rattle.items.specs.answers.endpoints.{NamedTo, namedLost, DeviceTypeTo, deviceTypeLost, HandlingTo, handlingLost, ValueTo, valueLost, optionalValue, DefaultTo, defaultLost, AttributeInstanceTo, attributeInstanceLost, triedLost, TriedTo, DeepTo};
 ghost use Rattle.items.specs.inner.endpoints.{furtherLost, triedEnd, deep-close};
+use crate::counts::Count;
 use lexing::answers::Lost;
 use lexing::answers::Step;
 use lexing::answers::step_lost;
@@ -491,4 +493,76 @@ fn instance_tries(part: &[u8], base: usize, q: usize) -> Tried
         return Tried::Found(1, c, q2);
     }
     Tried::NotFound(further(named_lost(event), q2))
+}
+
+// The first pass over instances.
+fn count_instances(part: &[u8], base: usize) -> Tried
+    requires { ⌜ base + length (now part) ≤ text-limit ⌝ }
+    ensures { λ r. ⌜ DeepTo (map instance-record) (deep-run instance-tries) r base (now (part .entry)) ⌝ }
+{
+    let mut c = base;
+    let mut n = 0;
+    let mut q = base;
+    loop {
+        let w = whitespace0(rest_at(part, base, c), c);
+        let start = w.next;
+        let r = instance_tries(rest_at(part, base, start), start, q);
+        let Tried::Found(k, next, far) = r else {
+            return tried_end(further(tried_lost(r), q), n, c);
+        };
+        c = next;
+        n += k;
+        q = far;
+    }
+}
+
+// The first pass over the instances between braces.
+fn instances(part: &[u8], base: usize) -> Count
+    requires { ⌜ base + length (now part) ≤ text-limit ⌝ }
+    ensures { λ r. ⌜ CountTo (map instance-record) (deep-braces instance-tries) r base (now (part .entry)) ⌝ }
+{
+    let brace = tag(part, base, b'{');
+    let Step::Next(c1) = brace else {
+        return Count::NoCount(step_lost(brace));
+    };
+    let run = count_instances(rest_at(part, base, c1), c1);
+    let Tried::Found(n, c2, q) = run else {
+        return Count::NoCount(tried_lost(run));
+    };
+    let close = deep_close(rest_at(part, base, c2), c2, q);
+    let Step::Next(c3) = close else {
+        return Count::NoCount(step_lost(close));
+    };
+    Count::Words(n, c3)
+}
+
+// A cluster instantiation up to its instances: its name.
+pub fn instantiation_head(part: &[u8], base: usize) -> Named
+    requires { ⌜ base + length (now part) ≤ text-limit ⌝ }
+    ensures { λ r. ⌜ NamedTo instantiation-head r base (now (part .entry)) ⌝ }
+{
+    let w1 = whitespace0(part, base);
+    let c1 = w1.next;
+    let named = name_behind(rest_at(part, base, c1), c1, b"server", b"cluster");
+    let Named::Name(name, end, c2) = named else {
+        return Named::NoName(named_lost(named));
+    };
+    let w2 = whitespace0(rest_at(part, base, c2), c2);
+    Named::Name(name, end, w2.next)
+}
+
+// The first pass over a cluster instantiation: one word, and those of its instances.
+pub fn cluster_instantiation(part: &[u8], base: usize) -> Count
+    requires { ⌜ base + length (now part) ≤ text-limit ⌝ }
+    ensures { λ r. ⌜ CountTo (λ i. part-records (instantiation i)) cluster-instantiation r base (now (part .entry)) ⌝ }
+{
+    let head = instantiation_head(part, base);
+    let Named::Name(_, _, c1) = head else {
+        return Count::NoCount(named_lost(head));
+    };
+    let run = instances(rest_at(part, base, c1), c1);
+    let Count::Words(n, c2) = run else {
+        return run;
+    };
+    Count::Words(n + 1, c2)
 }

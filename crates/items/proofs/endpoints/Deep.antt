@@ -7,12 +7,15 @@ use lib.ListN.{length, drop}
 use Rattle.lexing.specs.reply.{Reply, ok, fail, stop, Parser, _>>=_, _>>_, catch, position, failAt}
 use Rattle.lexing.specs.words.{tag}
 use Rattle.lexing.specs.blanks.{Doc, whitespace0}
-use Rattle.lexing.specs.answers.{Rest, lostReply, reply}
+use Rattle.lexing.specs.answers.{Rest, lostReply, reply, tagReply}
 use Rattle.lexing.specs.declared.answers.Lost.{Lost}
 use Rattle.lexing.specs.declared.answers.Lost.the-variants.{Fail, Stop}
-use Rattle.lexing.proofs.Onward.{Onward}
+use Rattle.lexing.specs.declared.answers.Step.{Step}
+use Rattle.lexing.specs.declared.answers.Step.the-variants.{Next}
+use Rattle.lexing.proofs.Onward.{Ends, Onward}
+use Rattle.lexing.proofs.Chain.{MovesTo, to-suf}
 use Rattle.lexing.proofs.Locality.{Consumes, LocalInside}
-use Rattle.lexing.proofs.Slicing.{Took, took, begin, go, on, lose, fall, done, rest-self}
+use Rattle.lexing.proofs.Slicing.{Took, took, begin, go, on, lose, fall, done, rest-self, told-next}
 use Rattle.lexing.proofs.Repetition.{IterAt, iter-start, iter-step, iter-ends, iter-stop}
 use Rattle.items.specs.entries.{enclosed}
 use Rattle.items.specs.clusters.{mapped}
@@ -26,7 +29,7 @@ use Rattle.items.specs.declared.counts.Count.the-variants.{Words, NoCoun
 use Rattle.items.specs.declared.endpoints.Tried.{Tried}
 use Rattle.items.specs.declared.endpoints.Tried.the-variants.{Found, NotFound}
 use Rattle.items.proofs.Mapped.{mapped-ok, mapped-lost, mapped-value, mapped-none}
-use Rattle.items.proofs.Locality.{deep-step-consumes}
+use Rattle.items.proofs.Locality.{close-moves, deep-step-consumes}
 use Rattle.items.proofs.RecordWords.{Elementwise, word-count-none, word-count-more}
 use Rattle.items.proofs.Braces.{close-took, close-caught}
 use Rattle.items.proofs.counts.Laws.{count-is, count-not}
@@ -176,6 +179,18 @@ module _ (q : ℕ) {b c : ℕ} {u : List ℕ} {d : Doc} (t : Took whitespace0 b 
 
   pub deep-missing : (l : Lost) {l' : Lost} {r : List ℕ} → Rest b u c r → lostReply l ≡ tag 125 c r → l' ≡ furtherLost l q → lostReply l' ≡ deep-close q b u
   deep-missing l z e y = rw y (begin (deep-close q) b u (far-lost l z e))
+
+leaves : {A : Type 0} (b : ℕ) (u : List ℕ) (x : Reply A) → MovesTo 1 0 b u x → Ends b u x
+leaves b u (ok a c r) p = (to-suf (p .0), p .1)
+leaves b u (fail p) q = tt
+leaves b u (stop n p) q = tt
+
+deep-close-on : (q : ℕ) → Onward (deep-close q)
+unfolding deep-close
+deep-close-on q = record { onward = λ b u. leaves b u (deep-close q b u) (close-moves (λ (s p : ℕ). max p s) q 0 b u) }
+
+pub deep-close-took : (q : ℕ) {b n : ℕ} {u r : List ℕ} {a : Step} {c : ℕ} → Rest b u n r → a ≡ Next c → tagReply a n r ≡ deep-close q n r → Took (deep-close q) b u n tt c
+deep-close-took q {b} {n} {u} {r} {a} {c} z e h = took (deep-close-on q) z (told-next (λ c. tt) a c n r (deep-close q n r) e h)
 
 -- the braces around a loop of tries
 module _ {A : Type 0} {records : List A → List Record} (f : ℕ → Parser (TriedOf A)) {b : ℕ} {u : List ℕ} where

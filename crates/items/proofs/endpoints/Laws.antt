@@ -1,6 +1,6 @@
 -- Laws of names behind keywords, device types, defaults and instances of attributes.
 use mathlib.Core.Path.{_≡_, refl, sym, ap, _∙_, subst}
-use mathlib.Core.List.{List, [], _∷_}
+use mathlib.Core.List.{List, [], _∷_, map}
 use mathlib.Core.Bool.{Bool}
 use mathlib.Core.Option.{Option}
 use Prim.Native.Nat.{ℕ, suc, _+_, _-_, _≤_, _<_, max}
@@ -25,8 +25,8 @@ use Rattle.lexing.proofs.Locality.{chain-opt, chain-then}
 use Rattle.lexing.proofs.TokenLocality.{whitespace1-chain}
 use Rattle.lexing.proofs.Slicing.{Took, took, walks, rebase, begin, on, told-next, step-lost, integer-lost, or-next}
 use Rattle.items.specs.clusters.{mapped}
-use Rattle.items.specs.endpoints.{name-behind, device-version, Default as DefaultOf, number, signed-number, text, value-tries, default-attribute-value, attribute-handling-type, AttributeInstance as AttributeInstanceOf, attribute-instantiation, named-after, attribute-instance, command-instance, event-instance, instance-tries}
-use Rattle.items.specs.records.{plain, each, instance-record}
+use Rattle.items.specs.endpoints.{name-behind, device-version, Default as DefaultOf, number, signed-number, text, value-tries, default-attribute-value, attribute-handling-type, AttributeInstance as AttributeInstanceOf, attribute-instantiation, named-after, attribute-instance, command-instance, event-instance, instance-tries, deep-run, deep-braces, instantiation, instantiation-head, cluster-instantiation}
+use Rattle.items.specs.records.{word-extent, plain, each, instance-record, part-records}
 use Rattle.items.specs.layout.{layout-20, record-words, catalogue-words, word-count}
 use Rattle.items.specs.answers.{NameIn, wordBetween}
 use Rattle.items.specs.answers.endpoints.{NamedTo, valueOf, valueLost, valueAnswer, ValueIn, ValueTo, DefaultIn, optionalValue, OptionalTo}
@@ -38,11 +38,12 @@ use Rattle.items.specs.declared.endpoints.ValueRead.the-variants.{Read, 
 use Rattle.items.specs.declared.endpoints.Default.{Default}
 use Rattle.items.specs.declared.endpoints.Default.the-variants.{Absent, Present}
 use Rattle.items.specs.declared.endpoints.DefaultRead.{DefaultRead}
-use Rattle.items.proofs.Locality.{name-behind-local, device-version-local, value-tries-local, default-attribute-value-local, attribute-handling-type-local, attribute-instantiation-inside, named-after-local, instance-tries-inside}
+use Rattle.items.proofs.Locality.{name-behind-local, device-version-local, value-tries-local, default-attribute-value-local, attribute-handling-type-local, attribute-instantiation-inside, named-after-local, instance-tries-inside, instance-tries-consumes, deep-run-inside, instances-local, instantiation-head-local}
 use Rattle.items.proofs.Mapped.{mapped-ok, mapped-lost}
 use Rattle.items.proofs.Answers.{read-within, read-took, last-lost}
 use Rattle.items.proofs.WordBetween.{word-moved}
 use Rattle.items.proofs.optional.Laws.{opt-ok, opt-fail, opt-stop}
+use Rattle.items.proofs.Headed.{Headed}
 use Rattle.items.proofs.endpoints.Places.{integer-place, signed-place, StringPlace, string-place}
 
 pub name-behind-on : (k j : List ℕ) → Onward (name-behind k j)
@@ -207,3 +208,23 @@ command-words n = refl
 pub event-words : (n : Word) → word-count (instance-record (event-instance n) ∷ []) ≡ 1
 unfolding word-count catalogue-words each record-words layout-20 instance-record plain
 event-words n = refl
+
+-- a cluster instantiation: one word, and those of its instances
+pub instances-run-on : Onward (deep-run instance-tries)
+instances-run-on = walks (deep-run-inside instance-tries-inside instance-tries-consumes .on-chain)
+
+pub instances-on : Onward (deep-braces instance-tries)
+instances-on = walks (instances-local .on-chain)
+
+pub instantiation-head-on : Onward instantiation-head
+instantiation-head-on = walks (instantiation-head-local .on-chain)
+
+pub instantiation-headed : Headed {I = Unit {0}} (λ i. cluster-instantiation) (λ i x. part-records (instantiation x)) instantiation-head (deep-braces instance-tries) (map instance-record) 1
+unfolding cluster-instantiation word-count catalogue-words each record-words layout-20 part-records plain
+instantiation-headed = record {
+  make = λ i n l. record { name = n; instances = l };
+  first = λ i n l. plain 13 0 [] (word-extent n) [];
+  reads = λ i. refl;
+  hands = λ i n l. refl;
+  size = λ i n l. refl;
+}
