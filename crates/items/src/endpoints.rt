@@ -5,12 +5,13 @@ ghost use Prim.Native.Nat.{_+_, _≤_, max};
 ghost use lib.ListN.{length};
 ghost use Rattle.lexing.specs.answers.{tagReply, numberReply};
 ghost use Rattle.items.specs.layout.{text-limit};
-ghost use Rattle.items.specs.records.{instance-record, part-records};
-ghost use Rattle.items.specs.endpoints.{name-behind, named-after, device-version, value-tries, default-attribute-value, deep-run, deep-braces, instance-tries, instantiation, instantiation-head, cluster-instantiation};
+ghost use Rattle.items.specs.records.{each, instance-record, part-records, endpoint-records};
+ghost use Rattle.items.specs.endpoints.{name-behind, named-after, device-version, value-tries, default-attribute-value, deep-run, deep-braces, instance-tries, instantiation, instantiation-head, cluster-instantiation, part-tries, endpoint-head, endpoint};
 ghost use Rattle.items.specs.answers.{CountTo};
 ghost use Rattle.items.specs.answers.endpoints.{NamedTo, namedLost, DeviceTypeTo, deviceTypeLost, HandlingTo, handlingLost, ValueTo, valueLost, optionalValue, DefaultTo, defaultLost, AttributeInstanceTo, attributeInstanceLost, triedLost, TriedTo, DeepTo};
-ghost use Rattle.items.specs.inner.endpoints.{furtherLost, triedEnd, deep-close};
+ghost use Rattle.items.specs.inner.endpoints.{furtherLost, triedEnd, deep-close, blank-binding};
 use crate::counts::Count;
+use crate::counts::count_lost;
 use lexing::answers::Lost;
 use lexing::answers::Step;
 use lexing::answers::step_lost;
@@ -565,4 +566,127 @@ pub fn cluster_instantiation(part: &[u8], base: usize) -> Count
         return run;
     };
     Count::Words(n + 1, c2)
+}
+
+// A binding, which may stand behind blanks.
+fn blank_binding(part: &[u8], base: usize) -> Named
+    requires { ⌜ base + length (now part) ≤ text-limit ⌝ }
+    ensures { λ r. ⌜ NamedTo blank-binding r base (now (part .entry)) ⌝ }
+{
+    let w = whitespace0(part, base);
+    let c1 = w.next;
+    let named = named_after(rest_at(part, base, c1), c1, b"binding", b"cluster");
+    let Named::Name(name, end, c2) = named else {
+        return Named::NoName(named_lost(named));
+    };
+    Named::Name(name, end, c2)
+}
+
+// The tries for a part of an endpoint, after the furthest place so far: a device type takes three words, a binding one.
+fn part_tries(part: &[u8], base: usize, q: usize) -> Tried
+    requires { ⌜ base + length (now part) ≤ text-limit ⌝ }
+    ensures { λ r. ⌜ TriedTo part-records (part-tries q) r base (now (part .entry)) ⌝ }
+{
+    let device = device_type(part, base);
+    if let DeviceTypeRead::DeviceType(_, c) = device {
+        return Tried::Found(3, c, q);
+    }
+    let first = further(device_type_lost(device), q);
+    let Lost::Fail(q1) = first else {
+        return Tried::NotFound(first);
+    };
+    let binding = blank_binding(part, base);
+    if let Named::Name(_, _, c) = binding {
+        return Tried::Found(1, c, q1);
+    }
+    let second = further(named_lost(binding), q1);
+    let Lost::Fail(q2) = second else {
+        return Tried::NotFound(second);
+    };
+    let instantiation = cluster_instantiation(part, base);
+    if let Count::Words(n, c) = instantiation {
+        return Tried::Found(n, c, q2);
+    }
+    Tried::NotFound(further(count_lost(instantiation), q2))
+}
+
+// The first pass over the parts of an endpoint.
+fn count_parts(part: &[u8], base: usize) -> Tried
+    requires { ⌜ base + length (now part) ≤ text-limit ⌝ }
+    ensures { λ r. ⌜ DeepTo (each part-records) (deep-run part-tries) r base (now (part .entry)) ⌝ }
+{
+    let mut c = base;
+    let mut n = 0;
+    let mut q = base;
+    loop {
+        let w = whitespace0(rest_at(part, base, c), c);
+        let start = w.next;
+        let r = part_tries(rest_at(part, base, start), start, q);
+        let Tried::Found(k, next, far) = r else {
+            return tried_end(further(tried_lost(r), q), n, c);
+        };
+        c = next;
+        n += k;
+        q = far;
+    }
+}
+
+// The first pass over the parts between braces.
+fn parts(part: &[u8], base: usize) -> Count
+    requires { ⌜ base + length (now part) ≤ text-limit ⌝ }
+    ensures { λ r. ⌜ CountTo (each part-records) (deep-braces part-tries) r base (now (part .entry)) ⌝ }
+{
+    let brace = tag(part, base, b'{');
+    let Step::Next(c1) = brace else {
+        return Count::NoCount(step_lost(brace));
+    };
+    let run = count_parts(rest_at(part, base, c1), c1);
+    let Tried::Found(n, c2, q) = run else {
+        return Count::NoCount(tried_lost(run));
+    };
+    let close = deep_close(rest_at(part, base, c2), c2, q);
+    let Step::Next(c3) = close else {
+        return Count::NoCount(step_lost(close));
+    };
+    Count::Words(n, c3)
+}
+
+// An endpoint up to its parts: its number.
+pub fn endpoint_head(part: &[u8], base: usize) -> Number
+    requires { ⌜ base + length (now part) ≤ text-limit ⌝ }
+    ensures { λ r. ⌜ numberReply r base (now (part .entry)) ≡ endpoint-head base (now (part .entry)) ⌝ }
+{
+    let w1 = whitespace0(part, base);
+    let c1 = w1.next;
+    let key = keyword(rest_at(part, base, c1), c1, b"endpoint");
+    let Step::Next(c2) = key else {
+        return Number::NoNumber(step_lost(key));
+    };
+    let gap = whitespace1(rest_at(part, base, c2), c2);
+    let Gap::Passed(w2) = gap else {
+        return Number::NoNumber(gap_lost(gap));
+    };
+    let c3 = w2.next;
+    let number = positive_integer(rest_at(part, base, c3), c3);
+    let Number::Value(id, c4) = number else {
+        return Number::NoNumber(number_lost(number));
+    };
+    let w3 = whitespace0(rest_at(part, base, c4), c4);
+    Number::Value(id, w3.next)
+}
+
+// The first pass over an endpoint: two words, and those of its parts.
+pub fn endpoint(part: &[u8], base: usize) -> Count
+    requires { ⌜ base + length (now part) ≤ text-limit ⌝ }
+    ensures { λ r. ⌜ CountTo endpoint-records endpoint r base (now (part .entry)) ⌝ }
+{
+    let head = endpoint_head(part, base);
+    let Number::Value(_, c1) = head else {
+        return Count::NoCount(number_lost(head));
+    };
+    let run = parts(rest_at(part, base, c1), c1);
+    let Count::Words(n, c2) = run else {
+        return run;
+    };
+    Count::Words(n + 2, c2)
 }

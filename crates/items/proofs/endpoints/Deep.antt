@@ -120,10 +120,15 @@ module _ {A B : Type 0} (g : A → B) {m : Parser A} {b : ℕ} {u : List ℕ} {a
   pub try-here : (q : ℕ) (k : ℕ → Parser (TriedOf B)) → ok (record { furthest = q; found = g a }) c (drop (c - b) u) ≡ intercept q (mapped m g) k b u
   try-here q k = intercept-found q (mapped m g) k b u (g a) c (drop (c - b) u) (mapped-ok m g b u a c (drop (c - b) u) (begin m b u (sym (t .goes))))
 
+  -- where it always takes so many words
   pub try-is : Consumes m → (one : B → List Record) {f : Parser (TriedOf B)} {n q : ℕ} → word-count (one (g a)) ≡ n → n ≤ 8 → ok (record { furthest = q; found = g a }) c (drop (c - b) u) ≡ f b u → TriedTo one f (Found n c q) b u
   try-is w one {n = n} {q = q} s h e =
       let b≤b : b ≤ b = omega arith in
       weighed-is (record { furthest = q; found = g a }) n c q b u s refl (omega (arith, h, further-on w b≤b t)) e
+
+  -- where its words are counted
+  pub try-counts : (one : B → List Record) {f : Parser (TriedOf B)} {n q : ℕ} → word-count (one (g a)) ≡ n → n ≤ 8 * (c - b) → ok (record { furthest = q; found = g a }) c (drop (c - b) u) ≡ f b u → TriedTo one f (Found n c q) b u
+  try-counts one {n = n} {q = q} s h e = weighed-is (record { furthest = q; found = g a }) n c q b u s refl h e
 
 -- a loop of tries that counts
 pub record Seeking {A : Type 0} (records : List A → List Record) (f : ℕ → Parser (TriedOf A)) (b : ℕ) (u : List ℕ) (c n q : ℕ) : Type 0 where

@@ -21,12 +21,13 @@ use Rattle.lexing.specs.declared.integers.Number.the-variants.{Value, NoNumber}
 use Rattle.lexing.specs.declared.integers.SignedNumber.{SignedNumber}
 use Rattle.lexing.specs.declared.integers.SignedNumber.the-variants.{Sized, NoSigned}
 use Rattle.lexing.proofs.Onward.{Onward}
-use Rattle.lexing.proofs.Locality.{chain-opt, chain-then}
-use Rattle.lexing.proofs.TokenLocality.{whitespace1-chain}
+use Rattle.lexing.proofs.Locality.{Consumes, chain-opt, chain-then, consumes-then-right}
+use Rattle.lexing.proofs.TokenLocality.{whitespace0-chain, whitespace1-chain}
 use Rattle.lexing.proofs.Slicing.{Took, took, walks, rebase, begin, on, told-next, step-lost, integer-lost, or-next}
 use Rattle.items.specs.clusters.{mapped}
-use Rattle.items.specs.endpoints.{name-behind, device-version, Default as DefaultOf, number, signed-number, text, value-tries, default-attribute-value, attribute-handling-type, AttributeInstance as AttributeInstanceOf, attribute-instantiation, named-after, attribute-instance, command-instance, event-instance, instance-tries, deep-run, deep-braces, instantiation, instantiation-head, cluster-instantiation}
-use Rattle.items.specs.records.{word-extent, plain, each, instance-record, part-records}
+use Rattle.items.specs.endpoints.{name-behind, device-version, Default as DefaultOf, number, signed-number, text, value-tries, default-attribute-value, attribute-handling-type, AttributeInstance as AttributeInstanceOf, attribute-instantiation, named-after, attribute-instance, command-instance, event-instance, instance-tries, deep-run, deep-braces, DeviceType as DeviceTypeOf, device-type, device, binding, instantiation, instantiation-head, cluster-instantiation, part-tries, endpoint-head, endpoint}
+use Rattle.items.specs.records.{absent, value, word-extent, plain, each, instance-record, part-records, endpoint-records}
+use Rattle.items.specs.inner.endpoints.{blank-binding}
 use Rattle.items.specs.layout.{layout-20, record-words, catalogue-words, word-count}
 use Rattle.items.specs.answers.{NameIn, wordBetween}
 use Rattle.items.specs.answers.endpoints.{NamedTo, valueOf, valueLost, valueAnswer, ValueIn, ValueTo, DefaultIn, optionalValue, OptionalTo}
@@ -38,7 +39,7 @@ use Rattle.items.specs.declared.endpoints.ValueRead.the-variants.{Read, 
 use Rattle.items.specs.declared.endpoints.Default.{Default}
 use Rattle.items.specs.declared.endpoints.Default.the-variants.{Absent, Present}
 use Rattle.items.specs.declared.endpoints.DefaultRead.{DefaultRead}
-use Rattle.items.proofs.Locality.{name-behind-local, device-version-local, value-tries-local, default-attribute-value-local, attribute-handling-type-local, attribute-instantiation-inside, named-after-local, instance-tries-inside, instance-tries-consumes, deep-run-inside, instances-local, instantiation-head-local}
+use Rattle.items.proofs.Locality.{name-behind-local, device-version-local, value-tries-local, default-attribute-value-local, attribute-handling-type-local, attribute-instantiation-inside, named-after-local, named-after-consumes, instance-tries-inside, instance-tries-consumes, deep-run-inside, instances-local, instantiation-head-local, device-type-inside, cluster-instantiation-inside, part-tries-inside, part-tries-consumes, parts-local, endpoint-head-local}
 use Rattle.items.proofs.Mapped.{mapped-ok, mapped-lost}
 use Rattle.items.proofs.Answers.{read-within, read-took, last-lost}
 use Rattle.items.proofs.WordBetween.{word-moved}
@@ -224,6 +225,52 @@ unfolding cluster-instantiation word-count catalogue-words each record-words lay
 instantiation-headed = record {
   make = λ i n l. record { name = n; instances = l };
   first = λ i n l. plain 13 0 [] (word-extent n) [];
+  reads = λ i. refl;
+  hands = λ i n l. refl;
+  size = λ i n l. refl;
+}
+
+-- the tries of a part, and the words that each takes
+pub device-type-on : Onward device-type
+device-type-on = walks (device-type-inside .on-chain)
+
+pub blank-binding-on : Onward blank-binding
+unfolding blank-binding
+blank-binding-on = walks (chain-then whitespace0-chain (named-after-local _ _ .on-chain))
+
+pub blank-binding-consumes : Consumes blank-binding
+unfolding blank-binding
+blank-binding-consumes = consumes-then-right whitespace0-chain (named-after-consumes _ _)
+
+pub cluster-instantiation-on : Onward cluster-instantiation
+cluster-instantiation-on = walks (cluster-instantiation-inside .on-chain)
+
+pub part-tries-on : (q : ℕ) → Onward (part-tries q)
+part-tries-on q = walks (part-tries-inside q .on-chain)
+
+pub device-words : (t : DeviceTypeOf) → word-count (part-records (device t)) ≡ 3
+unfolding word-count catalogue-words each record-words layout-20 part-records plain
+device-words t = refl
+
+pub binding-words : (n : Word) → word-count (part-records (binding n)) ≡ 1
+unfolding word-count catalogue-words each record-words layout-20 part-records plain
+binding-words n = refl
+
+-- an endpoint: two words, and those of its parts
+pub parts-run-on : Onward (deep-run part-tries)
+parts-run-on = walks (deep-run-inside part-tries-inside part-tries-consumes .on-chain)
+
+pub parts-on : Onward (deep-braces part-tries)
+parts-on = walks (parts-local .on-chain)
+
+pub endpoint-head-on : Onward endpoint-head
+endpoint-head-on = walks (endpoint-head-local .on-chain)
+
+pub endpoint-headed : Headed {I = Unit {0}} (λ i. endpoint) (λ i. endpoint-records) endpoint-head (deep-braces part-tries) (each part-records) 2
+unfolding endpoint word-count catalogue-words each record-words layout-20 endpoint-records plain
+endpoint-headed = record {
+  make = λ i n l. record { id = n; parts = l };
+  first = λ i n l. plain 10 0 [] absent (value n ∷ []);
   reads = λ i. refl;
   hands = λ i n l. refl;
   size = λ i n l. refl;
