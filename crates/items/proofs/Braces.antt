@@ -19,6 +19,11 @@ use Rattle.items.specs.answers.{Room, Written}
 use Rattle.items.specs.declared.writing.Wrote.{Wrote}
 use Rattle.items.proofs.writing.Laws.{no-room, written-took}
 
+-- what is lost, where a failure is caught
+abbrev pub caught : {A : Type 0} → (ℕ → Parser A) → Lost → Parser A
+caught h (Fail p) b u = h p b u
+caught h (Stop n p) b u = stop n p
+
 -- the closing brace
 module _ {b n : ℕ} {u : List ℕ} {d : Doc} {c : ℕ} (t : Took whitespace0 b u n d c) where
   pub close-took : (h : ℕ → Parser (Unit {0})) {e : ℕ} → Took (tag 125) b u c tt e → Took (catch (whitespace0 >> tag 125) h) b u n tt e
@@ -27,14 +32,20 @@ module _ {b n : ℕ} {u : List ℕ} {d : Doc} {c : ℕ} (t : Took whitespace0 b 
       let q : ok tt e (drop (e - b) u) ≡ (whitespace0 >> tag 125) n (drop (n - b) u) = on (tag 125) t (sym (s .goes)) in
       record { goes = rw (sym q, catch) refl; up = omega (arith, t .up, s .up); inside = s .inside }
 
-  pub close-lost : {S : Type 0} (x : S) (l : Lost) {r : List ℕ} → Rest b u c r → lostReply l ≡ tag 125 c r → lostReply l ≡ catch (whitespace0 >> tag 125) (λ p. failAt (where-missing x p)) n (drop (n - b) u)
-  unfolding catch failAt where-missing
-  close-lost x (Fail p) {r} z e =
+  -- lost, by what is done where it fails
+  pub close-caught : (h : ℕ → Parser (Unit {0})) (l : Lost) {r : List ℕ} → Rest b u c r → lostReply l ≡ tag 125 c r → caught h l n (drop (n - b) u) ≡ catch (whitespace0 >> tag 125) h n (drop (n - b) u)
+  unfolding catch
+  close-caught h (Fail p) {r} z e =
       let q : fail p ≡ (whitespace0 >> tag 125) n (drop (n - b) u) = on (tag 125) t (e ∙ ap (tag 125 c) (z .same)) in
       rw (sym q, catch) refl
-  close-lost x (Stop i p) {r} z e =
+  close-caught h (Stop i p) {r} z e =
       let q : stop i p ≡ (whitespace0 >> tag 125) n (drop (n - b) u) = on (tag 125) t (e ∙ ap (tag 125 c) (z .same)) in
       rw (sym q, catch) refl
+
+  close-lost : {S : Type 0} (x : S) (l : Lost) {r : List ℕ} → Rest b u c r → lostReply l ≡ tag 125 c r → lostReply l ≡ catch (whitespace0 >> tag 125) (λ p. failAt (where-missing x p)) n (drop (n - b) u)
+  unfolding failAt where-missing
+  close-lost x (Fail p) z e = close-caught (λ p. failAt (where-missing x p)) (Fail p) z e
+  close-lost x (Stop i p) z e = close-caught (λ p. failAt (where-missing x p)) (Stop i p) z e
 
 module _ {A : Type 0} (m : Parser A) (b : ℕ) (u : List ℕ) where
   -- no opening brace

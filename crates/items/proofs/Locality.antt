@@ -22,7 +22,7 @@ use Rattle.items.specs.entries.{enclosed, where-missing, braces, api-mat
 use Rattle.items.specs.structs.{max-length, list-marker, parse-field, parse-struct-field, closed-field, fields-run, struct-fields, response-code, struct-kind, struct-type-of, struct-head, parse-struct-after-doc-maturity}
 use Rattle.items.specs.members.{access-privilege, event-priority, access-to, event-qualities, event-head, parse-event-after-doc-maturity, command-head, command-types, parse-command-after-doc-maturity, Access, access-entry, comma, separated-list0, access-list, Privileges, granted-by, default-privileges, listed, attribute-access, parse-attribute-after-doc-maturity}
 use Rattle.items.specs.clusters.{mapped, parse-revision, member-tries, parse-cluster-member, cluster-members, side, cluster-head, parse-cluster}
-use Rattle.items.specs.endpoints.{Tried, Deep, intercept, deep-step, deeper, deep-run, deep-place, deep-braces, name-behind, device-version, device-type, value-tries, default-attribute-value, attribute-handling-type, attribute-instantiation, named-after, instance-tries, cluster-instantiation, part-tries, endpoint}
+use Rattle.items.specs.endpoints.{Tried, Deep, intercept, deep-step, deeper, deep-run, deep-place, deep-braces, name-behind, device-version, device-type, value-tries, default-attribute-value, attribute-handling-type, attribute-instantiation, named-after, instance-tries, instantiation-head, cluster-instantiation, part-tries, endpoint-head, endpoint}
 use Rattle.items.specs.items.{with-doc-maturity, item}
 
 -- tags: } and { change the depth, the others are a table
@@ -108,7 +108,7 @@ ext-bind {A} m f i j b u s p h v = go (m b u) refl p
     go (stop n q) e p = rw (h, e, _>>=_)
 
 module _ {S : Type 0} (g : S → ℕ → ℕ) where
-  close-moves : (s : S) (k b : ℕ) (u : List ℕ) → MovesTo (suc k) k b u (catch (whitespace0 >> tag 125) (λ p. failAt (g s p)) b u)
+  pub close-moves : (s : S) (k b : ℕ) (u : List ℕ) → MovesTo (suc k) k b u (catch (whitespace0 >> tag 125) (λ p. failAt (g s p)) b u)
   unfolding catch _>>_ failAt
   close-moves s k b u = go ((whitespace0 >> tag 125) b u) refl (moves-bind whitespace0 _ (suc k) (suc k) k b u (whitespace0-chain .chain (suc k) b u) λ d c r. close-at k c r)
     where
@@ -619,13 +619,24 @@ pub instance-tries-consumes : (q : ℕ) → Consumes (instance-tries q)
 unfolding instance-tries
 instance-tries-consumes q = search (intercept-consumes, mapped-consumes, attribute-instantiation-consumes, named-after-consumes, consumes-fail) depth 12
 
+pub instantiation-head-local : Local instantiation-head
+unfolding instantiation-head
+instantiation-head-local = search (local-rules, keeps-rules, name-behind-local, name-behind-keeps) depth 12
+
+pub instantiation-head-consumes : Consumes instantiation-head
+unfolding instantiation-head
+instantiation-head-consumes = search (consumes-rules, chain-rules, name-behind-consumes) depth 12
+
+pub instances-local : Local (deep-braces instance-tries)
+instances-local = deep-braces-local instance-tries-inside instance-tries-consumes
+
 pub cluster-instantiation-inside : LocalInside cluster-instantiation
 unfolding cluster-instantiation
-cluster-instantiation-inside = search (inside-rules, token-rules, name-behind-local, deep-braces-local, instance-tries-inside, instance-tries-consumes) depth 24
+cluster-instantiation-inside = search (inside-rules, token-rules, instantiation-head-local, instances-local) depth 12
 
 pub cluster-instantiation-consumes : Consumes cluster-instantiation
 unfolding cluster-instantiation
-cluster-instantiation-consumes = search (consumes-rules, chain-rules, chain-inside, punct-local, name-behind-consumes, deep-braces-local, instance-tries-inside, instance-tries-consumes) depth 24
+cluster-instantiation-consumes = search (consumes-rules, chain-rules, instantiation-head-consumes, instances-local) depth 12
 
 pub part-tries-inside : (q : ℕ) → LocalInside (part-tries q)
 unfolding part-tries
@@ -635,13 +646,28 @@ pub part-tries-consumes : (q : ℕ) → Consumes (part-tries q)
 unfolding part-tries
 part-tries-consumes q = search (intercept-consumes, mapped-consumes, device-type-consumes, cluster-instantiation-consumes, consumes-then-right, whitespace0-chain, named-after-consumes, consumes-fail) depth 12
 
+pub endpoint-head-keeps : KeepsCut endpoint-head
+unfolding endpoint-head
+endpoint-head-keeps = search (keeps-rules) depth 16
+
+pub endpoint-head-local : Local endpoint-head
+unfolding endpoint-head
+endpoint-head-local = search (local-rules, keeps-rules) depth 16
+
+pub endpoint-head-consumes : Consumes endpoint-head
+unfolding endpoint-head
+endpoint-head-consumes = search (consumes-rules, chain-rules) depth 16
+
+pub parts-local : Local (deep-braces part-tries)
+parts-local = deep-braces-local part-tries-inside part-tries-consumes
+
 pub endpoint-local : Local endpoint
 unfolding endpoint
-endpoint-local = search (local-rules, keeps-rules, deep-braces-local, part-tries-inside, part-tries-consumes, local-last, blind-ret) depth 16
+endpoint-local = search (local-rules, keeps-rules, endpoint-head-local, endpoint-head-keeps, parts-local, local-last, blind-ret) depth 12
 
 pub endpoint-consumes : Consumes endpoint
 unfolding endpoint
-endpoint-consumes = search (consumes-rules, chain-rules, deep-braces-local, part-tries-inside, part-tries-consumes) depth 16
+endpoint-consumes = search (consumes-rules, chain-rules, endpoint-head-consumes, parts-local) depth 12
 
 -- items
 module _ {A : Type 0} {f : Doc → ℕ → Parser A} where

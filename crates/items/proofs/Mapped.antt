@@ -58,6 +58,9 @@ took-as {A} {B} {f} {m} w {b} {n} {u} {r} {v} {c} q e =
     record { value = s .0; is = s .1 .0; step = took w q (s .1 .1) }
 
 module _ {A B : Type 0} (f : A → B) (m : Parser A) (b : ℕ) (u : List ℕ) where
+  pub value-as : (v : B) (c : ℕ) (r : List ℕ) → ok v c r ≡ mapped m f b u → (a : A) × ((f a ≡ v) × (ok a c r ≡ m b u))
+  value-as v c r e = value-of f (m b u) v c r (e ∙ mapped-is f m b u)
+
   pub lost-as : (l : Lost) → lostReply l ≡ mapped m f b u → lostReply l ≡ m b u
   lost-as l e = lost-of f l (m b u) (e ∙ mapped-is f m b u)
 

@@ -14,7 +14,7 @@ use Rattle.items.specs.entries.{present, enclosed, where-missing, braces
 use Rattle.items.specs.structs.{Field, max-length, list-marker, parse-field, StructField, parse-struct-field, closed-field, fields-run, struct-fields, Struct, response-code, struct-kind, struct-type-of, StructHead, struct-head, parse-struct-after-doc-maturity}
 use Rattle.items.specs.members.{access-privilege, event-priority, Event, access-to, event-qualities, EventHead, event-head, parse-event-after-doc-maturity, Command, CommandHead, command-head, CommandTypes, command-types, parse-command-after-doc-maturity, Access, access-entry, comma, separated-list0, access-list, Privileges, granted-by, default-privileges, listed, attribute-access, Attribute, parse-attribute-after-doc-maturity}
 use Rattle.items.specs.clusters.{Member, revision, bitmap, enum, struct, attribute, command, event, mapped, parse-revision, member-tries, parse-cluster-member, cluster-members, Cluster, side, ClusterHead, cluster-head, parse-cluster}
-use Rattle.items.specs.endpoints.{Tried, Deep, intercept, deep-step, deeper, deep-run, deep-place, deep-braces, DeviceType, name-behind, device-version, device-type, Default, number, signed-number, truth, text, value-tries, default-attribute-value, attribute-handling-type, AttributeInstance, attribute-instantiation, named-after, Instance, attribute-instance, command-instance, event-instance, instance-tries, Instantiation, cluster-instantiation, Part, device, binding, instantiation, part-tries, Endpoint, endpoint}
+use Rattle.items.specs.endpoints.{Tried, Deep, intercept, deep-step, deeper, deep-run, deep-place, deep-braces, DeviceType, name-behind, device-version, device-type, Default, number, signed-number, truth, text, value-tries, default-attribute-value, attribute-handling-type, AttributeInstance, attribute-instantiation, named-after, Instance, attribute-instance, command-instance, event-instance, instance-tries, Instantiation, instantiation-head, cluster-instantiation, Part, device, binding, instantiation, part-tries, Endpoint, endpoint-head, endpoint}
 use Rattle.items.specs.items.{Item, cluster-item, endpoint-item, enum-item, bitmap-item, struct-item, blank-item, with-doc-maturity, item}
 
 -- values, with their offsets moved
@@ -533,9 +533,13 @@ module _ (d : ℕ) where
       λ q' q e. shift-intercept q' q e (shift-mapped _ _ (λ n. refl) (shift-named-after _ _))
       λ q' q e. shift-fail d q' q e
 
+  pub shift-instantiation-head : Shifts d (shiftWord d) instantiation-head instantiation-head
+  unfolding instantiation-head
+  shift-instantiation-head = ws0 ▹ shift-name-behind _ _ ▸ λ n' n en. ws0 ▹ shift-ret d _ _ en
+
   pub shift-cluster-instantiation : Shifts d (shiftInstantiation d) cluster-instantiation cluster-instantiation
   unfolding cluster-instantiation shiftInstantiation
-  shift-cluster-instantiation = ws0 ▹ shift-name-behind _ _ ▸ λ n' n en. ws0 ▹ shift-deep-braces instance-tries shift-instance-tries ▸ λ l' l el. shift-ret d _ _ (rw (en, el))
+  shift-cluster-instantiation = shift-instantiation-head ▸ λ n' n en. shift-deep-braces instance-tries shift-instance-tries ▸ λ l' l el. shift-ret d _ _ (rw (en, el))
 
   pub shift-part-tries : ShiftsTries d (shiftPart d) part-tries part-tries
   unfolding part-tries shiftPart
@@ -545,9 +549,13 @@ module _ (d : ℕ) where
       λ q' q e. shift-intercept q' q e (shift-mapped _ _ (λ i. refl) shift-cluster-instantiation)
       λ q' q e. shift-fail d q' q e
 
+  pub shift-endpoint-head : Shifts d still endpoint-head endpoint-head
+  unfolding endpoint-head
+  shift-endpoint-head = ws0 ▹ key _ ▹ ws1 ▹ int ▸ λ n' n en. ws0 ▹ shift-ret d _ _ en
+
   pub shift-endpoint : Shifts d (shiftEndpoint d) endpoint endpoint
   unfolding endpoint shiftEndpoint still
-  shift-endpoint = ws0 ▹ key _ ▹ ws1 ▹ int ▸ λ n' n en. ws0 ▹ shift-deep-braces part-tries shift-part-tries ▸ λ l' l el. shift-ret d _ _ (rw (en, el))
+  shift-endpoint = shift-endpoint-head ▸ λ n' n en. shift-deep-braces part-tries shift-part-tries ▸ λ l' l el. shift-ret d _ _ (rw (en, el))
 
   -- items
   pub shift-with-doc-maturity : {A : Type 0} {f : A → A} (h : Doc → ℕ → Parser A) → ShiftsAfter d f h → Shifts d f (with-doc-maturity h) (with-doc-maturity h)

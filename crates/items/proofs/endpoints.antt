@@ -1,3 +1,4 @@
 -- Laws of the readers of endpoints.
 pub mod Places
+pub mod Deep
 pub mod Laws

@@ -152,11 +152,17 @@ pub record Instantiation : Type 0 where
   pub name : Word
   pub instances : List Instance
 
-unfoldable pub cluster-instantiation : Parser Instantiation
-cluster-instantiation = do
+-- a cluster instantiation up to its instances
+unfoldable pub instantiation-head : Parser Word
+instantiation-head = do
   whitespace0
   n ← name-behind (ascii "server") (ascii "cluster")
   whitespace0
+  ret n
+
+unfoldable pub cluster-instantiation : Parser Instantiation
+cluster-instantiation = do
+  n ← instantiation-head
   l ← deep-braces instance-tries
   ret (record { name = n; instances = l })
 
@@ -177,12 +183,18 @@ pub record Endpoint : Type 0 where
   pub id : ℕ
   pub parts : List Part
 
-unfoldable pub endpoint : Parser Endpoint
-endpoint = do
+-- an endpoint up to its parts
+unfoldable pub endpoint-head : Parser ℕ
+endpoint-head = do
   whitespace0
   keyword (ascii "endpoint")
   whitespace1
   n ← positive-integer
   whitespace0
+  ret n
+
+unfoldable pub endpoint : Parser Endpoint
+endpoint = do
+  n ← endpoint-head
   l ← deep-braces part-tries
   ret (record { id = n; parts = l })

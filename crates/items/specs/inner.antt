@@ -4,3 +4,4 @@ pub mod structs
 pub mod choices
 pub mod attributes
 pub mod clusters
+pub mod endpoints

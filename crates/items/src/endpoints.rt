@@ -1,11 +1,17 @@
 // What stands in an endpoint: names behind keywords, device types, instances of attributes.
 ghost use mathlib.Core.Path.{_≡_};
-ghost use Prim.Native.Nat.{_+_, _≤_};
+ghost use mathlib.Core.List.{[], _∷_, map};
+ghost use Prim.Native.Nat.{_+_, _≤_, max};
 ghost use lib.ListN.{length};
-ghost use Rattle.lexing.specs.answers.{numberReply};
+ghost use Rattle.lexing.specs.answers.{tagReply, numberReply};
 ghost use Rattle.items.specs.layout.{text-limit};
-ghost use Rattle.items.specs.endpoints.{name-behind, named-after, device-version, value-tries, default-attribute-value};
-ghost use Rattle.items.specs.answers.endpoints.{NamedTo, namedLost, DeviceTypeTo, HandlingTo, handlingLost, ValueTo, valueLost, optionalValue, DefaultTo, defaultLost, AttributeInstanceTo};
+ghost use Rattle.items.specs.records.{each, instance-record, part-records, endpoint-records};
+ghost use Rattle.items.specs.endpoints.{name-behind, named-after, device-version, value-tries, default-attribute-value, deep-run, deep-braces, instance-tries, instantiation, instantiation-head, cluster-instantiation, part-tries, endpoint-head, endpoint};
+ghost use Rattle.items.specs.answers.{CountTo};
+ghost use Rattle.items.specs.answers.endpoints.{NamedTo, namedLost, DeviceTypeTo, deviceTypeLost, HandlingTo, handlingLost, ValueTo, valueLost, optionalValue, DefaultTo, defaultLost, AttributeInstanceTo, attributeInstanceLost, triedLost, TriedTo, DeepTo};
+ghost use Rattle.items.specs.inner.endpoints.{furtherLost, triedEnd, deep-close, blank-binding};
+use crate::counts::Count;
+use crate::counts::count_lost;
 use lexing::answers::Lost;
 use lexing::answers::Step;
 use lexing::answers::step_lost;
@@ -89,6 +95,12 @@ pub struct AttributeInstanceParts {
 pub enum AttributeInstanceRead {
     AttributeInstance(AttributeInstanceParts, usize),
     NoAttributeInstance(Lost),
+}
+
+// What a try between braces found: the words of its records, the offset behind it, and the furthest place of any try so far.
+pub enum Tried {
+    Found(usize, usize, usize),
+    NotFound(Lost),
 }
 
 // Two keywords and the name behind them.
@@ -211,6 +223,15 @@ pub fn device_type(part: &[u8], base: usize) -> DeviceTypeRead
         version,
     };
     DeviceTypeRead::DeviceType(t, c6)
+}
+
+pub fn device_type_lost(r: DeviceTypeRead) -> Lost
+    ensures { λ x. ⌜ x ≡ deviceTypeLost r ⌝ }
+{
+    match r {
+        DeviceTypeRead::DeviceType(_, c) => Lost::Fail(c),
+        DeviceTypeRead::NoDeviceType(l) => l,
+    }
 }
 
 // Where none stands it fails at its start, as each keyword does.
@@ -384,4 +405,288 @@ pub fn attribute_instantiation(part: &[u8], base: usize) -> AttributeInstanceRea
         default,
     };
     AttributeInstanceRead::AttributeInstance(a, c8)
+}
+
+pub fn attribute_instance_lost(r: AttributeInstanceRead) -> Lost
+    ensures { λ x. ⌜ x ≡ attributeInstanceLost r ⌝ }
+{
+    match r {
+        AttributeInstanceRead::AttributeInstance(_, c) => Lost::Fail(c),
+        AttributeInstanceRead::NoAttributeInstance(l) => l,
+    }
+}
+
+pub fn tried_lost(r: Tried) -> Lost
+    ensures { λ x. ⌜ x ≡ triedLost r ⌝ }
+{
+    match r {
+        Tried::Found(_, c, _) => Lost::Fail(c),
+        Tried::NotFound(l) => l,
+    }
+}
+
+fn furthest(p: usize, q: usize) -> usize
+    ensures { λ r. ⌜ r ≡ max p q ⌝ }
+{
+    if p < q {
+        return q;
+    }
+    p
+}
+
+// What is lost, its place no nearer than the furthest so far.
+fn further(l: Lost, q: usize) -> Lost
+    ensures { λ x. ⌜ x ≡ furtherLost l q ⌝ }
+{
+    match l {
+        Lost::Fail(p) => Lost::Fail(furthest(p, q)),
+        Lost::Stop(n, p) => Lost::Stop(n, p),
+    }
+}
+
+// The end of a loop of tries after n words, at an offset: a try that fails ends it at the furthest place, and a stop goes on.
+fn tried_end(l: Lost, n: usize, c: usize) -> Tried
+    ensures { λ x. ⌜ x ≡ triedEnd l n c ⌝ }
+{
+    match l {
+        Lost::Fail(p) => Tried::Found(n, c, p),
+        Lost::Stop(i, p) => Tried::NotFound(Lost::Stop(i, p)),
+    }
+}
+
+// The closing brace behind tries; where it is missing the place is the furthest.
+fn deep_close(part: &[u8], base: usize, q: usize) -> Step
+    requires { ⌜ base + length (now part) ≤ text-limit ⌝ }
+    ensures { λ r. ⌜ tagReply r base (now (part .entry)) ≡ deep-close q base (now (part .entry)) ⌝ }
+{
+    let w = whitespace0(part, base);
+    let c1 = w.next;
+    let close = tag(rest_at(part, base, c1), c1, b'}');
+    let Step::Next(c2) = close else {
+        return Step::Not(further(step_lost(close), q));
+    };
+    Step::Next(c2)
+}
+
+// The tries for an instance, after the furthest place so far: those of attributes take two words, the others one.
+fn instance_tries(part: &[u8], base: usize, q: usize) -> Tried
+    requires { ⌜ base + length (now part) ≤ text-limit ⌝ }
+    ensures { λ r. ⌜ TriedTo (λ i. instance-record i ∷ []) (instance-tries q) r base (now (part .entry)) ⌝ }
+{
+    let attribute = attribute_instantiation(part, base);
+    if let AttributeInstanceRead::AttributeInstance(_, c) = attribute {
+        return Tried::Found(2, c, q);
+    }
+    let first = further(attribute_instance_lost(attribute), q);
+    let Lost::Fail(q1) = first else {
+        return Tried::NotFound(first);
+    };
+    let command = named_after(part, base, b"handle", b"command");
+    if let Named::Name(_, _, c) = command {
+        return Tried::Found(1, c, q1);
+    }
+    let second = further(named_lost(command), q1);
+    let Lost::Fail(q2) = second else {
+        return Tried::NotFound(second);
+    };
+    let event = named_after(part, base, b"emits", b"event");
+    if let Named::Name(_, _, c) = event {
+        return Tried::Found(1, c, q2);
+    }
+    Tried::NotFound(further(named_lost(event), q2))
+}
+
+// The first pass over instances.
+fn count_instances(part: &[u8], base: usize) -> Tried
+    requires { ⌜ base + length (now part) ≤ text-limit ⌝ }
+    ensures { λ r. ⌜ DeepTo (map instance-record) (deep-run instance-tries) r base (now (part .entry)) ⌝ }
+{
+    let mut c = base;
+    let mut n = 0;
+    let mut q = base;
+    loop {
+        let w = whitespace0(rest_at(part, base, c), c);
+        let start = w.next;
+        let r = instance_tries(rest_at(part, base, start), start, q);
+        let Tried::Found(k, next, far) = r else {
+            return tried_end(further(tried_lost(r), q), n, c);
+        };
+        c = next;
+        n += k;
+        q = far;
+    }
+}
+
+// The first pass over the instances between braces.
+fn instances(part: &[u8], base: usize) -> Count
+    requires { ⌜ base + length (now part) ≤ text-limit ⌝ }
+    ensures { λ r. ⌜ CountTo (map instance-record) (deep-braces instance-tries) r base (now (part .entry)) ⌝ }
+{
+    let brace = tag(part, base, b'{');
+    let Step::Next(c1) = brace else {
+        return Count::NoCount(step_lost(brace));
+    };
+    let run = count_instances(rest_at(part, base, c1), c1);
+    let Tried::Found(n, c2, q) = run else {
+        return Count::NoCount(tried_lost(run));
+    };
+    let close = deep_close(rest_at(part, base, c2), c2, q);
+    let Step::Next(c3) = close else {
+        return Count::NoCount(step_lost(close));
+    };
+    Count::Words(n, c3)
+}
+
+// A cluster instantiation up to its instances: its name.
+pub fn instantiation_head(part: &[u8], base: usize) -> Named
+    requires { ⌜ base + length (now part) ≤ text-limit ⌝ }
+    ensures { λ r. ⌜ NamedTo instantiation-head r base (now (part .entry)) ⌝ }
+{
+    let w1 = whitespace0(part, base);
+    let c1 = w1.next;
+    let named = name_behind(rest_at(part, base, c1), c1, b"server", b"cluster");
+    let Named::Name(name, end, c2) = named else {
+        return Named::NoName(named_lost(named));
+    };
+    let w2 = whitespace0(rest_at(part, base, c2), c2);
+    Named::Name(name, end, w2.next)
+}
+
+// The first pass over a cluster instantiation: one word, and those of its instances.
+pub fn cluster_instantiation(part: &[u8], base: usize) -> Count
+    requires { ⌜ base + length (now part) ≤ text-limit ⌝ }
+    ensures { λ r. ⌜ CountTo (λ i. part-records (instantiation i)) cluster-instantiation r base (now (part .entry)) ⌝ }
+{
+    let head = instantiation_head(part, base);
+    let Named::Name(_, _, c1) = head else {
+        return Count::NoCount(named_lost(head));
+    };
+    let run = instances(rest_at(part, base, c1), c1);
+    let Count::Words(n, c2) = run else {
+        return run;
+    };
+    Count::Words(n + 1, c2)
+}
+
+// A binding, which may stand behind blanks.
+fn blank_binding(part: &[u8], base: usize) -> Named
+    requires { ⌜ base + length (now part) ≤ text-limit ⌝ }
+    ensures { λ r. ⌜ NamedTo blank-binding r base (now (part .entry)) ⌝ }
+{
+    let w = whitespace0(part, base);
+    let c1 = w.next;
+    let named = named_after(rest_at(part, base, c1), c1, b"binding", b"cluster");
+    let Named::Name(name, end, c2) = named else {
+        return Named::NoName(named_lost(named));
+    };
+    Named::Name(name, end, c2)
+}
+
+// The tries for a part of an endpoint, after the furthest place so far: a device type takes three words, a binding one.
+fn part_tries(part: &[u8], base: usize, q: usize) -> Tried
+    requires { ⌜ base + length (now part) ≤ text-limit ⌝ }
+    ensures { λ r. ⌜ TriedTo part-records (part-tries q) r base (now (part .entry)) ⌝ }
+{
+    let device = device_type(part, base);
+    if let DeviceTypeRead::DeviceType(_, c) = device {
+        return Tried::Found(3, c, q);
+    }
+    let first = further(device_type_lost(device), q);
+    let Lost::Fail(q1) = first else {
+        return Tried::NotFound(first);
+    };
+    let binding = blank_binding(part, base);
+    if let Named::Name(_, _, c) = binding {
+        return Tried::Found(1, c, q1);
+    }
+    let second = further(named_lost(binding), q1);
+    let Lost::Fail(q2) = second else {
+        return Tried::NotFound(second);
+    };
+    let instantiation = cluster_instantiation(part, base);
+    if let Count::Words(n, c) = instantiation {
+        return Tried::Found(n, c, q2);
+    }
+    Tried::NotFound(further(count_lost(instantiation), q2))
+}
+
+// The first pass over the parts of an endpoint.
+fn count_parts(part: &[u8], base: usize) -> Tried
+    requires { ⌜ base + length (now part) ≤ text-limit ⌝ }
+    ensures { λ r. ⌜ DeepTo (each part-records) (deep-run part-tries) r base (now (part .entry)) ⌝ }
+{
+    let mut c = base;
+    let mut n = 0;
+    let mut q = base;
+    loop {
+        let w = whitespace0(rest_at(part, base, c), c);
+        let start = w.next;
+        let r = part_tries(rest_at(part, base, start), start, q);
+        let Tried::Found(k, next, far) = r else {
+            return tried_end(further(tried_lost(r), q), n, c);
+        };
+        c = next;
+        n += k;
+        q = far;
+    }
+}
+
+// The first pass over the parts between braces.
+fn parts(part: &[u8], base: usize) -> Count
+    requires { ⌜ base + length (now part) ≤ text-limit ⌝ }
+    ensures { λ r. ⌜ CountTo (each part-records) (deep-braces part-tries) r base (now (part .entry)) ⌝ }
+{
+    let brace = tag(part, base, b'{');
+    let Step::Next(c1) = brace else {
+        return Count::NoCount(step_lost(brace));
+    };
+    let run = count_parts(rest_at(part, base, c1), c1);
+    let Tried::Found(n, c2, q) = run else {
+        return Count::NoCount(tried_lost(run));
+    };
+    let close = deep_close(rest_at(part, base, c2), c2, q);
+    let Step::Next(c3) = close else {
+        return Count::NoCount(step_lost(close));
+    };
+    Count::Words(n, c3)
+}
+
+// An endpoint up to its parts: its number.
+pub fn endpoint_head(part: &[u8], base: usize) -> Number
+    requires { ⌜ base + length (now part) ≤ text-limit ⌝ }
+    ensures { λ r. ⌜ numberReply r base (now (part .entry)) ≡ endpoint-head base (now (part .entry)) ⌝ }
+{
+    let w1 = whitespace0(part, base);
+    let c1 = w1.next;
+    let key = keyword(rest_at(part, base, c1), c1, b"endpoint");
+    let Step::Next(c2) = key else {
+        return Number::NoNumber(step_lost(key));
+    };
+    let gap = whitespace1(rest_at(part, base, c2), c2);
+    let Gap::Passed(w2) = gap else {
+        return Number::NoNumber(gap_lost(gap));
+    };
+    let c3 = w2.next;
+    let number = positive_integer(rest_at(part, base, c3), c3);
+    let Number::Value(id, c4) = number else {
+        return Number::NoNumber(number_lost(number));
+    };
+    let w3 = whitespace0(rest_at(part, base, c4), c4);
+    Number::Value(id, w3.next)
+}
+
+// The first pass over an endpoint: two words, and those of its parts.
+pub fn endpoint(part: &[u8], base: usize) -> Count
+    requires { ⌜ base + length (now part) ≤ text-limit ⌝ }
+    ensures { λ r. ⌜ CountTo endpoint-records endpoint r base (now (part .entry)) ⌝ }
+{
+    let head = endpoint_head(part, base);
+    let Number::Value(_, c1) = head else {
+        return Count::NoCount(number_lost(head));
+    };
+    let run = parts(rest_at(part, base, c1), c1);
+    let Count::Words(n, c2) = run else {
+        return run;
+    };
+    Count::Words(n + 2, c2)
 }

@@ -14,7 +14,7 @@ use Rattle.lexing.proofs.Slicing.{Took}
 use Rattle.lexing.proofs.Repetition.{ManyAt, manyEnd, many0-start, many0-step, many0-ends}
 use Rattle.items.specs.records.{Record}
 use Rattle.items.specs.layout.{word-count}
-use Rattle.items.specs.answers.{ReadTo, counted, countEnd, CountTo}
+use Rattle.items.specs.answers.{ReadTo, counted, countLost, countEnd, CountTo}
 use Rattle.items.specs.declared.counts.Count.{Count}
 use Rattle.items.specs.declared.counts.Count.the-variants.{Words, NoCount}
 use Rattle.items.proofs.Answers.{reads-as}
@@ -41,6 +41,10 @@ module _ {A : Type 0} {f : A → List Record} {m : Parser A} where
   pub count-lost : {a : Count} (l : Lost) → a ≡ NoCount l → (n : ℕ) (r : List ℕ) → CountTo f m a n r → lostReply l ≡ m n r
   unfolding counted
   count-lost {a} l e n r h = lost-as (λ x. word-count (f x)) m n r l (told e h .reads)
+
+  -- as `count_lost` answers it
+  pub count-none : {a : Count} {l l' : Lost} → l' ≡ countLost a → a ≡ NoCount l → (n : ℕ) (r : List ℕ) → CountTo f m a n r → lostReply l' ≡ m n r
+  count-none {l = l} e d n r h = ap (λ (x : Lost). lostReply x) (e ∙ ap countLost d) ∙ count-lost l d n r h
 
 -- the ends of a sequence that counts
 module _ {A : Type 0} (f : A → List Record) (m : Parser A) (b : ℕ) (u : List ℕ) where

@@ -1,6 +1,6 @@
 -- Laws of names behind keywords, device types, defaults and instances of attributes.
 use mathlib.Core.Path.{_≡_, refl, sym, ap, _∙_, subst}
-use mathlib.Core.List.{List}
+use mathlib.Core.List.{List, [], _∷_, map}
 use mathlib.Core.Bool.{Bool}
 use mathlib.Core.Option.{Option}
 use Prim.Native.Nat.{ℕ, suc, _+_, _-_, _≤_, _<_, max}
@@ -21,11 +21,14 @@ use Rattle.lexing.specs.declared.integers.Number.the-variants.{Value, NoNumber}
 use Rattle.lexing.specs.declared.integers.SignedNumber.{SignedNumber}
 use Rattle.lexing.specs.declared.integers.SignedNumber.the-variants.{Sized, NoSigned}
 use Rattle.lexing.proofs.Onward.{Onward}
-use Rattle.lexing.proofs.Locality.{chain-opt, chain-then}
-use Rattle.lexing.proofs.TokenLocality.{whitespace1-chain}
+use Rattle.lexing.proofs.Locality.{Consumes, chain-opt, chain-then, consumes-then-right}
+use Rattle.lexing.proofs.TokenLocality.{whitespace0-chain, whitespace1-chain}
 use Rattle.lexing.proofs.Slicing.{Took, took, walks, rebase, begin, on, told-next, step-lost, integer-lost, or-next}
 use Rattle.items.specs.clusters.{mapped}
-use Rattle.items.specs.endpoints.{name-behind, device-version, Default as DefaultOf, number, signed-number, text, value-tries, default-attribute-value, attribute-handling-type}
+use Rattle.items.specs.endpoints.{name-behind, device-version, Default as DefaultOf, number, signed-number, text, value-tries, default-attribute-value, attribute-handling-type, AttributeInstance as AttributeInstanceOf, attribute-instantiation, named-after, attribute-instance, command-instance, event-instance, instance-tries, deep-run, deep-braces, DeviceType as DeviceTypeOf, device-type, device, binding, instantiation, instantiation-head, cluster-instantiation, part-tries, endpoint-head, endpoint}
+use Rattle.items.specs.records.{absent, value, word-extent, plain, each, instance-record, part-records, endpoint-records}
+use Rattle.items.specs.inner.endpoints.{blank-binding}
+use Rattle.items.specs.layout.{layout-20, record-words, catalogue-words, word-count}
 use Rattle.items.specs.answers.{NameIn, wordBetween}
 use Rattle.items.specs.answers.endpoints.{NamedTo, valueOf, valueLost, valueAnswer, ValueIn, ValueTo, DefaultIn, optionalValue, OptionalTo}
 use Rattle.items.specs.declared.endpoints.Named.{Named}
@@ -36,10 +39,12 @@ use Rattle.items.specs.declared.endpoints.ValueRead.the-variants.{Read, 
 use Rattle.items.specs.declared.endpoints.Default.{Default}
 use Rattle.items.specs.declared.endpoints.Default.the-variants.{Absent, Present}
 use Rattle.items.specs.declared.endpoints.DefaultRead.{DefaultRead}
-use Rattle.items.proofs.Locality.{name-behind-local, device-version-local, value-tries-local, default-attribute-value-local, attribute-handling-type-local}
+use Rattle.items.proofs.Locality.{name-behind-local, device-version-local, value-tries-local, default-attribute-value-local, attribute-handling-type-local, attribute-instantiation-inside, named-after-local, named-after-consumes, instance-tries-inside, instance-tries-consumes, deep-run-inside, instances-local, instantiation-head-local, device-type-inside, cluster-instantiation-inside, part-tries-inside, part-tries-consumes, parts-local, endpoint-head-local}
+use Rattle.items.proofs.Mapped.{mapped-ok, mapped-not}
 use Rattle.items.proofs.Answers.{read-within, read-took, last-lost}
 use Rattle.items.proofs.WordBetween.{word-moved}
 use Rattle.items.proofs.optional.Laws.{opt-ok, opt-fail, opt-stop}
+use Rattle.items.proofs.Headed.{Headed}
 use Rattle.items.proofs.endpoints.Places.{integer-place, signed-place, StringPlace, string-place}
 
 pub name-behind-on : (k j : List ℕ) → Onward (name-behind k j)
@@ -88,40 +93,31 @@ pub or-stop : {A : Type 0} (m k : Parser A) (b : ℕ) (u : List ℕ) (n p : ℕ)
 unfolding _or_
 or-stop m k b u n p e = rw (sym e, _or_)
 
-mapped-ok : {A B : Type 0} (m : Parser A) (f : A → B) (b : ℕ) (u : List ℕ) (a : A) (c : ℕ) (r : List ℕ) → ok a c r ≡ m b u → ok (f a) c r ≡ mapped m f b u
-unfolding mapped _>>=_ ret
-mapped-ok m f b u a c r e = rw (sym e, mapped, _>>=_)
-
-mapped-lost : {A B : Type 0} (m : Parser A) (f : A → B) (b : ℕ) (u : List ℕ) (l : Lost) → lostReply l ≡ m b u → lostReply l ≡ mapped m f b u
-unfolding mapped _>>=_
-mapped-lost m f b u (Fail p) e = rw (sym e, mapped, _>>=_)
-mapped-lost m f b u (Stop n p) e = rw (sym e, mapped, _>>=_)
-
 -- the tries of a default's value
 module _ (b : ℕ) (u : List ℕ) {a : Number} (h : numberReply a b u ≡ positive-integer b u) where
   pub number-try : {v c : ℕ} → a ≡ Value v c → ok (number v) c (drop (c - b) u) ≡ mapped positive-integer number b u
-  number-try {v} {c} e = mapped-ok positive-integer number b u v c (drop (c - b) u) (subst (λ (x : Number). numberReply x b u ≡ positive-integer b u) e h)
+  number-try {v} {c} e = mapped-ok number positive-integer b u v c (drop (c - b) u) refl (subst (λ (x : Number). numberReply x b u ≡ positive-integer b u) e h)
 
   module _ {l l' : Lost} (d : l' ≡ numberLost a) (e : a ≡ NoNumber l) where
     lost-integer : lostReply l' ≡ positive-integer b u
     lost-integer = integer-lost d e b u (positive-integer b u) h
 
     pub number-stop : {n p : ℕ} → l' ≡ Stop n p → stop n p ≡ mapped positive-integer number b u
-    number-stop {n} {p} z = mapped-lost positive-integer number b u (Stop n p) (subst (λ (x : Lost). lostReply x ≡ positive-integer b u) z lost-integer)
+    number-stop {n} {p} z = mapped-not number positive-integer b u (Stop n p) (subst (λ (x : Lost). lostReply x ≡ positive-integer b u) z lost-integer)
 
     pub number-not : {p : ℕ} → l' ≡ Fail p → fail b ≡ mapped positive-integer number b u
     number-not {p} z =
         let k : fail p ≡ positive-integer b u = subst (λ (x : Lost). lostReply x ≡ positive-integer b u) z lost-integer in
         let y : p ≡ b = rw (← k) at (integer-place b u) in
-        mapped-lost positive-integer number b u (Fail b) (rw y at k)
+        mapped-not number positive-integer b u (Fail b) (rw y at k)
 
 signed-fails : (b : ℕ) (u : List ℕ) (l : Lost) → lostReply l ≡ signed-integer b u → fail b ≡ mapped signed-integer signed-number b u
-signed-fails b u (Fail p) k = let y : p ≡ b = rw (← k) at (signed-place b u) in mapped-lost signed-integer signed-number b u (Fail b) (rw y at k)
+signed-fails b u (Fail p) k = let y : p ≡ b = rw (← k) at (signed-place b u) in mapped-not signed-number signed-integer b u (Fail b) (rw y at k)
 signed-fails b u (Stop n p) k = absurd (rw (← k) at (signed-place b u))
 
 module _ (b : ℕ) (u : List ℕ) {a : SignedNumber} (h : signedReply a b u ≡ signed-integer b u) where
   pub signed-try : {m : Bool} {v c : ℕ} → a ≡ Sized m v c → ok (signed-number (signed m v)) c (drop (c - b) u) ≡ mapped signed-integer signed-number b u
-  signed-try {m} {v} {c} e = mapped-ok signed-integer signed-number b u (signed m v) c (drop (c - b) u) (subst (λ (x : SignedNumber). signedReply x b u ≡ signed-integer b u) e h)
+  signed-try {m} {v} {c} e = mapped-ok signed-number signed-integer b u (signed m v) c (drop (c - b) u) refl (subst (λ (x : SignedNumber). signedReply x b u ≡ signed-integer b u) e h)
 
   pub signed-not : (l : Lost) → a ≡ NoSigned l → fail b ≡ mapped signed-integer signed-number b u
   signed-not l e = signed-fails b u l (subst (λ (x : SignedNumber). signedReply x b u ≡ signed-integer b u) e h)
@@ -137,14 +133,14 @@ module _ (b : ℕ) (u : List ℕ) {a : Step} (h : stringReply a b u ≡ default-
     text-long = rw (← read-string) at (string-place default-escape b u)
 
     pub text-try : ok (text (span (b + 1) (c - 1 - (b + 1)))) c (drop (c - b) u) ≡ mapped default-string text b u
-    text-try = let z : b + 1 ≡ suc b = omega arith in rw z (mapped-ok default-string text b u (spanTo b c) c (drop (c - b) u) read-string)
+    text-try = let z : b + 1 ≡ suc b = omega arith in rw z (mapped-ok text default-string b u (spanTo b c) c (drop (c - b) u) refl read-string)
 
   module _ {l l' : Lost} (d : l' ≡ lostOf a) (e : a ≡ Not l) where
     lost-string : lostReply l' ≡ default-string b u
     lost-string = step-lost (spanTo b) d e b u (default-string b u) h
 
     pub text-not : lostReply l' ≡ mapped default-string text b u
-    text-not = mapped-lost default-string text b u l' lost-string
+    text-not = mapped-not text default-string b u l' lost-string
 
     string-past : (X : Reply Span) → StringPlace b X → (k : Lost) → lostReply k ≡ X → Past {A = DefaultOf} b (lostReply k)
     string-past X p (Fail q) z = rw (← z) at p
@@ -191,3 +187,91 @@ default-within (Present (Num n)) c e h k = tt
 default-within (Present (SignedValue m n)) c e h k = tt
 default-within (Present (Truth x)) c e h k = tt
 default-within (Present (Text s)) c e h k = omega (arith, h, k)
+
+-- the tries of an instance, and the words that each takes
+pub attribute-instance-on : Onward attribute-instantiation
+attribute-instance-on = walks (attribute-instantiation-inside .on-chain)
+
+pub named-after-on : (k j : List ℕ) → Onward (named-after k j)
+named-after-on k j = walks (named-after-local k j .on-chain)
+
+pub instance-tries-on : (q : ℕ) → Onward (instance-tries q)
+instance-tries-on q = walks (instance-tries-inside q .on-chain)
+
+pub attribute-words : (a : AttributeInstanceOf) → word-count (instance-record (attribute-instance a) ∷ []) ≡ 2
+unfolding word-count catalogue-words each record-words layout-20 instance-record plain
+attribute-words a = refl
+
+pub command-words : (n : Word) → word-count (instance-record (command-instance n) ∷ []) ≡ 1
+unfolding word-count catalogue-words each record-words layout-20 instance-record plain
+command-words n = refl
+
+pub event-words : (n : Word) → word-count (instance-record (event-instance n) ∷ []) ≡ 1
+unfolding word-count catalogue-words each record-words layout-20 instance-record plain
+event-words n = refl
+
+-- a cluster instantiation: one word, and those of its instances
+pub instances-run-on : Onward (deep-run instance-tries)
+instances-run-on = walks (deep-run-inside instance-tries-inside instance-tries-consumes .on-chain)
+
+pub instances-on : Onward (deep-braces instance-tries)
+instances-on = walks (instances-local .on-chain)
+
+pub instantiation-head-on : Onward instantiation-head
+instantiation-head-on = walks (instantiation-head-local .on-chain)
+
+pub instantiation-headed : Headed {I = Unit {0}} (λ i. cluster-instantiation) (λ i x. part-records (instantiation x)) instantiation-head (deep-braces instance-tries) (map instance-record) 1
+unfolding cluster-instantiation word-count catalogue-words each record-words layout-20 part-records plain
+instantiation-headed = record {
+  make = λ i n l. record { name = n; instances = l };
+  first = λ i n l. plain 13 0 [] (word-extent n) [];
+  reads = λ i. refl;
+  hands = λ i n l. refl;
+  size = λ i n l. refl;
+}
+
+-- the tries of a part, and the words that each takes
+pub device-type-on : Onward device-type
+device-type-on = walks (device-type-inside .on-chain)
+
+pub blank-binding-on : Onward blank-binding
+unfolding blank-binding
+blank-binding-on = walks (chain-then whitespace0-chain (named-after-local _ _ .on-chain))
+
+pub blank-binding-consumes : Consumes blank-binding
+unfolding blank-binding
+blank-binding-consumes = consumes-then-right whitespace0-chain (named-after-consumes _ _)
+
+pub cluster-instantiation-on : Onward cluster-instantiation
+cluster-instantiation-on = walks (cluster-instantiation-inside .on-chain)
+
+pub part-tries-on : (q : ℕ) → Onward (part-tries q)
+part-tries-on q = walks (part-tries-inside q .on-chain)
+
+pub device-words : (t : DeviceTypeOf) → word-count (part-records (device t)) ≡ 3
+unfolding word-count catalogue-words each record-words layout-20 part-records plain
+device-words t = refl
+
+pub binding-words : (n : Word) → word-count (part-records (binding n)) ≡ 1
+unfolding word-count catalogue-words each record-words layout-20 part-records plain
+binding-words n = refl
+
+-- an endpoint: two words, and those of its parts
+pub parts-run-on : Onward (deep-run part-tries)
+parts-run-on = walks (deep-run-inside part-tries-inside part-tries-consumes .on-chain)
+
+pub parts-on : Onward (deep-braces part-tries)
+parts-on = walks (parts-local .on-chain)
+
+pub endpoint-head-on : Onward endpoint-head
+endpoint-head-on = walks (endpoint-head-local .on-chain)
+
+pub endpoint-headed : Headed {I = Unit {0}} (λ i. endpoint) (λ i. endpoint-records) endpoint-head (deep-braces part-tries) (each part-records) 2
+unfolding endpoint word-count catalogue-words each record-words layout-20 endpoint-records plain
+endpoint-headed = record {
+  make = λ i n l. record { id = n; parts = l };
+  first = λ i n l. plain 10 0 [] absent (value n ∷ []);
+  reads = λ i. refl;
+  hands = λ i n l. refl;
+  size = λ i n l. refl;
+}

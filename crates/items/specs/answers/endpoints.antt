@@ -1,5 +1,6 @@
 -- What the answers of the readers of endpoints say, as replies of the definitions.
-use Prim.Native.Nat.{ℕ, _+_, _≤_, _<_}
+use Prim.Native.Nat.{ℕ, _+_, _-_, _*_, _≤_, _<_}
+use mathlib.Core.Path.{_≡_}
 use mathlib.Core.List.{List}
 use mathlib.Core.Option.{Option, none, some}
 use Rattle.lexing.specs.reply.{Parser, _>>_, opt}
@@ -7,10 +8,13 @@ use Rattle.lexing.specs.words.{Word}
 use Rattle.lexing.specs.integers.{signed}
 use Rattle.lexing.specs.blanks.{whitespace1}
 use Rattle.lexing.specs.strings.{span}
-use Rattle.lexing.specs.answers.{Answer, got, lost}
+use Rattle.lexing.specs.answers.{Answer, got, lost, reply}
 use Rattle.lexing.specs.declared.answers.Lost.{Lost}
 use Rattle.lexing.specs.declared.answers.Lost.the-variants.{Fail, Stop}
-use Rattle.items.specs.endpoints.{DeviceType as DeviceTypeOf, device-type, Default as DefaultOf, number, signed-number, truth, text, default-attribute-value, attribute-handling-type, AttributeInstance as AttributeInstanceOf, attribute-instantiation}
+use Rattle.items.specs.clusters.{mapped}
+use Rattle.items.specs.records.{Record}
+use Rattle.items.specs.layout.{word-count}
+use Rattle.items.specs.endpoints.{Tried as TriedOf, Deep, DeviceType as DeviceTypeOf, device-type, Default as DefaultOf, number, signed-number, truth, text, default-attribute-value, attribute-handling-type, AttributeInstance as AttributeInstanceOf, attribute-instantiation}
 use Rattle.items.specs.answers.{ReadTo, NameIn, wordBetween}
 use Rattle.items.specs.declared.endpoints.Named.{Named}
 use Rattle.items.specs.declared.endpoints.Named.the-variants.{Name, NoName}
@@ -30,6 +34,8 @@ use Rattle.items.specs.declared.endpoints.DefaultRead.the-variants.{Opti
 use Rattle.items.specs.declared.endpoints.AttributeInstanceParts.{AttributeInstanceParts}
 use Rattle.items.specs.declared.endpoints.AttributeInstanceRead.{AttributeInstanceRead}
 use Rattle.items.specs.declared.endpoints.AttributeInstanceRead.the-variants.{AttributeInstance, NoAttributeInstance}
+use Rattle.items.specs.declared.endpoints.Tried.{Tried}
+use Rattle.items.specs.declared.endpoints.Tried.the-variants.{Found, NotFound}
 
 -- names
 abbrev pub namedAnswer : ℕ → List ℕ → Named → Answer Word
@@ -54,6 +60,10 @@ deviceTypeAt b u t = record { name = wordBetween b u (t .name) (t .end); code = 
 abbrev pub deviceTypeAnswer : ℕ → List ℕ → DeviceTypeRead → Answer DeviceTypeOf
 deviceTypeAnswer b u (DeviceType t c) = got (deviceTypeAt b u t) c
 deviceTypeAnswer b u (NoDeviceType l) = lost l
+
+abbrev pub deviceTypeLost : DeviceTypeRead → Lost
+deviceTypeLost (DeviceType t c) = Fail c
+deviceTypeLost (NoDeviceType l) = l
 
 abbrev pub DeviceTypeIn : ℕ → DeviceTypeRead → Type 0
 DeviceTypeIn b (DeviceType t c) = NameIn b (t .name) (t .end) c
@@ -148,6 +158,10 @@ abbrev pub attributeInstanceAnswer : ℕ → List ℕ → AttributeInstanceRead 
 attributeInstanceAnswer b u (AttributeInstance a c) = got (attributeInstanceAt b u a) c
 attributeInstanceAnswer b u (NoAttributeInstance l) = lost l
 
+abbrev pub attributeInstanceLost : AttributeInstanceRead → Lost
+attributeInstanceLost (AttributeInstance a c) = Fail c
+attributeInstanceLost (NoAttributeInstance l) = l
+
 pub record InstanceIn (b : ℕ) (a : AttributeInstanceParts) (c : ℕ) : Type 0 where
   pub small : a .handling < 3
   pub named : NameIn b (a .name) (a .end) c
@@ -159,3 +173,33 @@ AttributeInstanceIn b (NoAttributeInstance l) = Unit {0}
 
 abbrev pub AttributeInstanceTo : AttributeInstanceRead → ℕ → List ℕ → Type 0
 AttributeInstanceTo r b u = ReadTo attributeInstanceAnswer AttributeInstanceIn attribute-instantiation r b u
+
+-- Tries between braces: what was found by the words of its records, and the furthest place.
+
+-- place gives the furthest place that a value keeps
+unfoldable pub weighed : {A : Type 0} → (A → List Record) → (place : A → ℕ) → Parser A → Parser (TriedOf ℕ)
+weighed records place m = mapped m (λ a. record { furthest = place a; found = word-count (records a) })
+
+abbrev pub triedAnswer : Tried → Answer (TriedOf ℕ)
+triedAnswer (Found n c q) = got (record { furthest = q; found = n }) c
+triedAnswer (NotFound l) = lost l
+
+abbrev pub triedLost : Tried → Lost
+triedLost (Found n c q) = Fail c
+triedLost (NotFound l) = l
+
+-- eight words a byte at the most, as `Few` has it
+abbrev pub TriedFew : Tried → ℕ → Type 0
+TriedFew (Found n c q) b = n ≤ 8 * (c - b)
+TriedFew (NotFound l) b = Unit {0}
+
+pub record WeighedTo {A : Type 0} (records : A → List Record) (place : A → ℕ) (m : Parser A) (r : Tried) (b : ℕ) (u : List ℕ) : Type 0 where
+  pub reads : reply (triedAnswer r) b u ≡ weighed records place m b u
+  pub few : TriedFew r b
+
+-- one try, and a loop of them
+abbrev pub TriedTo : {A : Type 0} → (A → List Record) → Parser (TriedOf A) → Tried → ℕ → List ℕ → Type 0
+TriedTo one m r b u = WeighedTo (λ t. one (t .found)) (λ t. t .furthest) m r b u
+
+abbrev pub DeepTo : {A : Type 0} → (List A → List Record) → Parser (Deep A) → Tried → ℕ → List ℕ → Type 0
+DeepTo records m r b u = WeighedTo (λ s. records (s .read)) (λ s. s .deepest) m r b u
