@@ -1,0 +1,2 @@
+-- Laws of the readers of enums and bitmaps.
+pub mod Laws

@@ -1,0 +1,108 @@
+// Clusters: their members, each by the kind that its first word says.
+ghost use mathlib.Core.Path.{_≡_};
+ghost use mathlib.Core.List.{[], _∷_};
+ghost use Prim.Native.Nat.{_+_, _≤_};
+ghost use lib.ListN.{length};
+ghost use Rattle.lexing.specs.reply.{ok};
+ghost use Rattle.lexing.specs.words.{any-keyword};
+ghost use Rattle.lexing.specs.blanks.{no-doc, whitespace0};
+ghost use Rattle.items.specs.layout.{text-limit};
+ghost use Rattle.items.specs.inner.clusters.{struct-words, attribute-words, command-words, event-words, found, KindTo};
+use lexing::answers::Step;
+use lexing::blanks::whitespace0;
+use lexing::parts::rest_at;
+use lexing::words::keyword;
+
+// What a member is by its first word.
+pub enum MemberKind {
+    Revision,
+    Bitmap,
+    Enum,
+    Struct,
+    Attribute,
+    Command,
+    Event,
+    Unknown,
+}
+
+// The one try that a first word leaves, and the furthest place at which the others fail.
+pub struct Candidate {
+    pub kind: MemberKind,
+    pub floor: usize,
+}
+
+// Whether a keyword is the first word.
+fn starts(part: &[u8], base: usize, key: &[u8]) -> bool
+    requires { ⌜ base + length (now part) ≤ text-limit ⌝ }
+    ensures { λ r. ⌜ r ≡ found (any-keyword (now (key .entry) ∷ []) base (now (part .entry))) ⌝ }
+{
+    let word = keyword(part, base, key);
+    match word {
+        Step::Next(_) => true,
+        Step::Not(_) => false,
+    }
+}
+
+fn starts_struct(part: &[u8], base: usize) -> bool
+    requires { ⌜ base + length (now part) ≤ text-limit ⌝ }
+    ensures { λ r. ⌜ r ≡ found (any-keyword struct-words base (now (part .entry))) ⌝ }
+{
+    if starts(part, base, b"request") {
+        return true;
+    }
+    if starts(part, base, b"response") {
+        return true;
+    }
+    if starts(part, base, b"fabric_scoped") {
+        return true;
+    }
+    starts(part, base, b"struct")
+}
+
+fn starts_attribute(part: &[u8], base: usize) -> bool
+    requires { ⌜ base + length (now part) ≤ text-limit ⌝ }
+    ensures { λ r. ⌜ r ≡ found (any-keyword attribute-words base (now (part .entry))) ⌝ }
+{
+    if starts(part, base, b"readonly") {
+        return true;
+    }
+    if starts(part, base, b"writeonly") {
+        return true;
+    }
+    if starts(part, base, b"nosubscribe") {
+        return true;
+    }
+    if starts(part, base, b"timedwrite") {
+        return true;
+    }
+    starts(part, base, b"attribute")
+}
+
+fn starts_command(part: &[u8], base: usize) -> bool
+    requires { ⌜ base + length (now part) ≤ text-limit ⌝ }
+    ensures { λ r. ⌜ r ≡ found (any-keyword command-words base (now (part .entry))) ⌝ }
+{
+    if starts(part, base, b"timed") {
+        return true;
+    }
+    if starts(part, base, b"fabric") {
+        return true;
+    }
+    starts(part, base, b"command")
+}
+
+fn starts_event(part: &[u8], base: usize) -> bool
+    requires { ⌜ base + length (now part) ≤ text-limit ⌝ }
+    ensures { λ r. ⌜ r ≡ found (any-keyword event-words base (now (part .entry))) ⌝ }
+{
+    if starts(part, base, b"fabric_sensitive") {
+        return true;
+    }
+    if starts(part, base, b"info") {
+        return true;
+    }
+    if starts(part, base, b"critical") {
+        return true;
+    }
+    starts(part, base, b"debug")
+}
