@@ -387,7 +387,7 @@ event-qualities-inside = search (inside-rules, token-rules, event-priority-local
 
 pub event-qualities-consumes : Consumes event-qualities
 unfolding event-qualities
-event-qualities-consumes = search (consumes-rules, chain-rules, chain-inside, punct-local, event-priority-consumes, access-to-inside) depth 24
+event-qualities-consumes = search (consumes-rules, chain-rules, chain-inside, event-priority-consumes, access-to-inside) depth 24
 
 pub event-head-inside : LocalInside event-head
 unfolding event-head
@@ -403,7 +403,7 @@ parse-event-inside d m = search (inside-rules, token-rules, event-head-inside, s
 
 pub parse-event-consumes : (d : Doc) (m : ℕ) → Consumes (parse-event-after-doc-maturity d m)
 unfolding parse-event-after-doc-maturity
-parse-event-consumes d m = search (consumes-rules, chain-rules, chain-inside, punct-local, event-head-consumes, struct-fields-local) depth 30
+parse-event-consumes d m = search (consumes-rules, chain-rules, chain-inside, event-head-consumes, struct-fields-local) depth 30
 
 pub command-head-inside : LocalInside command-head
 unfolding command-head

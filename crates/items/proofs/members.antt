@@ -1,2 +1,2 @@
--- Laws of the readers of events, commands and attributes.
+-- Laws of the readers of events and commands.
 pub mod Laws

@@ -1,4 +1,4 @@
-// Events, commands and attributes.
+// Events and commands.
 ghost use mathlib.Core.Path.{_≡_};
 ghost use Prim.Native.Nat.{_+_, _≤_};
 ghost use lib.ListN.{length};

@@ -9,6 +9,7 @@ use lib.ListN.{length, take, drop}
 use Rattle.lexing.specs.bytes.{ascii, within, lower}
 use Rattle.lexing.specs.reply.{Reply, ok, fail, stop, Parser, ret, _>>=_, _>>_, catch, opt, prepend, manyWithin, many0, stopAt, pick}
 use Rattle.lexing.specs.words.{Word, bytesOf, offsetOf, isKeyword, isLower, keyword, any-keyword}
+use Rattle.lexing.specs.blanks.{Doc}
 use Rattle.lexing.specs.word_sets.{same-bytes}
 use Rattle.lexing.specs.answers.{got, lost, Rest, lostReply, reply, tagReply, wordAt, wordReply}
 use Rattle.lexing.specs.declared.answers.Lost.{Lost}
@@ -21,13 +22,14 @@ use Rattle.lexing.proofs.TokenLocality.{any-keyword-chain}
 use Rattle.lexing.proofs.Slicing.{Took, took, walks, told-next, rest-self, begin, go, lose, done}
 use Rattle.lexing.proofs.Repetition.{ManyAt, manyEnd, many0-start, many0-step, many0-ends}
 use Rattle.lexing.proofs.words.Laws.{keyword-says}
-use Rattle.items.specs.members.{Access as AccessOf, access-entry, comma, separated-list0, access-list, Privileges as PrivilegesOf, granted-by, default-privileges, listed, attribute-access, Attribute as AttributeOf}
+use Rattle.items.specs.members.{Access as AccessOf, access-entry, comma, separated-list0, access-list, Privileges as PrivilegesOf, granted-by, default-privileges, listed, attribute-access, Attribute as AttributeOf, parse-attribute-after-doc-maturity}
 use Rattle.items.specs.clusters.{mapped}
 use Rattle.items.specs.records.{each, plain, documented, field-record, attribute-records}
 use Rattle.items.specs.layout.{layout-20, record-words, catalogue-words, word-count}
-use Rattle.items.specs.answers.{ReadTo}
-use Rattle.items.specs.answers.attributes.{SmallPrivileges, PrivilegesTo}
+use Rattle.items.specs.answers.{ReadTo, CountTo}
+use Rattle.items.specs.answers.attributes.{SmallPrivileges, PrivilegesTo, AttributeTo}
 use Rattle.items.specs.inner.attributes.{access-words, operation-of, operationBy, operationAnswer, operationLost, operationMeans, OperationTo, grantBy, grant-of, grantSmall, accessLost, AccessTo, separated-entry, grantsWith, grants-from, grantsSmall, listAnswer, listLost, listSmall, ListTo, listEnd, no-grants, optionalList}
+use Rattle.items.specs.declared.counts.Count.the-variants.{Words}
 use Rattle.items.specs.declared.attributes.Operation.{Operation}
 use Rattle.items.specs.declared.attributes.Operation.the-variants.{Read, Write, Neither}
 use Rattle.items.specs.declared.attributes.OperationRead.{OperationRead}
@@ -42,9 +44,13 @@ use Rattle.items.specs.declared.attributes.ListRead.{ListRead}
 use Rattle.items.specs.declared.attributes.ListRead.the-variants.{Listed, NoList}
 use Rattle.items.specs.declared.attributes.PrivilegesRead.{PrivilegesRead}
 use Rattle.items.specs.declared.attributes.PrivilegesRead.the-variants.{Privileges, NoPrivileges}
+use Rattle.items.specs.declared.attributes.AttributeParts.{AttributeParts}
+use Rattle.items.specs.declared.attributes.AttributeRead.{AttributeRead}
+use Rattle.items.specs.declared.attributes.AttributeRead.the-variants.{Attribute}
 use Rattle.items.proofs.Answers.{read-within, read-lost}
 use Rattle.items.proofs.Mapped.{TookAs, lost-as, mapped-ok, mapped-not, read-as, mapped-after}
-use Rattle.items.proofs.Locality.{access-entry-inside, access-entry-consumes, comma-local, separated-list0-inside, access-list-inside, attribute-access-inside}
+use Rattle.items.proofs.Locality.{access-entry-inside, access-entry-consumes, comma-local, separated-list0-inside, access-list-inside, attribute-access-inside, parse-attribute-consumes}
+use Rattle.items.proofs.counts.Laws.{read-counted}
 use Rattle.items.proofs.members.Laws.{or-fails}
 use Rattle.items.proofs.structs.Laws.{other-case, by-case}
 use Rattle.items.proofs.optional.Laws.{opt-ok, opt-fail, opt-stop}
@@ -365,3 +371,7 @@ privileges-small h e = read-within h e
 pub attribute-words : (a : AttributeOf) → word-count (attribute-records a) ≡ 6
 unfolding word-count catalogue-words each record-words layout-20 attribute-records field-record plain documented
 attribute-words a = refl
+
+pub attribute-counted : (d : Doc) (v : ℕ) {a : AttributeRead} {b : ℕ} {u : List ℕ} {p : AttributeParts} {c : ℕ} → AttributeTo (parse-attribute-after-doc-maturity d v) a b u → a ≡ Attribute p c
+    → CountTo attribute-records (parse-attribute-after-doc-maturity d v) (Words 6 c) b u
+attribute-counted d v h e = read-counted attribute-records (parse-attribute-consumes d v) h e refl (attribute-words _) (omega arith)

@@ -1,4 +1,4 @@
--- Events, commands and attributes: one law for each way through a reader.
+-- Events and commands: one law for each way through a reader.
 use mathlib.Core.Path.{_≡_, refl, sym, ap, _∙_, subst}
 use mathlib.Core.Bool.{true, false}
 use mathlib.Core.Option.{Option, none, some}
@@ -11,6 +11,7 @@ use lib.ListN.{length, drop, take}
 use borrow.Author.Tests.{lt-ltb, le-ltb}
 use Rattle.lexing.specs.reply.{Reply, ok, fail, stop, Parser, ret, _>>=_, _>>_, _or_, further, opt}
 use Rattle.lexing.specs.words.{Word, word, parse-id, keyword}
+use Rattle.lexing.specs.blanks.{Doc}
 use Rattle.lexing.specs.answers.{Answer, got, lost, Rest, lostReply, reply, lostOf, wordAt, wordReply}
 use Rattle.lexing.specs.declared.answers.Lost.{Lost}
 use Rattle.lexing.specs.declared.answers.Lost.the-variants.{Fail, Stop}
@@ -22,12 +23,21 @@ use Rattle.lexing.proofs.Locality.{OnChain, chain-opt, chain-inside}
 use Rattle.lexing.proofs.TokenLocality.{parse-id-chain}
 use Rattle.lexing.proofs.Slicing.{Took, took, walks, told-not, rebase, begin, on}
 use Rattle.lexing.proofs.words.Laws.{Says, keyword-says}
-use Rattle.items.specs.members.{or-else, event-qualities, command-head, CommandTypes as CommandTypesOf, command-types, Command as CommandOf, event-head, parse-event-after-doc-maturity}
-use Rattle.items.specs.answers.{optionOf, wordBetween, optionalStep, Front}
-use Rattle.items.specs.answers.members.{levelAnswer, levelLost, levelSmall, LevelTo, levelOr, EventQualitiesTo, optionalBetween, CommandHeadBetween, commandHeadAnswer, commandHeadWithin, CommandHeadTo, commandTypesAt, commandTypesAnswer, CommandTypesBetween, commandTypesWithin, CommandTypesTo, commandAt, CommandTo, SmallEventQualities, eventHeadAt, eventHeadLost, EventHeadBetween, EventHeadTo}
+use Rattle.items.specs.structs.{struct-fields}
+use Rattle.items.specs.members.{or-else, event-qualities, event-head, parse-event-after-doc-maturity, command-head, CommandTypes as CommandTypesOf, command-types, Command as CommandOf, parse-command-after-doc-maturity}
+use Rattle.items.specs.records.{bits, value, each, word-extent, documented, field-record, command-record, event-records}
+use Rattle.items.specs.layout.{layout-20, record-words, catalogue-words, word-count}
+use Rattle.items.specs.answers.{optionOf, wordBetween, optionalStep, CountTo, Front}
+use Rattle.items.specs.answers.members.{levelAnswer, levelLost, levelSmall, LevelTo, levelOr, SmallEventQualities, EventQualitiesTo, eventHeadAt, eventHeadLost, EventHeadBetween, EventHeadTo, optionalBetween, CommandHeadBetween, commandHeadAnswer, commandHeadWithin, CommandHeadTo, commandTypesAt, commandTypesAnswer, CommandTypesBetween, commandTypesWithin, CommandTypesTo, commandAt, CommandTo}
+use Rattle.items.specs.declared.counts.Count.the-variants.{Words}
 use Rattle.items.specs.declared.members.Level.{Level}
 use Rattle.items.specs.declared.members.Level.the-variants.{Chosen, NoLevel}
+use Rattle.items.specs.declared.members.EventQualitiesParts.{EventQualitiesParts}
+use Rattle.items.specs.declared.members.EventQualitiesRead.{EventQualitiesRead}
 use Rattle.items.specs.declared.members.EventQualitiesRead.the-variants.{EventQualities}
+use Rattle.items.specs.declared.members.EventHeadParts.{EventHeadParts}
+use Rattle.items.specs.declared.members.EventHeadRead.{EventHeadRead}
+use Rattle.items.specs.declared.members.EventHeadRead.the-variants.{EventHead, NoEventHead}
 use Rattle.items.specs.declared.members.CommandHeadParts.{CommandHeadParts}
 use Rattle.items.specs.declared.members.CommandHeadRead.{CommandHeadRead}
 use Rattle.items.specs.declared.members.CommandHeadRead.the-variants.{CommandHead, NoCommandHead}
@@ -35,21 +45,15 @@ use Rattle.items.specs.declared.members.CommandTypesParts.{CommandTypesP
 use Rattle.items.specs.declared.members.CommandTypesRead.{CommandTypesRead}
 use Rattle.items.specs.declared.members.CommandTypesRead.the-variants.{CommandTypes, NoCommandTypes}
 use Rattle.items.specs.declared.members.CommandParts.{CommandParts}
+use Rattle.items.specs.declared.members.CommandRead.{CommandRead}
 use Rattle.items.specs.declared.members.CommandRead.the-variants.{Command, NoCommand}
 use Rattle.items.proofs.Answers.{read-within, read-took, read-lost}
 use Rattle.items.proofs.WordBetween.{word-moved}
-use Rattle.items.proofs.maturity.Laws.{fail-then}
-use Rattle.items.proofs.optional.Laws.{opt-ok, opt-fail, opt-stop}
-use Rattle.items.proofs.Locality.{command-types-inside, event-head-inside}
-use Rattle.items.specs.structs.{struct-fields}
-use Rattle.items.specs.records.{bits, value, each, word-extent, documented, field-record, command-record, event-records}
-use Rattle.items.specs.layout.{layout-20, record-words, catalogue-words, word-count}
-use Rattle.items.specs.declared.members.EventQualitiesParts.{EventQualitiesParts}
-use Rattle.items.specs.declared.members.EventQualitiesRead.{EventQualitiesRead}
-use Rattle.items.specs.declared.members.EventHeadParts.{EventHeadParts}
-use Rattle.items.specs.declared.members.EventHeadRead.{EventHeadRead}
-use Rattle.items.specs.declared.members.EventHeadRead.the-variants.{EventHead, NoEventHead}
 use Rattle.items.proofs.Headed.{Headed}
+use Rattle.items.proofs.Locality.{event-head-inside, command-types-inside, parse-command-consumes}
+use Rattle.items.proofs.maturity.Laws.{fail-then}
+use Rattle.items.proofs.counts.Laws.{read-counted}
+use Rattle.items.proofs.optional.Laws.{opt-ok, opt-fail, opt-stop}
 
 -- a choice of keywords: one that is not there fails at its start, and so do all
 keyword-lost : (k : List ℕ) (b : ℕ) (u : List ℕ) (l : Lost) → lostReply l ≡ keyword k b u → fail b ≡ keyword k b u
@@ -245,3 +249,7 @@ command-is m d v k h t b c1 c2 c u x y l e =
 pub command-words : (c : CommandOf) → word-count (command-record c ∷ []) ≡ 5
 unfolding word-count catalogue-words each record-words layout-20 command-record documented
 command-words c = refl
+
+pub command-counted : (d : Doc) (v : ℕ) {a : CommandRead} {b : ℕ} {u : List ℕ} {p : CommandParts} {c : ℕ} → CommandTo (parse-command-after-doc-maturity d v) a b u → a ≡ Command p c
+    → CountTo (λ x. command-record x ∷ []) (parse-command-after-doc-maturity d v) (Words 5 c) b u
+command-counted d v h e = read-counted (λ x. command-record x ∷ []) (parse-command-consumes d v) h e refl (command-words _) (omega arith)

@@ -1,4 +1,4 @@
--- Answers of the readers of events, commands and attributes.
+-- Answers of the readers of events and commands.
 use Prim.Native.Nat.{ℕ, _≤_, _<_}
 use mathlib.Core.Option.{Option}
 use mathlib.Core.List.{List}

@@ -32,13 +32,13 @@ abbrev pub access-words : List (List ℕ)
 access-words = ascii "read" ∷ ascii "write" ∷ []
 
 -- the operation that a word names
-abbrev pub operationOf : (is-read is-write : Bool) → Operation
-operationOf true w = Read
-operationOf false true = Write
-operationOf false false = Neither
+abbrev pub operationIf : (is-read is-write : Bool) → Operation
+operationIf true w = Read
+operationIf false true = Write
+operationIf false false = Neither
 
 unfoldable pub operation-of : List ℕ → Operation
-operation-of w = operationOf (same-bytes w (ascii "read")) (same-bytes w (ascii "write"))
+operation-of w = operationIf (same-bytes w (ascii "read")) (same-bytes w (ascii "write"))
 
 -- the operation of a keyword, by whether it is in lower case
 abbrev pub operationBy : Bool → Operation → Operation

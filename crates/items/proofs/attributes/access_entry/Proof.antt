@@ -5,7 +5,7 @@ use Rattle.items.specs.members.{access-entry}
 use Rattle.items.proofs.members.Laws.{level-small, level-took, level-lost}
 use Rattle.items.proofs.attributes.Laws.{access-not, access-is, operation-took, operation-not}
 use native.Mathlib.Omega.{arith}
-use Rattle.lexing.proofs.Slicing.{rest-self, begin, go, on, lose, fall, done, blank-took, tag-took, step-lost, walks}
+use Rattle.lexing.proofs.Slicing.{walks, rest-self, begin, go, on, lose, fall, done, blank-took, tag-took, step-lost}
 use Rattle.items.proofs.Locality.{access-privilege-local}
 
 whitespace0-requires : tie.Need-whitespace0-requires

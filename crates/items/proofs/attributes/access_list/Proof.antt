@@ -1,7 +1,7 @@
 use borrow.Author.Needs.{needs}
 use Rattle.items.proofs.attributes.access_list.Statement.{statement}
 use Rattle.items.proofs.attributes.access_list.Tie as tie
-use Rattle.items.specs.members.{access-list, comma, access-entry, separated-list0}
+use Rattle.items.specs.members.{access-list, access-entry, comma, separated-list0}
 use Rattle.items.proofs.attributes.Laws.{list-not, list-is, list-small, entries-onward, list-lost}
 use mathlib.Core.Path.{refl}
 use native.Mathlib.Omega.{arith}

@@ -8,7 +8,7 @@ use mathlib.Core.Path.{refl}
 use native.Mathlib.Omega.{arith}
 use Rattle.lexing.specs.bytes.{ascii}
 use Rattle.lexing.specs.answers.{wordAt}
-use Rattle.lexing.proofs.Slicing.{rest-self, begin, go, on, lose, fall, done, blank-took, keyword-took, tag-took, step-lost, walks}
+use Rattle.lexing.proofs.Slicing.{walks, rest-self, begin, go, on, lose, fall, done, blank-took, keyword-took, tag-took, step-lost}
 use Rattle.items.proofs.Answers.{read-is, read-not}
 
 slice-aggregate-keyword : tie.Need-slice-aggregate-keyword

@@ -9,9 +9,9 @@ use Rattle.lexing.specs.bytes.{ascii}
 use Rattle.lexing.specs.answers.{wordAt}
 use Rattle.lexing.proofs.Slicing.{rest-self, begin, go, on, lose, fall, done, blank-took, set-took, word-took, keyword-took, step-lost}
 use Rattle.items.proofs.Answers.{read-not}
+use Rattle.items.proofs.Locality.{access-to-inside}
 use Rattle.lexing.proofs.Locality.{chain-inside, chain-then}
 use Rattle.lexing.proofs.TokenLocality.{whitespace0-chain}
-use Rattle.items.proofs.Locality.{access-to-inside}
 
 keywords-set-requires : tie.Need-keywords-set-requires
 keywords-set-requires c κs = search needs

@@ -6,11 +6,11 @@ use Rattle.items.proofs.members.Laws.{event-qualities-small}
 use mathlib.Core.Path.{refl}
 use native.Mathlib.Omega.{arith}
 use Rattle.lexing.specs.answers.{wordAt}
-use Rattle.lexing.proofs.Slicing.{rest-self, begin, go, on, lose, fall, done, blank-took, word-took, tag-took, integer-took, step-lost, integer-lost, walks}
+use Rattle.lexing.proofs.Slicing.{walks, rest-self, begin, go, on, lose, fall, done, blank-took, word-took, tag-took, integer-took, step-lost, integer-lost}
 use Rattle.items.proofs.Answers.{read-is, read-not, read-took, read-lost}
+use Rattle.items.proofs.Locality.{event-qualities-inside}
 use Rattle.lexing.proofs.Locality.{chain-inside}
 use Rattle.items.specs.answers.members.{eventQualitiesLost}
-use Rattle.items.proofs.Locality.{event-qualities-inside}
 
 event-qualities-requires : tie.Need-event-qualities-requires
 event-qualities-requires c κs = search needs

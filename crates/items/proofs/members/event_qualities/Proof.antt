@@ -7,10 +7,10 @@ use mathlib.Core.Path.{refl}
 use native.Mathlib.Omega.{arith}
 use Rattle.lexing.specs.bytes.{ascii}
 use Rattle.lexing.specs.answers.{wordAt}
-use Rattle.lexing.proofs.Slicing.{rest-self, begin, go, on, lose, fall, done, blank-took, gap-took, set-took, keyword-took, step-lost, gap-lost, walks}
+use Rattle.lexing.proofs.Slicing.{walks, rest-self, begin, go, on, lose, fall, done, blank-took, gap-took, set-took, keyword-took, step-lost, gap-lost}
 use Rattle.items.proofs.Answers.{read-not}
-use Rattle.lexing.proofs.Locality.{chain-inside}
 use Rattle.items.proofs.Locality.{event-priority-local, access-to-inside}
+use Rattle.lexing.proofs.Locality.{chain-inside}
 
 keywords-set-requires : tie.Need-keywords-set-requires
 keywords-set-requires c κs = search needs

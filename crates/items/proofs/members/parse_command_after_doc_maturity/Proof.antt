@@ -6,11 +6,11 @@ use Rattle.items.specs.members.{parse-command-after-doc-maturity}
 use Rattle.items.proofs.members.Laws.{command-head-within, command-types-within, command-is, command-types-took}
 use mathlib.Core.Path.{refl}
 use native.Mathlib.Omega.{arith}
-use Rattle.lexing.proofs.Slicing.{rest-self, begin, go, on, lose, fall, done, blank-took, tag-took, integer-took, step-lost, integer-lost, walks}
+use Rattle.lexing.proofs.Slicing.{walks, rest-self, begin, go, on, lose, fall, done, blank-took, tag-took, integer-took, step-lost, integer-lost}
 use Rattle.items.proofs.Answers.{read-not, read-took, read-lost}
+use Rattle.items.proofs.Locality.{command-head-inside}
 use Rattle.lexing.proofs.Locality.{chain-inside}
 use Rattle.items.specs.answers.members.{commandHeadLost, commandTypesLost}
-use Rattle.items.proofs.Locality.{command-head-inside}
 
 command-head-requires : tie.Need-command-head-requires
 command-head-requires c κs = search needs
