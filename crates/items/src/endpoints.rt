@@ -1,4 +1,4 @@
-// What stands in an endpoint: names behind keywords, device types, instances of attributes.
+// Endpoints and what stands in them: names behind keywords, device types, instances.
 ghost use mathlib.Core.Path.{_≡_};
 ghost use mathlib.Core.List.{[], _∷_, map};
 ghost use Prim.Native.Nat.{_+_, _≤_, max};
@@ -425,6 +425,7 @@ pub fn tried_lost(r: Tried) -> Lost
     }
 }
 
+// The later of two places.
 fn furthest(p: usize, q: usize) -> usize
     ensures { λ r. ⌜ r ≡ max p q ⌝ }
 {

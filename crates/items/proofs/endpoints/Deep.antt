@@ -120,15 +120,13 @@ module _ {A B : Type 0} (g : A → B) {m : Parser A} {b : ℕ} {u : List ℕ} {a
   pub try-here : (q : ℕ) (k : ℕ → Parser (TriedOf B)) → ok (record { furthest = q; found = g a }) c (drop (c - b) u) ≡ intercept q (mapped m g) k b u
   try-here q k = intercept-found q (mapped m g) k b u (g a) c (drop (c - b) u) (mapped-ok g m b u a c (drop (c - b) u) refl (begin m b u (sym (t .goes))))
 
-  -- where it always takes so many words
-  pub try-is : Consumes m → (one : B → List Record) {f : Parser (TriedOf B)} {n q : ℕ} → word-count (one (g a)) ≡ n → n ≤ 8 → ok (record { furthest = q; found = g a }) c (drop (c - b) u) ≡ f b u → TriedTo one f (Found n c q) b u
-  try-is w one {n = n} {q = q} s h e =
-      let b≤b : b ≤ b = omega arith in
-      weighed-is (record { furthest = q; found = g a }) n c q b u s refl (omega (arith, h, further-on w b≤b t)) e
-
   -- where its words are counted
   pub try-counts : (one : B → List Record) {f : Parser (TriedOf B)} {n q : ℕ} → word-count (one (g a)) ≡ n → n ≤ 8 * (c - b) → ok (record { furthest = q; found = g a }) c (drop (c - b) u) ≡ f b u → TriedTo one f (Found n c q) b u
   try-counts one {n = n} {q = q} s h e = weighed-is (record { furthest = q; found = g a }) n c q b u s refl h e
+
+  -- where it always takes so many words
+  pub try-is : Consumes m → (one : B → List Record) {f : Parser (TriedOf B)} {n q : ℕ} → word-count (one (g a)) ≡ n → n ≤ 8 → ok (record { furthest = q; found = g a }) c (drop (c - b) u) ≡ f b u → TriedTo one f (Found n c q) b u
+  try-is w one s h e = let b≤b : b ≤ b = omega arith in try-counts one s (omega (arith, h, further-on w b≤b t)) e
 
 -- a loop of tries that counts
 pub record Seeking {A : Type 0} (records : List A → List Record) (f : ℕ → Parser (TriedOf A)) (b : ℕ) (u : List ℕ) (c n q : ℕ) : Type 0 where
@@ -185,6 +183,7 @@ module _ (q : ℕ) {b c : ℕ} {u : List ℕ} {d : Doc} (t : Took whitespace0 b 
   pub deep-missing : (l : Lost) {l' : Lost} {r : List ℕ} → Rest b u c r → lostReply l ≡ tag 125 c r → l' ≡ furtherLost l q → lostReply l' ≡ deep-close q b u
   deep-missing l z e y = rw y (begin (deep-close q) b u (far-lost l z e))
 
+-- it goes on in the text, though a depth less
 leaves : {A : Type 0} (b : ℕ) (u : List ℕ) (x : Reply A) → MovesTo 1 0 b u x → Ends b u x
 leaves b u (ok a c r) p = (to-suf (p .0), p .1)
 leaves b u (fail p) q = tt

@@ -1,4 +1,4 @@
--- Laws of names behind keywords, device types, defaults and instances of attributes.
+-- Laws of names behind keywords, device types, defaults, instances, and endpoints counted.
 use mathlib.Core.Path.{_≡_, refl, sym, ap, _∙_, subst}
 use mathlib.Core.List.{List, [], _∷_, map}
 use mathlib.Core.Bool.{Bool}
