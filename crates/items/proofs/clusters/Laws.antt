@@ -8,15 +8,22 @@ use native.Mathlib.Omega.{arith}
 use Rattle.lexing.specs.bytes.{ascii}
 use Rattle.lexing.specs.reply.{Reply, ok, fail, stop, Parser, _or_, further}
 use Rattle.lexing.specs.words.{Word, keyword, any-keyword}
+use Rattle.lexing.specs.blanks.{Doc, no-doc, whitespace0}
+use Rattle.lexing.specs.word_sets.{same-bytes}
 use Rattle.lexing.specs.answers.{wordAt, wordReply, lostReply}
 use Rattle.lexing.specs.declared.answers.Lost.{Lost}
 use Rattle.lexing.specs.declared.answers.Lost.the-variants.{Fail, Stop}
 use Rattle.lexing.specs.declared.answers.Step.{Step}
 use Rattle.lexing.specs.declared.answers.Step.the-variants.{Next, Not}
 use Rattle.lexing.proofs.Slicing.{told-next, told-not}
-use Rattle.lexing.proofs.FirstWord.{Starts, starts-of, Frees, StartsAny}
+use Rattle.lexing.proofs.FirstWord.{Starts, starts-of, Frees, StartsAny, starts-free}
 use Rattle.lexing.proofs.words.Laws.{keyword-says}
-use Rattle.items.specs.inner.clusters.{found, raised}
+use Rattle.items.specs.entries.{parse-bitmap-after-doc-maturity, parse-enum-after-doc-maturity}
+use Rattle.items.specs.clusters.{Member, member-tries}
+use Rattle.items.specs.inner.clusters.{revision-words, bitmap-words, enum-words, struct-words, attribute-words, command-words, event-words, found, raised, member-try, KindTo}
+use Rattle.items.specs.declared.clusters.MemberKind.{MemberKind}
+use Rattle.items.specs.declared.clusters.MemberKind.the-variants.{Revision, Bitmap, Enum, Struct, Attribute, Command, Event, Unknown}
+use Rattle.items.proofs.Tries.{mapped-fail, revision-elsewhere, choice-elsewhere, struct-elsewhere, attribute-elsewhere, command-elsewhere, event-elsewhere}
 
 -- a keyword is there or fails at its start
 pub data Stands (k : List ℕ) (b : ℕ) (u : List ℕ) : Type 0 where
@@ -99,3 +106,172 @@ any-more {t} {r} k ks b u e h z = go (stands k b u)
     go : Stands k b u → r ≡ found (any-keyword (k ∷ ks) b u)
     go (there w c v q) = absurd (true≢false (sym (any-there k [] b u w c v q) ∙ (sym e ∙ h)))
     go (elsewhere q) = z ∙ sym (any-elsewhere k ks b u q)
+
+-- Tries one after the other, of which all but one fail: its reply, raised to the furthest place n of theirs.
+raised-by : {A : Type 0} (b : ℕ) (u : List ℕ) (m k : Parser A) (p : ℕ) → m b u ≡ fail p → (m or k) b u ≡ raised p (k b u)
+unfolding _or_ further
+raised-by {A} b u m k p e = rw (e, _or_) (go (k b u) refl)
+  where
+    go : (x : Reply A) → k b u ≡ x → further p x ≡ raised p x
+    go (ok a c r) z = refl
+    go (fail q) z = refl
+    go (stop n q) z = refl
+
+raised-more : {A : Type 0} (p n : ℕ) (x : Reply A) → p ≤ n → raised p (raised n x) ≡ raised n x
+raised-more p n (ok a c r) h = refl
+raised-more p n (fail q) h = let z : max p (max n q) ≡ max n q = omega (arith, h) in ap fail z
+raised-more p n (stop i q) h = refl
+
+module _ {A : Type 0} {b : ℕ} {u : List ℕ} where
+  -- a try before it
+  pub or-pass : (m k : Parser A) {p n : ℕ} (X : Reply A) → m b u ≡ fail p → p ≤ n → k b u ≡ raised n X → (m or k) b u ≡ raised n X
+  or-pass m k {p} {n} X e h f = raised-by b u m k p e ∙ (ap (raised p) f ∙ raised-more p n X h)
+
+  -- the tries behind it
+  pub or-stay : (m k : Parser A) {n : ℕ} → k b u ≡ fail n → (m or k) b u ≡ raised n (m b u)
+  unfolding _or_ further
+  or-stay m k {n} e = go (m b u) refl
+    where
+      go : (x : Reply A) → m b u ≡ x → (m or k) b u ≡ raised n (m b u)
+      go (ok a c r) z = rw (z, _or_) refl
+      go (fail p) z = let y : max p n ≡ max n p = omega arith in rw (z, _or_) (rw e (rw y))
+      go (stop i p) z = rw (z, _or_) refl
+
+  -- the last try
+  pub or-last : (m k : Parser A) {n : ℕ} → m b u ≡ fail n → (m or k) b u ≡ raised n (k b u)
+  or-last m k {n} e = raised-by b u m k n e
+
+  -- tries that fail, no further than at n and at n
+  pub or-low : (m k : Parser A) {p n : ℕ} → m b u ≡ fail p → p ≤ n → k b u ≡ fail n → (m or k) b u ≡ fail n
+  or-low m k {p} {n} e h f = let z : max p n ≡ n = omega (arith, h) in raised-by b u m k p e ∙ (ap (raised p) f ∙ ap fail z)
+
+  pub or-high : (m k : Parser A) {p n : ℕ} → m b u ≡ fail n → k b u ≡ fail p → p ≤ n → (m or k) b u ≡ fail n
+  or-high m k {p} {n} e f h = let z : max n p ≡ n = omega (arith, h) in raised-by b u m k n e ∙ (ap (raised n) f ∙ ap fail z)
+
+-- The kind of a member, where no blank stands before it. Tries that fail at the start:
+module _ (b : ℕ) (u : List ℕ) (clear : whitespace0 b u ≡ ok no-doc b u) (d : Doc) (m : ℕ) where
+  no-revision : Frees b u revision-words → member-try Revision d m b u ≡ fail b
+  unfolding member-try
+  no-revision f = revision-elsewhere b u f
+
+  no-bitmap : Frees b u bitmap-words → member-try Bitmap d m b u ≡ fail b
+  unfolding member-try parse-bitmap-after-doc-maturity
+  no-bitmap f = mapped-fail _ _ (choice-elsewhere b u d m (ascii "bitmap") (f .0) (f .1 .0))
+
+  no-enum : Frees b u enum-words → member-try Enum d m b u ≡ fail b
+  unfolding member-try parse-enum-after-doc-maturity
+  no-enum f = mapped-fail _ _ (choice-elsewhere b u d m (ascii "enum") (f .0) (f .1 .0))
+
+  no-struct : Frees b u (ascii "shared" ∷ struct-words) → member-try Struct d m b u ≡ fail b
+  unfolding member-try
+  no-struct f = mapped-fail _ _ (struct-elsewhere b u d m clear (f .0) (f .1))
+
+  no-attribute : Frees b u attribute-words → member-try Attribute d m b u ≡ fail b
+  unfolding member-try
+  no-attribute f = mapped-fail _ _ (attribute-elsewhere b u d m clear f)
+
+  no-command : Frees b u command-words → member-try Command d m b u ≡ fail b
+  unfolding member-try
+  no-command f = mapped-fail _ _ (command-elsewhere b u d m clear f)
+
+  no-event : Frees b u event-words → member-try Event d m b u ≡ fail b
+  unfolding member-try
+  no-event f = mapped-fail _ _ (event-elsewhere b u d m clear f)
+
+  -- and all behind one
+  b≤b : b ≤ b
+  b≤b = omega arith
+
+  from-command : Frees b u command-words → Frees b u event-words → (member-try Command d m or member-try Event d m) b u ≡ fail b
+  from-command c e = or-low _ _ (no-command c) b≤b (no-event e)
+
+  from-attribute : Frees b u attribute-words → Frees b u command-words → Frees b u event-words → (member-try Attribute d m or (member-try Command d m or member-try Event d m)) b u ≡ fail b
+  from-attribute a c e = or-low _ _ (no-attribute a) b≤b (from-command c e)
+
+  -- behind enums, whatever starts a struct
+  from-enum : {n : ℕ} → member-try Enum d m b u ≡ fail n → member-try Struct d m b u ≡ fail n → b ≤ n → Frees b u attribute-words → Frees b u command-words → Frees b u event-words
+      → (member-try Enum d m or (member-try Struct d m or (member-try Attribute d m or (member-try Command d m or member-try Event d m)))) b u ≡ fail n
+  from-enum {n} f s h a c e = let z : n ≤ n = omega arith in or-low _ _ f z (or-high _ _ s (from-attribute a c e) h)
+
+  module _ (r : Frees b u revision-words) where
+    before-bitmap : {n : ℕ} (X : Reply Member) → b ≤ n → (member-try Bitmap d m or (member-try Enum d m or (member-try Struct d m or (member-try Attribute d m or (member-try Command d m or member-try Event d m))))) b u ≡ raised n X → member-tries d m b u ≡ raised n X
+    unfolding member-tries member-try
+    before-bitmap X h e = or-pass _ _ X (no-revision r) h e
+
+    before-enum : {n : ℕ} (X : Reply Member) → member-try Bitmap d m b u ≡ fail n → b ≤ n → (member-try Enum d m or (member-try Struct d m or (member-try Attribute d m or (member-try Command d m or member-try Event d m)))) b u ≡ raised n X → member-tries d m b u ≡ raised n X
+    before-enum {n} X f h e = let z : n ≤ n = omega arith in before-bitmap X h (or-pass _ _ X f z e)
+
+    before-struct : {n : ℕ} (X : Reply Member) → member-try Bitmap d m b u ≡ fail n → member-try Enum d m b u ≡ fail n → b ≤ n → (member-try Struct d m or (member-try Attribute d m or (member-try Command d m or member-try Event d m))) b u ≡ raised n X → member-tries d m b u ≡ raised n X
+    before-struct {n} X f g h e = let z : n ≤ n = omega arith in before-enum X f h (or-pass _ _ X g z e)
+
+-- the first word of each kind leaves its try
+module _ (b : ℕ) (u : List ℕ) (clear : whitespace0 b u ≡ ok no-doc b u) where
+  pub at-revision : StartsAny revision-words u → KindTo (record { kind = Revision; floor = b }) b u
+  unfolding member-tries member-try same-bytes
+  at-revision s = record {
+    tries = λ d m.
+        let h : b ≤ b = omega arith in
+        or-stay _ _ (or-low _ _ (no-bitmap b u clear d m (starts-free s b bitmap-words refl)) h (
+            from-enum b u clear d m (no-enum b u clear d m (starts-free s b enum-words refl)) (no-struct b u clear d m (starts-free s b (ascii "shared" ∷ struct-words) refl)) h (starts-free s b attribute-words refl) (starts-free s b command-words refl) (starts-free s b event-words refl)
+            ));
+  }
+
+  pub at-bitmap : StartsAny (ascii "bitmap" ∷ []) u → KindTo (record { kind = Bitmap; floor = b }) b u
+  unfolding same-bytes
+  at-bitmap s = record {
+    tries = λ d m.
+        let h : b ≤ b = omega arith in
+        before-bitmap b u clear d m (starts-free s b revision-words refl) (member-try Bitmap d m b u) h (or-stay _ _ (
+            from-enum b u clear d m (no-enum b u clear d m (starts-free s b enum-words refl)) (no-struct b u clear d m (starts-free s b (ascii "shared" ∷ struct-words) refl)) h (starts-free s b attribute-words refl) (starts-free s b command-words refl) (starts-free s b event-words refl)
+            ));
+  }
+
+  pub at-enum : StartsAny (ascii "enum" ∷ []) u → KindTo (record { kind = Enum; floor = b }) b u
+  unfolding same-bytes
+  at-enum s = record {
+    tries = λ d m.
+        let h : b ≤ b = omega arith in
+        before-enum b u clear d m (starts-free s b revision-words refl) (member-try Enum d m b u) (no-bitmap b u clear d m (starts-free s b bitmap-words refl)) h (or-stay _ _ (
+            or-low _ _ (no-struct b u clear d m (starts-free s b (ascii "shared" ∷ struct-words) refl)) h (from-attribute b u clear d m (starts-free s b attribute-words refl) (starts-free s b command-words refl) (starts-free s b event-words refl))
+            ));
+  }
+
+  pub at-struct : StartsAny struct-words u → KindTo (record { kind = Struct; floor = b }) b u
+  unfolding same-bytes
+  at-struct s = record {
+    tries = λ d m.
+        let h : b ≤ b = omega arith in
+        before-struct b u clear d m (starts-free s b revision-words refl) (member-try Struct d m b u) (no-bitmap b u clear d m (starts-free s b bitmap-words refl)) (no-enum b u clear d m (starts-free s b enum-words refl)) h (or-stay _ _ (
+            from-attribute b u clear d m (starts-free s b attribute-words refl) (starts-free s b command-words refl) (starts-free s b event-words refl)
+            ));
+  }
+
+  pub at-attribute : StartsAny attribute-words u → KindTo (record { kind = Attribute; floor = b }) b u
+  unfolding same-bytes
+  at-attribute s = record {
+    tries = λ d m.
+        let h : b ≤ b = omega arith in
+        before-struct b u clear d m (starts-free s b revision-words refl) (member-try Attribute d m b u) (no-bitmap b u clear d m (starts-free s b bitmap-words refl)) (no-enum b u clear d m (starts-free s b enum-words refl)) h (
+            or-pass _ _ (member-try Attribute d m b u) (no-struct b u clear d m (starts-free s b (ascii "shared" ∷ struct-words) refl)) h (or-stay _ _ (from-command b u clear d m (starts-free s b command-words refl) (starts-free s b event-words refl)))
+            );
+  }
+
+  pub at-command : StartsAny command-words u → KindTo (record { kind = Command; floor = b }) b u
+  unfolding same-bytes
+  at-command s = record {
+    tries = λ d m.
+        let h : b ≤ b = omega arith in
+        before-struct b u clear d m (starts-free s b revision-words refl) (member-try Command d m b u) (no-bitmap b u clear d m (starts-free s b bitmap-words refl)) (no-enum b u clear d m (starts-free s b enum-words refl)) h (
+            or-pass _ _ (member-try Command d m b u) (no-struct b u clear d m (starts-free s b (ascii "shared" ∷ struct-words) refl)) h (or-pass _ _ (member-try Command d m b u) (no-attribute b u clear d m (starts-free s b attribute-words refl)) h (or-stay _ _ (no-event b u clear d m (starts-free s b event-words refl))))
+            );
+  }
+
+  pub at-event : StartsAny event-words u → KindTo (record { kind = Event; floor = b }) b u
+  unfolding same-bytes
+  at-event s = record {
+    tries = λ d m.
+        let h : b ≤ b = omega arith in
+        before-struct b u clear d m (starts-free s b revision-words refl) (member-try Event d m b u) (no-bitmap b u clear d m (starts-free s b bitmap-words refl)) (no-enum b u clear d m (starts-free s b enum-words refl)) h (
+            or-pass _ _ (member-try Event d m b u) (no-struct b u clear d m (starts-free s b (ascii "shared" ∷ struct-words) refl)) h (or-pass _ _ (member-try Event d m b u) (no-attribute b u clear d m (starts-free s b attribute-words refl)) h (or-last _ _ (no-command b u clear d m (starts-free s b command-words refl))))
+            );
+  }

@@ -18,6 +18,12 @@ use Rattle.items.specs.declared.clusters.Candidate.{Candidate}
 abbrev pub revision-words : List (List ℕ)
 revision-words = ascii "revision" ∷ []
 
+abbrev pub bitmap-words : List (List ℕ)
+bitmap-words = ascii "shared" ∷ ascii "bitmap" ∷ []
+
+abbrev pub enum-words : List (List ℕ)
+enum-words = ascii "shared" ∷ ascii "enum" ∷ []
+
 abbrev pub struct-words : List (List ℕ)
 struct-words = ascii "request" ∷ ascii "response" ∷ ascii "fabric_scoped" ∷ ascii "struct" ∷ []
 
