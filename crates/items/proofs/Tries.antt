@@ -37,6 +37,10 @@ pub opt-none : {A : Type 0} (m : Parser A) {b p : ℕ} {u : List ℕ} → m b u 
 unfolding opt
 opt-none m e = rw (e, opt)
 
+pub opt-some : {A : Type 0} (m : Parser A) {b c : ℕ} {u r : List ℕ} {a : A} → m b u ≡ ok a c r → opt m b u ≡ ok (some a) c r
+unfolding opt
+opt-some m e = rw (e, opt)
+
 pub or-both : {A : Type 0} (m k : Parser A) {b p : ℕ} {u : List ℕ} → m b u ≡ fail p → k b u ≡ fail p → (m or k) b u ≡ fail p
 unfolding _or_ further
 or-both m k {p = p} e f = let z : max p p ≡ p = omega arith in rw (e, _or_) (rw f (rw z))

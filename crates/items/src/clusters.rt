@@ -7,7 +7,7 @@ ghost use Rattle.lexing.specs.reply.{ok};
 ghost use Rattle.lexing.specs.words.{any-keyword};
 ghost use Rattle.lexing.specs.blanks.{no-doc, whitespace0};
 ghost use Rattle.items.specs.layout.{text-limit};
-ghost use Rattle.items.specs.inner.clusters.{struct-words, attribute-words, command-words, event-words, found, KindTo};
+ghost use Rattle.items.specs.inner.clusters.{struct-words, attribute-words, command-words, event-words, found, WordKindTo};
 use lexing::answers::Step;
 use lexing::blanks::whitespace0;
 use lexing::parts::rest_at;
@@ -105,4 +105,34 @@ fn starts_event(part: &[u8], base: usize) -> bool
         return true;
     }
     starts(part, base, b"debug")
+}
+
+// The kind that a first word other than `shared` says.
+fn word_kind(part: &[u8], base: usize) -> MemberKind
+    requires { ⌜ base + length (now part) ≤ text-limit ⌝ }
+    requires { ⌜ whitespace0 base (now part) ≡ ok no-doc base (now part) ⌝ }
+    ensures { λ r. ⌜ WordKindTo r base (now (part .entry)) ⌝ }
+{
+    if starts_attribute(part, base) {
+        return MemberKind::Attribute;
+    }
+    if starts_command(part, base) {
+        return MemberKind::Command;
+    }
+    if starts_struct(part, base) {
+        return MemberKind::Struct;
+    }
+    if starts_event(part, base) {
+        return MemberKind::Event;
+    }
+    if starts(part, base, b"enum") {
+        return MemberKind::Enum;
+    }
+    if starts(part, base, b"bitmap") {
+        return MemberKind::Bitmap;
+    }
+    if starts(part, base, b"revision") {
+        return MemberKind::Revision;
+    }
+    MemberKind::Unknown
 }

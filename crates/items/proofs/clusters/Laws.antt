@@ -8,7 +8,7 @@ use native.Mathlib.Omega.{arith}
 use Rattle.lexing.specs.bytes.{ascii}
 use Rattle.lexing.specs.reply.{Reply, ok, fail, stop, Parser, _or_, further}
 use Rattle.lexing.specs.words.{Word, keyword, any-keyword}
-use Rattle.lexing.specs.blanks.{Doc, no-doc, whitespace0}
+use Rattle.lexing.specs.blanks.{Doc, no-doc, whitespace0, whitespace1}
 use Rattle.lexing.specs.word_sets.{same-bytes}
 use Rattle.lexing.specs.answers.{wordAt, wordReply, lostReply}
 use Rattle.lexing.specs.declared.answers.Lost.{Lost}
@@ -18,12 +18,12 @@ use Rattle.lexing.specs.declared.answers.Step.the-variants.{Next, Not}
 use Rattle.lexing.proofs.Slicing.{told-next, told-not}
 use Rattle.lexing.proofs.FirstWord.{Starts, starts-of, Frees, StartsAny, starts-free}
 use Rattle.lexing.proofs.words.Laws.{keyword-says}
-use Rattle.items.specs.entries.{parse-bitmap-after-doc-maturity, parse-enum-after-doc-maturity}
+use Rattle.items.specs.entries.{shared-before, choice-head, choice-after-doc-maturity, parse-bitmap-after-doc-maturity, parse-enum-after-doc-maturity}
 use Rattle.items.specs.clusters.{Member, member-tries}
-use Rattle.items.specs.inner.clusters.{revision-words, bitmap-words, enum-words, struct-words, attribute-words, command-words, event-words, found, raised, member-try, KindTo}
+use Rattle.items.specs.inner.clusters.{OtherWord, revision-words, bitmap-words, enum-words, struct-words, attribute-words, command-words, event-words, found, raised, member-try, KindTo}
 use Rattle.items.specs.declared.clusters.MemberKind.{MemberKind}
 use Rattle.items.specs.declared.clusters.MemberKind.the-variants.{Revision, Bitmap, Enum, Struct, Attribute, Command, Event, Unknown}
-use Rattle.items.proofs.Tries.{mapped-fail, revision-elsewhere, choice-elsewhere, struct-elsewhere, attribute-elsewhere, command-elsewhere, event-elsewhere}
+use Rattle.items.proofs.Tries.{bind-ok, bind-fail, then-fail, opt-none, opt-some, mapped-fail, revision-elsewhere, choice-elsewhere, struct-elsewhere, attribute-elsewhere, command-elsewhere, event-elsewhere}
 
 -- a keyword is there or fails at its start
 pub data Stands (k : List ℕ) (b : ℕ) (u : List ℕ) : Type 0 where
@@ -122,10 +122,18 @@ raised-more p n (ok a c r) h = refl
 raised-more p n (fail q) h = let z : max p (max n q) ≡ max n q = omega (arith, h) in ap fail z
 raised-more p n (stop i q) h = refl
 
+raised-less : {A : Type 0} (p n : ℕ) (x : Reply A) → p ≤ n → raised n (raised p x) ≡ raised n x
+raised-less p n (ok a c r) h = refl
+raised-less p n (fail q) h = let z : max n (max p q) ≡ max n q = omega (arith, h) in ap fail z
+raised-less p n (stop i q) h = refl
+
 module _ {A : Type 0} {b : ℕ} {u : List ℕ} where
   -- a try before it
   pub or-pass : (m k : Parser A) {p n : ℕ} (X : Reply A) → m b u ≡ fail p → p ≤ n → k b u ≡ raised n X → (m or k) b u ≡ raised n X
   or-pass m k {p} {n} X e h f = raised-by b u m k p e ∙ (ap (raised p) f ∙ raised-more p n X h)
+
+  pub or-over : (m k : Parser A) {p n : ℕ} (X : Reply A) → m b u ≡ fail n → p ≤ n → k b u ≡ raised p X → (m or k) b u ≡ raised n X
+  or-over m k {p} {n} X e h f = raised-by b u m k n e ∙ (ap (raised n) f ∙ raised-less p n X h)
 
   -- the tries behind it
   pub or-stay : (m k : Parser A) {n : ℕ} → k b u ≡ fail n → (m or k) b u ≡ raised n (m b u)
@@ -204,6 +212,28 @@ module _ (b : ℕ) (u : List ℕ) (clear : whitespace0 b u ≡ ok no-doc b u) (d
     before-struct : {n : ℕ} (X : Reply Member) → member-try Bitmap d m b u ≡ fail n → member-try Enum d m b u ≡ fail n → b ≤ n → (member-try Struct d m or (member-try Attribute d m or (member-try Command d m or member-try Event d m))) b u ≡ raised n X → member-tries d m b u ≡ raised n X
     before-struct {n} X f g h e = let z : n ≤ n = omega arith in before-enum X f h (or-pass _ _ X g z e)
 
+-- enums and bitmaps, where `shared` is not before them
+choice-not-shared : (b : ℕ) (u : List ℕ) (d : Doc) (m : ℕ) {p : ℕ} → shared-before b u ≡ fail p → (j : List ℕ) → keyword j b u ≡ fail b → choice-after-doc-maturity j d m b u ≡ fail b
+unfolding choice-after-doc-maturity choice-head
+choice-not-shared b u d m e j f = bind-fail _ _ (bind-ok _ _ (opt-none _ e) ∙ then-fail _ _ f)
+
+shared-unfollowed : (b : ℕ) (u : List ℕ) {w : Word} {c : ℕ} {r : List ℕ} → keyword (ascii "shared") b u ≡ ok w c r → whitespace1 c r ≡ fail c → shared-before b u ≡ fail c
+unfolding shared-before
+shared-unfollowed b u k e = bind-ok _ _ k ∙ then-fail _ _ e
+
+-- and where it is
+choice-shared : (b : ℕ) (u : List ℕ) (d : Doc) (m : ℕ) {w : Word} {c : ℕ} {r : List ℕ} → shared-before b u ≡ ok w c r → (j : List ℕ) → keyword j c r ≡ fail c → choice-after-doc-maturity j d m b u ≡ fail c
+unfolding choice-after-doc-maturity choice-head
+choice-shared b u d m e j f = bind-fail _ _ (bind-ok _ _ (opt-some _ e) ∙ then-fail _ _ f)
+
+as-bitmap : (b : ℕ) (u : List ℕ) (d : Doc) (m : ℕ) {p : ℕ} → choice-after-doc-maturity (ascii "bitmap") d m b u ≡ fail p → member-try Bitmap d m b u ≡ fail p
+unfolding member-try parse-bitmap-after-doc-maturity
+as-bitmap b u d m e = mapped-fail _ _ e
+
+as-enum : (b : ℕ) (u : List ℕ) (d : Doc) (m : ℕ) {p : ℕ} → choice-after-doc-maturity (ascii "enum") d m b u ≡ fail p → member-try Enum d m b u ≡ fail p
+unfolding member-try parse-enum-after-doc-maturity
+as-enum b u d m e = mapped-fail _ _ e
+
 -- the first word of each kind leaves its try
 module _ (b : ℕ) (u : List ℕ) (clear : whitespace0 b u ≡ ok no-doc b u) where
   pub at-revision : StartsAny revision-words u → KindTo (record { kind = Revision; floor = b }) b u
@@ -212,8 +242,8 @@ module _ (b : ℕ) (u : List ℕ) (clear : whitespace0 b u ≡ ok no-doc b u) wh
     tries = λ d m.
         let h : b ≤ b = omega arith in
         or-stay _ _ (or-low _ _ (no-bitmap b u clear d m (starts-free s b bitmap-words refl)) h (
-            from-enum b u clear d m (no-enum b u clear d m (starts-free s b enum-words refl)) (no-struct b u clear d m (starts-free s b (ascii "shared" ∷ struct-words) refl)) h (starts-free s b attribute-words refl) (starts-free s b command-words refl) (starts-free s b event-words refl)
-            ));
+        from-enum b u clear d m (no-enum b u clear d m (starts-free s b enum-words refl)) (no-struct b u clear d m (starts-free s b (ascii "shared" ∷ struct-words) refl)) h (starts-free s b attribute-words refl) (starts-free s b command-words refl) (starts-free s b event-words refl)
+        ));
   }
 
   pub at-bitmap : StartsAny (ascii "bitmap" ∷ []) u → KindTo (record { kind = Bitmap; floor = b }) b u
@@ -222,8 +252,8 @@ module _ (b : ℕ) (u : List ℕ) (clear : whitespace0 b u ≡ ok no-doc b u) wh
     tries = λ d m.
         let h : b ≤ b = omega arith in
         before-bitmap b u clear d m (starts-free s b revision-words refl) (member-try Bitmap d m b u) h (or-stay _ _ (
-            from-enum b u clear d m (no-enum b u clear d m (starts-free s b enum-words refl)) (no-struct b u clear d m (starts-free s b (ascii "shared" ∷ struct-words) refl)) h (starts-free s b attribute-words refl) (starts-free s b command-words refl) (starts-free s b event-words refl)
-            ));
+        from-enum b u clear d m (no-enum b u clear d m (starts-free s b enum-words refl)) (no-struct b u clear d m (starts-free s b (ascii "shared" ∷ struct-words) refl)) h (starts-free s b attribute-words refl) (starts-free s b command-words refl) (starts-free s b event-words refl)
+        ));
   }
 
   pub at-enum : StartsAny (ascii "enum" ∷ []) u → KindTo (record { kind = Enum; floor = b }) b u
@@ -232,8 +262,8 @@ module _ (b : ℕ) (u : List ℕ) (clear : whitespace0 b u ≡ ok no-doc b u) wh
     tries = λ d m.
         let h : b ≤ b = omega arith in
         before-enum b u clear d m (starts-free s b revision-words refl) (member-try Enum d m b u) (no-bitmap b u clear d m (starts-free s b bitmap-words refl)) h (or-stay _ _ (
-            or-low _ _ (no-struct b u clear d m (starts-free s b (ascii "shared" ∷ struct-words) refl)) h (from-attribute b u clear d m (starts-free s b attribute-words refl) (starts-free s b command-words refl) (starts-free s b event-words refl))
-            ));
+        or-low _ _ (no-struct b u clear d m (starts-free s b (ascii "shared" ∷ struct-words) refl)) h (from-attribute b u clear d m (starts-free s b attribute-words refl) (starts-free s b command-words refl) (starts-free s b event-words refl))
+        ));
   }
 
   pub at-struct : StartsAny struct-words u → KindTo (record { kind = Struct; floor = b }) b u
@@ -242,8 +272,8 @@ module _ (b : ℕ) (u : List ℕ) (clear : whitespace0 b u ≡ ok no-doc b u) wh
     tries = λ d m.
         let h : b ≤ b = omega arith in
         before-struct b u clear d m (starts-free s b revision-words refl) (member-try Struct d m b u) (no-bitmap b u clear d m (starts-free s b bitmap-words refl)) (no-enum b u clear d m (starts-free s b enum-words refl)) h (or-stay _ _ (
-            from-attribute b u clear d m (starts-free s b attribute-words refl) (starts-free s b command-words refl) (starts-free s b event-words refl)
-            ));
+        from-attribute b u clear d m (starts-free s b attribute-words refl) (starts-free s b command-words refl) (starts-free s b event-words refl)
+        ));
   }
 
   pub at-attribute : StartsAny attribute-words u → KindTo (record { kind = Attribute; floor = b }) b u
@@ -252,8 +282,8 @@ module _ (b : ℕ) (u : List ℕ) (clear : whitespace0 b u ≡ ok no-doc b u) wh
     tries = λ d m.
         let h : b ≤ b = omega arith in
         before-struct b u clear d m (starts-free s b revision-words refl) (member-try Attribute d m b u) (no-bitmap b u clear d m (starts-free s b bitmap-words refl)) (no-enum b u clear d m (starts-free s b enum-words refl)) h (
-            or-pass _ _ (member-try Attribute d m b u) (no-struct b u clear d m (starts-free s b (ascii "shared" ∷ struct-words) refl)) h (or-stay _ _ (from-command b u clear d m (starts-free s b command-words refl) (starts-free s b event-words refl)))
-            );
+        or-pass _ _ (member-try Attribute d m b u) (no-struct b u clear d m (starts-free s b (ascii "shared" ∷ struct-words) refl)) h (or-stay _ _ (from-command b u clear d m (starts-free s b command-words refl) (starts-free s b event-words refl)))
+        );
   }
 
   pub at-command : StartsAny command-words u → KindTo (record { kind = Command; floor = b }) b u
@@ -262,8 +292,8 @@ module _ (b : ℕ) (u : List ℕ) (clear : whitespace0 b u ≡ ok no-doc b u) wh
     tries = λ d m.
         let h : b ≤ b = omega arith in
         before-struct b u clear d m (starts-free s b revision-words refl) (member-try Command d m b u) (no-bitmap b u clear d m (starts-free s b bitmap-words refl)) (no-enum b u clear d m (starts-free s b enum-words refl)) h (
-            or-pass _ _ (member-try Command d m b u) (no-struct b u clear d m (starts-free s b (ascii "shared" ∷ struct-words) refl)) h (or-pass _ _ (member-try Command d m b u) (no-attribute b u clear d m (starts-free s b attribute-words refl)) h (or-stay _ _ (no-event b u clear d m (starts-free s b event-words refl))))
-            );
+        or-pass _ _ (member-try Command d m b u) (no-struct b u clear d m (starts-free s b (ascii "shared" ∷ struct-words) refl)) h (or-pass _ _ (member-try Command d m b u) (no-attribute b u clear d m (starts-free s b attribute-words refl)) h (or-stay _ _ (no-event b u clear d m (starts-free s b event-words refl))))
+        );
   }
 
   pub at-event : StartsAny event-words u → KindTo (record { kind = Event; floor = b }) b u
@@ -272,6 +302,38 @@ module _ (b : ℕ) (u : List ℕ) (clear : whitespace0 b u ≡ ok no-doc b u) wh
     tries = λ d m.
         let h : b ≤ b = omega arith in
         before-struct b u clear d m (starts-free s b revision-words refl) (member-try Event d m b u) (no-bitmap b u clear d m (starts-free s b bitmap-words refl)) (no-enum b u clear d m (starts-free s b enum-words refl)) h (
-            or-pass _ _ (member-try Event d m b u) (no-struct b u clear d m (starts-free s b (ascii "shared" ∷ struct-words) refl)) h (or-pass _ _ (member-try Event d m b u) (no-attribute b u clear d m (starts-free s b attribute-words refl)) h (or-last _ _ (no-command b u clear d m (starts-free s b command-words refl))))
-            );
+        or-pass _ _ (member-try Event d m b u) (no-struct b u clear d m (starts-free s b (ascii "shared" ∷ struct-words) refl)) h (or-pass _ _ (member-try Event d m b u) (no-attribute b u clear d m (starts-free s b attribute-words refl)) h (or-last _ _ (no-command b u clear d m (starts-free s b command-words refl))))
+        );
   }
+
+  -- none of the words, and not `shared`
+  pub at-other : OtherWord b u → keyword (ascii "shared") b u ≡ fail b → KindTo (record { kind = Unknown; floor = b }) b u
+  unfolding member-tries member-try
+  at-other o k = record {
+    tries = λ d m.
+        let h : b ≤ b = omega arith in
+        let z : max b b ≡ b = omega arith in
+        or-low _ _ (no-revision b u clear d m (frees-all revision-words b u (o .revision))) h (
+        or-low _ _ (no-bitmap b u clear d m (k, frees-all (ascii "bitmap" ∷ []) b u (o .bitmap))) h (
+        from-enum b u clear d m (no-enum b u clear d m (k, frees-all (ascii "enum" ∷ []) b u (o .enum))) (no-struct b u clear d m (k, frees-all struct-words b u (o .struct))) h (frees-all attribute-words b u (o .attribute)) (frees-all command-words b u (o .command)) (frees-all event-words b u (o .event))
+        )
+        )
+        ∙ ap fail (sym z);
+  }
+
+  -- `shared`, and what follows it
+  module _ {w : Word} {c : ℕ} {r : List ℕ} (k : keyword (ascii "shared") b u ≡ ok w c r) where
+    starts-shared : StartsAny (ascii "shared" ∷ []) u
+    starts-shared = record { first = ascii "shared"; among = inl refl; starts = starts-of (ascii "shared") b u w c r k }
+
+    -- no blank follows: it can only be a struct's
+    pub at-shared : whitespace1 c r ≡ fail c → KindTo (record { kind = Struct; floor = b }) b u
+    unfolding same-bytes
+    at-shared e = record {
+      tries = λ d m.
+          let h : b ≤ b = omega arith in
+          let s = starts-shared in
+          let n = choice-not-shared b u d m (shared-unfollowed b u k e) in
+          before-struct b u clear d m (starts-free s b revision-words refl) (member-try Struct d m b u) (as-bitmap b u d m (n (ascii "bitmap") (starts-free s b (ascii "bitmap" ∷ []) refl .0))) (as-enum b u d m (n (ascii "enum") (starts-free s b (ascii "enum" ∷ []) refl .0))) h
+          (or-stay _ _ (from-attribute b u clear d m (starts-free s b attribute-words refl) (starts-free s b command-words refl) (starts-free s b event-words refl)));
+    }
