@@ -7,7 +7,7 @@ ghost use Rattle.lexing.specs.reply.{ok};
 ghost use Rattle.lexing.specs.words.{any-keyword};
 ghost use Rattle.lexing.specs.blanks.{no-doc, whitespace0};
 ghost use Rattle.items.specs.layout.{text-limit};
-ghost use Rattle.items.specs.inner.clusters.{struct-words, attribute-words, command-words, event-words, found, WordKindTo};
+ghost use Rattle.items.specs.inner.clusters.{struct-words, attribute-words, command-words, event-words, found, OtherWord, KindTo, WordKindTo};
 use lexing::answers::Step;
 use lexing::blanks::whitespace0;
 use lexing::parts::rest_at;
@@ -135,4 +135,44 @@ fn word_kind(part: &[u8], base: usize) -> MemberKind
         return MemberKind::Revision;
     }
     MemberKind::Unknown
+}
+
+// The same, where the first word can be `shared`: the word behind it decides.
+fn shared_kind(part: &[u8], base: usize) -> Candidate
+    requires { ⌜ base + length (now part) ≤ text-limit ⌝ }
+    requires { ⌜ whitespace0 base (now part) ≡ ok no-doc base (now part) ⌝ }
+    requires { ⌜ OtherWord base (now part) ⌝ }
+    ensures { λ r. ⌜ KindTo r base (now (part .entry)) ⌝ }
+{
+    let word = keyword(part, base, b"shared");
+    let Step::Next(c1) = word else {
+        return Candidate {
+            kind: MemberKind::Unknown,
+            floor: base,
+        };
+    };
+    let w = whitespace0(rest_at(part, base, c1), c1);
+    let floor = w.next;
+    if floor == c1 {
+        return Candidate {
+            kind: MemberKind::Struct,
+            floor: base,
+        };
+    }
+    if starts(rest_at(part, base, floor), floor, b"bitmap") {
+        return Candidate {
+            kind: MemberKind::Bitmap,
+            floor,
+        };
+    }
+    if starts(rest_at(part, base, floor), floor, b"enum") {
+        return Candidate {
+            kind: MemberKind::Enum,
+            floor,
+        };
+    }
+    Candidate {
+        kind: MemberKind::Struct,
+        floor,
+    }
 }

@@ -3,27 +3,31 @@ use mathlib.Core.Path.{_≡_, refl, sym, ap, _∙_, subst}
 use mathlib.Core.Logic.{_⊎_, inl, inr}
 use mathlib.Core.Bool.{Bool, true, false, true≢false, false≢true}
 use mathlib.Core.List.{List, [], _∷_}
-use Prim.Native.Nat.{ℕ, _≤_, max}
+use Prim.Native.Nat.{ℕ, _+_, _-_, _≤_, max}
 use native.Mathlib.Omega.{arith}
+use lib.ListN.{length, drop}
 use Rattle.lexing.specs.bytes.{ascii}
-use Rattle.lexing.specs.reply.{Reply, ok, fail, stop, Parser, _or_, further}
+use Rattle.lexing.specs.reply.{Reply, ok, fail, stop, Parser, ret, _or_, further}
 use Rattle.lexing.specs.words.{Word, keyword, any-keyword}
 use Rattle.lexing.specs.blanks.{Doc, no-doc, whitespace0, whitespace1}
-use Rattle.lexing.specs.word_sets.{same-bytes}
-use Rattle.lexing.specs.answers.{wordAt, wordReply, lostReply}
+use Rattle.lexing.specs.word_sets.{same-bytes, sets, set-of}
+use Rattle.lexing.specs.answers.{Rest, docOf, wordAt, wordReply, lostReply, BlankTo}
+use Rattle.lexing.specs.declared.blanks.Blank.{Blank}
 use Rattle.lexing.specs.declared.answers.Lost.{Lost}
 use Rattle.lexing.specs.declared.answers.Lost.the-variants.{Fail, Stop}
 use Rattle.lexing.specs.declared.answers.Step.{Step}
 use Rattle.lexing.specs.declared.answers.Step.the-variants.{Next, Not}
-use Rattle.lexing.proofs.Slicing.{told-next, told-not}
-use Rattle.lexing.proofs.FirstWord.{Starts, starts-of, Frees, StartsAny, starts-free}
+use Rattle.lexing.proofs.Slicing.{Took, told-next, told-not, blank-took}
+use Rattle.lexing.proofs.blanks.Laws.{gap-none, gap-some}
+use Rattle.lexing.proofs.FirstWord.{Starts, starts-of, Frees, free-set, StartsAny, starts-free, blank-clear}
 use Rattle.lexing.proofs.words.Laws.{keyword-says}
 use Rattle.items.specs.entries.{shared-before, choice-head, choice-after-doc-maturity, parse-bitmap-after-doc-maturity, parse-enum-after-doc-maturity}
+use Rattle.items.specs.structs.{struct-head, parse-struct-after-doc-maturity}
 use Rattle.items.specs.clusters.{Member, member-tries}
 use Rattle.items.specs.inner.clusters.{OtherWord, revision-words, bitmap-words, enum-words, struct-words, attribute-words, command-words, event-words, found, raised, member-try, KindTo}
 use Rattle.items.specs.declared.clusters.MemberKind.{MemberKind}
 use Rattle.items.specs.declared.clusters.MemberKind.the-variants.{Revision, Bitmap, Enum, Struct, Attribute, Command, Event, Unknown}
-use Rattle.items.proofs.Tries.{bind-ok, bind-fail, then-fail, opt-none, opt-some, mapped-fail, revision-elsewhere, choice-elsewhere, struct-elsewhere, attribute-elsewhere, command-elsewhere, event-elsewhere}
+use Rattle.items.proofs.Tries.{bind-ok, bind-fail, then-ok, then-fail, opt-none, opt-some, mapped-fail, revision-elsewhere, choice-elsewhere, struct-elsewhere, attribute-elsewhere, command-elsewhere, event-elsewhere}
 
 -- a keyword is there or fails at its start
 pub data Stands (k : List ℕ) (b : ℕ) (u : List ℕ) : Type 0 where
@@ -226,6 +230,21 @@ choice-shared : (b : ℕ) (u : List ℕ) (d : Doc) (m : ℕ) {w : Word} {c : ℕ
 unfolding choice-after-doc-maturity choice-head
 choice-shared b u d m e j f = bind-fail _ _ (bind-ok _ _ (opt-some _ e) ∙ then-fail _ _ f)
 
+shared-followed : (b : ℕ) (u : List ℕ) {w : Word} {c c₂ : ℕ} {r r₂ : List ℕ} {e : Doc} → keyword (ascii "shared") b u ≡ ok w c r → whitespace1 c r ≡ ok e c₂ r₂ → shared-before b u ≡ ok w c₂ r₂
+unfolding shared-before ret
+shared-followed b u k g = bind-ok _ _ k ∙ then-ok _ _ g
+
+any-third : (i j k : List ℕ) (b : ℕ) (u : List ℕ) {w : Word} {c : ℕ} {r : List ℕ} → Frees b u (i ∷ j ∷ []) → keyword k b u ≡ ok w c r → any-keyword (i ∷ j ∷ k ∷ []) b u ≡ ok w c r
+unfolding any-keyword _or_ further
+any-third i j k b u f e = rw (f .0, _or_) (rw (f .1 .0, _or_) (rw (e, _or_)))
+
+-- a struct behind `shared` and blanks
+struct-shared : (b : ℕ) (u : List ℕ) (d : Doc) (m : ℕ) → Frees b u (ascii "request" ∷ ascii "response" ∷ []) → {w : Word} {c c₂ : ℕ} {r r₂ : List ℕ} {e : Doc} → keyword (ascii "shared") b u ≡ ok w c r → whitespace0 c r ≡ ok e c₂ r₂
+    → whitespace0 c₂ r₂ ≡ ok no-doc c₂ r₂ → Frees c₂ r₂ (ascii "fabric_scoped" ∷ ascii "struct" ∷ []) → member-try Struct d m b u ≡ fail c₂
+unfolding member-try parse-struct-after-doc-maturity struct-head set-of sets
+struct-shared b u d m q {w} {c} {c₂} {r} {r₂} k g clear f =
+    mapped-fail _ _ (bind-fail _ _ (bind-ok _ _ (opt-some _ (any-third _ _ _ b u q k)) ∙ (then-ok _ _ g ∙ (bind-ok _ _ (free-set c₂ r₂ 1 (f .0, tt)) ∙ (then-ok _ _ clear ∙ then-fail _ _ (f .1 .0))))))
+
 as-bitmap : (b : ℕ) (u : List ℕ) (d : Doc) (m : ℕ) {p : ℕ} → choice-after-doc-maturity (ascii "bitmap") d m b u ≡ fail p → member-try Bitmap d m b u ≡ fail p
 unfolding member-try parse-bitmap-after-doc-maturity
 as-bitmap b u d m e = mapped-fail _ _ e
@@ -337,3 +356,84 @@ module _ (b : ℕ) (u : List ℕ) (clear : whitespace0 b u ≡ ok no-doc b u) wh
           before-struct b u clear d m (starts-free s b revision-words refl) (member-try Struct d m b u) (as-bitmap b u d m (n (ascii "bitmap") (starts-free s b (ascii "bitmap" ∷ []) refl .0))) (as-enum b u d m (n (ascii "enum") (starts-free s b (ascii "enum" ∷ []) refl .0))) h
           (or-stay _ _ (from-attribute b u clear d m (starts-free s b attribute-words refl) (starts-free s b command-words refl) (starts-free s b event-words refl)));
     }
+
+    -- a blank follows, up to c₂: the word behind it decides
+    module _ {e : Doc} {c₂ : ℕ} {r₂ : List ℕ} (g : whitespace1 c r ≡ ok e c₂ r₂) (g₀ : whitespace0 c r ≡ ok e c₂ r₂) (h : b ≤ c₂) where
+      no-choice : (d : Doc) (m : ℕ) (j : List ℕ) → keyword j c₂ r₂ ≡ fail c₂ → choice-after-doc-maturity j d m b u ≡ fail c₂
+      no-choice d m j f = choice-shared b u d m (shared-followed b u k g) j f
+
+      no-struct-behind : (d : Doc) (m : ℕ) → Frees c₂ r₂ (ascii "fabric_scoped" ∷ ascii "struct" ∷ []) → member-try Struct d m b u ≡ fail c₂
+      unfolding same-bytes
+      no-struct-behind d m f = struct-shared b u d m (starts-free starts-shared b (ascii "request" ∷ ascii "response" ∷ []) refl) k g₀ (blank-clear c r e c₂ r₂ g₀) f
+
+      pub at-shared-bitmap : StartsAny (ascii "bitmap" ∷ []) r₂ → KindTo (record { kind = Bitmap; floor = c₂ }) b u
+      unfolding same-bytes
+      at-shared-bitmap s = record {
+        tries = λ d m.
+            let t = starts-shared in
+            before-bitmap b u clear d m (starts-free t b revision-words refl) (member-try Bitmap d m b u) h (or-stay _ _ (
+            from-enum b u clear d m (as-enum b u d m (no-choice d m (ascii "enum") (starts-free s c₂ (ascii "enum" ∷ []) refl .0))) (no-struct-behind d m (starts-free s c₂ (ascii "fabric_scoped" ∷ ascii "struct" ∷ []) refl)) h
+            (starts-free t b attribute-words refl) (starts-free t b command-words refl) (starts-free t b event-words refl)
+            ));
+      }
+
+      pub at-shared-enum : StartsAny (ascii "enum" ∷ []) r₂ → KindTo (record { kind = Enum; floor = c₂ }) b u
+      unfolding same-bytes
+      at-shared-enum s = record {
+        tries = λ d m.
+            let t = starts-shared in
+            before-enum b u clear d m (starts-free t b revision-words refl) (member-try Enum d m b u) (as-bitmap b u d m (no-choice d m (ascii "bitmap") (starts-free s c₂ (ascii "bitmap" ∷ []) refl .0))) h (or-stay _ _ (
+            or-high _ _ (no-struct-behind d m (starts-free s c₂ (ascii "fabric_scoped" ∷ ascii "struct" ∷ []) refl)) (from-attribute b u clear d m (starts-free t b attribute-words refl) (starts-free t b command-words refl) (starts-free t b event-words refl)) h
+            ));
+      }
+
+      pub at-shared-struct : Frees c₂ r₂ (ascii "bitmap" ∷ []) → Frees c₂ r₂ (ascii "enum" ∷ []) → KindTo (record { kind = Struct; floor = c₂ }) b u
+      unfolding same-bytes
+      at-shared-struct f f' = record {
+        tries = λ d m.
+            let t = starts-shared in
+            before-enum b u clear d m (starts-free t b revision-words refl) (member-try Struct d m b u) (as-bitmap b u d m (no-choice d m (ascii "bitmap") (f .0))) h (
+            or-over _ _ (member-try Struct d m b u) (as-enum b u d m (no-choice d m (ascii "enum") (f' .0))) h (or-stay _ _ (from-attribute b u clear d m (starts-free t b attribute-words refl) (starts-free t b command-words refl) (starts-free t b event-words refl)))
+            );
+      }
+
+-- the code's answers behind `shared`
+pub keyword-absent : (k : List ℕ) (b : ℕ) (u : List ℕ) (a : Step) → wordReply a b u ≡ keyword k b u → (l : Lost) → a ≡ Not l → keyword k b u ≡ fail b
+keyword-absent k b u a h l e = frees-all (k ∷ []) b u (sym (starts-no k b u a h l e)) .0
+
+module _ (b : ℕ) (u : List ℕ) (clear : whitespace0 b u ≡ ok no-doc b u) (a : Step) (k : wordReply a b u ≡ keyword (ascii "shared") b u) (c : ℕ) (e : a ≡ Next c) {r : List ℕ} (q : Rest b u c r) (t : Blank) (w : BlankTo t c r) where
+  word-is : keyword (ascii "shared") b u ≡ ok (wordAt b u c) c (drop (c - b) u)
+  word-is = sym (told-next (wordAt b u) a c b u (keyword (ascii "shared") b u) e k)
+
+  blank : Took whitespace0 b u c (docOf (t .doc)) (t .next)
+  blank = blank-took q w
+
+  pub kind-alone : t .next ≡ c → KindTo (record { kind = Struct; floor = b }) b u
+  kind-alone z = at-shared b u clear word-is (ap (whitespace1 c) (sym (q .same)) ∙ sym (gap-none c r t w z))
+
+  module _ (z : t .next ≡ c → ⊥) where
+    behind : whitespace1 c (drop (c - b) u) ≡ ok (docOf (t .doc)) (t .next) (drop (t .next - b) u)
+    behind = ap (whitespace1 c) (sym (q .same)) ∙ (sym (gap-some c r t w z) ∙ (w .reads ∙ (ap (whitespace0 c) (q .same) ∙ blank .goes)))
+
+    up : b ≤ t .next
+    up = omega (arith, q .from, w .up)
+
+    pub kind-bitmap : StartsAny (ascii "bitmap" ∷ []) (drop (t .next - b) u) → KindTo (record { kind = Bitmap; floor = t .next }) b u
+    kind-bitmap s = at-shared-bitmap b u clear word-is behind (blank .goes) up s
+
+    pub kind-enum : StartsAny (ascii "enum" ∷ []) (drop (t .next - b) u) → KindTo (record { kind = Enum; floor = t .next }) b u
+    kind-enum s = at-shared-enum b u clear word-is behind (blank .goes) up s
+
+    pub kind-struct : Frees (t .next) (drop (t .next - b) u) (ascii "bitmap" ∷ []) → Frees (t .next) (drop (t .next - b) u) (ascii "enum" ∷ []) → KindTo (record { kind = Struct; floor = t .next }) b u
+    kind-struct f f' = at-shared-struct b u clear word-is behind (blank .goes) up f f'
+
+-- a test at a rest of the part
+module _ {b n : ℕ} {u r : List ℕ} (q : Rest b u n r) (k : List ℕ) {x : Bool} (h : x ≡ found (any-keyword (k ∷ []) n r)) where
+  seen : x ≡ found (any-keyword (k ∷ []) n (drop (n - b) u))
+  seen = h ∙ ap (λ (v : List ℕ). found (any-keyword (k ∷ []) n v)) (q .same)
+
+  pub rest-starts : x ≡ true → StartsAny (k ∷ []) (drop (n - b) u)
+  rest-starts e = starts-any (k ∷ []) n (drop (n - b) u) (sym seen ∙ e)
+
+  pub rest-frees : x ≡ false → Frees n (drop (n - b) u) (k ∷ [])
+  rest-frees e = frees-all (k ∷ []) n (drop (n - b) u) (sym seen ∙ e)
