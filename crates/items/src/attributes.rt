@@ -334,7 +334,7 @@ pub fn parse_attribute_after_doc_maturity(
     maturity: u8,
 ) -> AttributeRead
     requires { ⌜ base + length (now part) ≤ text-limit ⌝ }
-    ensures { λ r. ⌜ AttributeTo (parse-attribute-after-doc-maturity (docOf doc) maturity) r base (now (part .entry)) ⌝ }
+    ensures { λ r. ⌜ AttributeTo doc maturity r base (now (part .entry)) ⌝ }
 {
     let q = keywords_set(part, base, 4);
     let c1 = q.next;

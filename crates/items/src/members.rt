@@ -439,7 +439,7 @@ pub fn parse_command_after_doc_maturity(
     maturity: u8,
 ) -> CommandRead
     requires { ⌜ base + length (now part) ≤ text-limit ⌝ }
-    ensures { λ r. ⌜ CommandTo (parse-command-after-doc-maturity (docOf doc) maturity) r base (now (part .entry)) ⌝ }
+    ensures { λ r. ⌜ CommandTo doc maturity r base (now (part .entry)) ⌝ }
 {
     let head = command_head(part, base);
     let CommandHeadRead::CommandHead(h, c1) = head else {

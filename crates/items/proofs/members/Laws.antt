@@ -11,7 +11,7 @@ use lib.ListN.{length, drop, take}
 use borrow.Author.Tests.{lt-ltb, le-ltb}
 use Rattle.lexing.specs.reply.{Reply, ok, fail, stop, Parser, ret, _>>=_, _>>_, _or_, further, opt}
 use Rattle.lexing.specs.words.{Word, word, parse-id, keyword}
-use Rattle.lexing.specs.answers.{Answer, got, lost, Rest, lostReply, reply, lostOf, wordAt, wordReply}
+use Rattle.lexing.specs.answers.{Answer, got, lost, Rest, lostReply, reply, lostOf, wordAt, wordReply, docOf}
 use Rattle.lexing.specs.declared.answers.Lost.{Lost}
 use Rattle.lexing.specs.declared.answers.Lost.the-variants.{Fail, Stop}
 use Rattle.lexing.specs.declared.answers.Step.{Step}
@@ -22,7 +22,7 @@ use Rattle.lexing.proofs.Locality.{OnChain, chain-opt, chain-inside}
 use Rattle.lexing.proofs.TokenLocality.{parse-id-chain}
 use Rattle.lexing.proofs.Slicing.{Took, took, walks, told-not, rebase, begin, on}
 use Rattle.lexing.proofs.words.Laws.{Says, keyword-says}
-use Rattle.items.specs.members.{or-else, event-qualities, command-head, CommandTypes as CommandTypesOf, command-types, Command as CommandOf, event-head, parse-event-after-doc-maturity}
+use Rattle.items.specs.members.{or-else, event-qualities, command-head, CommandTypes as CommandTypesOf, command-types, Command as CommandOf, event-head, parse-event-after-doc-maturity, parse-command-after-doc-maturity}
 use Rattle.items.specs.answers.{optionOf, wordBetween, optionalStep, Front}
 use Rattle.items.specs.answers.members.{levelAnswer, levelLost, levelSmall, LevelTo, levelOr, EventQualitiesTo, optionalBetween, CommandHeadBetween, commandHeadAnswer, commandHeadWithin, CommandHeadTo, commandTypesAt, commandTypesAnswer, CommandTypesBetween, commandTypesWithin, CommandTypesTo, commandAt, CommandTo, SmallEventQualities, eventHeadAt, eventHeadLost, EventHeadBetween, EventHeadTo}
 use Rattle.items.specs.declared.members.Level.{Level}
@@ -127,7 +127,7 @@ level-after {m = m} {k} w (Chosen v c) {b = b} {u = u} t q h = record { reads = 
 level-after {m = m} {k} w (NoLevel l) {b = b} {n} {u} t q h = record { reads = begin (m >> k) b u (on k t (h .reads ∙ ap (k n) (q .same))); within = tt }
 
 -- events, up to the name
-pub event-qualities-is : (q y z v : ℕ) (o : Option ℕ) (b c : ℕ) (u : List ℕ) → q < 16 → y < 4 → v < 4 → or-else z o ≡ v
+pub event-qualities-is : (q y z v : ℕ) (o : Option ℕ) (b c : ℕ) (u : List ℕ) → q < 2 → y < 4 → v < 4 → or-else z o ≡ v
     → ok (record { sensitive = q; rank = y; privilege = or-else z o }) c (drop (c - b) u) ≡ event-qualities b u → EventQualitiesTo (EventQualities (record { sensitive = q; rank = y; privilege = v }) c) b u
 event-qualities-is q y z v o b c u f g h d e =
     record {
@@ -162,7 +162,7 @@ event-headed = record {
 }
 
 -- commands, up to the name
-pub command-head-is : (q z v : ℕ) (o : Option ℕ) (b n c : ℕ) (u : List ℕ) → q < 16 → v < 4 → b ≤ n → n ≤ c → or-else z o ≡ v
+pub command-head-is : (q z v : ℕ) (o : Option ℕ) (b n c : ℕ) (u : List ℕ) → q < 4 → v < 4 → b ≤ n → n ≤ c → or-else z o ≡ v
     → ok (record { qualities = q; privilege = or-else z o; id = wordBetween b u n c }) c (drop (c - b) u) ≡ command-head b u → CommandHeadTo (CommandHead (record { qualities = q; privilege = v; name = n; end = c }) c) b u
 command-head-is q z v o b n c u f g h i d e =
     record {
@@ -222,22 +222,26 @@ commandParts d v k h t = record { doc = d; maturity = v; flags = h .qualities; a
 pub command-head-within : {a : CommandHeadRead} {h : CommandHeadParts} {b c : ℕ} {u : List ℕ} → CommandHeadTo a b u → a ≡ CommandHead h c → CommandHeadBetween b h c
 command-head-within t e = read-within t e
 
-pub command-is : (m : Parser CommandOf) (d : DocSpan) (v k : ℕ) (h : CommandHeadParts) (t : CommandTypesParts) (b c1 c2 c : ℕ) (u : List ℕ)
+pub command-is : (d : DocSpan) (v k : ℕ) (h : CommandHeadParts) (t : CommandTypesParts) (b c1 c2 c : ℕ) (u : List ℕ)
     → CommandHeadBetween b h c1 → CommandTypesBetween c1 t c2 → c2 ≤ c
-    → ok (commandAt b u (commandParts d v k h t)) c (drop (c - b) u) ≡ m b u → CommandTo m (Command (commandParts d v k h t) c) b u
-command-is m d v k h t b c1 c2 c u x y l e =
+    → ok (commandAt b u (commandParts d v k h t)) c (drop (c - b) u) ≡ parse-command-after-doc-maturity (docOf d) v b u → CommandTo d v (Command (commandParts d v k h t) c) b u
+command-is d v k h t b c1 c2 c u x y l e =
     record {
       reads = e;
       within = record {
-        flags = x .qualities;
-        access = x .privilege;
-        name-from = x .name-from;
-        name-to = x .name-to;
-        input-from = omega (arith, x .before, y .input-from);
-        input-to = y .input-to;
-        output-from = y .output-from;
-        output-to = y .output-to;
-        before = omega (arith, y .before);
+        doc = refl;
+        maturity = refl;
+        between = record {
+          flags = x .qualities;
+          access = x .privilege;
+          name-from = x .name-from;
+          name-to = x .name-to;
+          input-from = omega (arith, x .before, y .input-from);
+          input-to = y .input-to;
+          output-from = y .output-from;
+          output-to = y .output-to;
+          before = omega (arith, y .before);
+        };
       };
     }
 
