@@ -314,6 +314,10 @@ field-put s p i j t x w l l₁ l₂ l₃ l₄ r ei ej d e₁ f e₂ e₃ y e₄ 
     (spanned (at (s .field .«type_at») (s .field .«type_end» - s .field .«type_at»)) ∷ value (s .field .code) ∷ value (or-else 0 (optionOf (s .field .«has_maximum») (s .field .maximum))) ∷ []) g z)
     (put-next p (p + 24) (f₁ ∷ f₂ ∷ s .field .code ∷ []) l l₃ l₄ (omega arith) (omega arith) (put-next p (p + 16) (f₁ ∷ f₂ ∷ []) l l₂ l₃ (omega arith) (omega arith) (put-two p l l₁ l₂ (omega arith) d e₁ f e₂) refl e₃) y e₄)
 
+pub field-parts-words : (s : StructFieldParts) → word-count (field-parts s ∷ []) ≡ 4
+unfolding word-count catalogue-words each record-words layout-20 plain
+field-parts-words s = refl
+
 present-number : (x : Bool) (n : ℕ) → present (optionOf x n) ≡ x
 unfolding present
 present-number true n = refl

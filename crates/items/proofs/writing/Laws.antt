@@ -159,6 +159,22 @@ no-room h (Stop i p) e = let z = h .is ∙ sym e in let y : _≡_ {A = ℕ} 0 1 
 pub written-took : {A : Type 0} {records : A → List Record} {m : Parser A} (v : Onward m) {b n : ℕ} {u r : List ℕ} {at : ℕ} {w : Wrote} {old new : List ℕ} → Rest b u n r → (h : Written records m n r at w old new) → Took m b u n (h .value) (w .next)
 written-took v q h = took v q (h .is)
 
+-- a declaration of k words that was read: there is room for them, and it is written once its records are
+module _ {A : Type 0} {records : A → List Record} {m : Parser A} {b : ℕ} {u : List ℕ} {a : A} {c k : ℕ} (e : ok a c (drop (c - b) u) ≡ m b u) (z : word-count (records a) ≡ k) {at : ℕ} where
+  pub read-room : {n : ℕ} → Room records m b u at n → at + 8 * k ≤ n
+  read-room room =
+      let x = room .is ∙ sym e in
+      let y : room .value ≡ a = cc in
+      let f : word-count (records (room .value)) ≡ word-count (records a) = ap (λ v. word-count (records v)) y in
+      omega (arith, room .fits, f, z)
+
+  pub read-written : {l : List Record} {old new : List ℕ} → l ≡ records a → new ≡ put at (catalogue-bytes layout-20 l) old → Written records m b u at (record { next = c; to = at + 8 * k }) old new
+  read-written h g = record { value = a; is = e; place = omega (arith, z); bytes = rw (← h) g }
+
+-- its front, where its doc comment and its maturity are those that its reader was handed
+pub front-kept : (f : FrontParts) {k : ℕ} {d : DocSpan} {v : ℕ} → FrontFits f → d ≡ f .doc → v ≡ f .maturity → FrontFits (record { kind = k; place = 0; doc = d; maturity = v })
+front-kept f h x y = record { place-fits = omega arith; maturity-fits = omega (arith, h .maturity-fits, y); doc-fits = subst (λ (d : DocSpan). DocFits d) (sym x) (h .doc-fits) }
+
 -- the buffer keeps its length
 pub written-same : {A : Type 0} {records : A → List Record} {m : Parser A} {b : ℕ} {u : List ℕ} {at n : ℕ} {w : Wrote} {old new : List ℕ} → Room records m b u at n → Written records m b u at w old new → n ≡ length old → length new ≡ length old
 written-same {records = records} {at = at} {old = old} room h e =
