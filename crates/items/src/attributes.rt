@@ -419,3 +419,28 @@ fn put_attribute(out: &mut [u8], at: usize, a: AttributeParts)
     put_documented(out, at, first, doc);
     put_field(out, at + 16, a.field);
 }
+
+// The second pass over an attribute.
+pub fn write_attribute(
+    part: &[u8],
+    base: usize,
+    front: FrontParts,
+    out: &mut [u8],
+    at: usize,
+) -> Wrote
+    requires { ⌜ base + length (now part) ≤ text-limit ⌝ }
+    requires { ⌜ FrontFits front ⌝ }
+    requires { ⌜ Room attribute-records (parse-attribute-after-doc-maturity (docOf (front .doc)) (front .maturity)) base (now part) at (length (now out)) ⌝ }
+    ensures { λ r. ⌜ Written attribute-records (parse-attribute-after-doc-maturity (docOf (front .doc)) (front .maturity)) base (now (part .entry)) at r (now (out .entry)) (now (out .exit)) ⌝ }
+{
+    let doc = front.doc;
+    let r = parse_attribute_after_doc_maturity(part, base, doc, front.maturity);
+    let AttributeRead::Attribute(a, c) = r else {
+        return Wrote { next: base, to: at };
+    };
+    put_attribute(out, at, a);
+    Wrote {
+        next: c,
+        to: at + 48,
+    }
+}

@@ -114,16 +114,16 @@ marker-is b c u e =
 pub marker-took : {b n : ℕ} {u r : List ℕ} {t : Marker} → Rest b u n r → MarkerTo t n r → Took (opt list-marker) b u n (optionOf (t .list) tt) (t .next)
 marker-took q h = took (walks (chain-opt (list-marker-local .on-chain))) q (h .reads)
 
-present-is : (x : Bool) → present (optionOf {A = Unit {0}} x tt) ≡ x
+pub present-is : {A : Type 0} (x : Bool) (a : A) → present (optionOf x a) ≡ x
 unfolding present
-present-is true = refl
-present-is false = refl
+present-is true a = refl
+present-is false a = refl
 
 -- the ways of a field
 pub field-is : (b : ℕ) (u : List ℕ) (f : FieldParts) (c : ℕ)
     → ok (record { data-type = wordBetween b u (f .«type_at») (f .«type_end»); maximum = optionOf (f .«has_maximum») (f .maximum); name = wordBetween b u (f .name) (f .end); list = present (optionOf {A = Unit {0}} (f .list) tt); code = f .code }) c (drop (c - b) u) ≡ parse-field b u
     → FieldBetween b f c → FieldTo (Field f c) b u
-field-is b u f c h w = record { reads = rw (present-is (f .list)) at h; within = w }
+field-is b u f c h w = record { reads = rw (present-is {A = Unit {0}} (f .list) tt) at h; within = w }
 
 -- a field, seen from the part's start
 field-moved : (b n : ℕ) (u r : List ℕ) (f : FieldParts) (c : ℕ) → Rest b u n r → FieldBetween n f c → fieldAt n r f ≡ fieldAt b u f
@@ -318,18 +318,13 @@ pub field-parts-words : (s : StructFieldParts) → word-count (field-parts s ∷
 unfolding word-count catalogue-words each record-words layout-20 plain
 field-parts-words s = refl
 
-present-number : (x : Bool) (n : ℕ) → present (optionOf x n) ≡ x
-unfolding present
-present-number true n = refl
-present-number false n = refl
-
 -- the record of a field that was read
 pub field-parts-is : (b : ℕ) (u : List ℕ) (s : StructFieldParts) (c : ℕ) → StructFieldBetween b s c → c ≤ b + length u → field-parts s ≡ field-record (structFieldAt b u s)
 unfolding field-record
 field-parts-is b u s c w i =
     let v = w .between in
     rw (
-      present-number (s .field .«has_maximum») (s .field .maximum),
+      present-is (s .field .«has_maximum») (s .field .maximum),
       extent-between b u (s .field .name) (s .field .end) (omega (arith, v .type-from, v .type-to, v .name-from)) (v .name-to) (omega (arith, v .before)),
       extent-between b u (s .field .«type_at») (s .field .«type_end») (v .type-from) (v .type-to) (omega (arith, v .name-from, v .name-to, v .before)),
     )

@@ -121,6 +121,14 @@ pub documented-bytes : (k p m : ℕ) (d : DocSpan) (fl : List Bits) (e : Extent)
 unfolding catalogue-bytes catalogue-words each record-words layout-20 further-word documented
 documented-bytes k p m d fl e x y l g h = rw (h, doc-bit-is d, doc-word d) (ap words-bytes (append-nil _))
 
+-- such a record of three words: what the code has computed of it
+pub documented-put : (k p m : ℕ) (d : DocSpan) (fl : List Bits) (e : Extent) (x y : ℕ) (w : Further) (q g v s : ℕ) (l l₁ l₂ : List ℕ) → g ≡ from-top 7 fl → q + 24 ≤ length l → v ≡ docBit d
+    → l₁ ≡ put q (words-bytes (first-of (record { kind = k; place = p; maturity = m; documented = v; flags = g; name = offset e; size = size e; privilege = x; further = y }) ∷ docWord d ∷ [])) l
+    → s ≡ further-word layout-20 w → l₂ ≡ put (q + 16) (big-endian 8 s) l₁ → l₂ ≡ put q (catalogue-bytes layout-20 (documented k p m (docOf d) fl e x y (w ∷ []) ∷ [])) l
+documented-put k p m d fl e x y w q g v s l l₁ l₂ h r z e₁ f e₂ =
+    rw (documented-bytes k p m d fl e x y (w ∷ []) g h)
+    (put-next q (q + 16) (first-of (record { kind = k; place = p; maturity = m; documented = docBit d; flags = g; name = offset e; size = size e; privilege = x; further = y }) ∷ docWord d ∷ []) l l₁ l₂ (omega arith) (omega arith) (rw (← z) e₁) f e₂)
+
 -- a record without one
 pub plain-fits : {k m g o n : ℕ} → k < 256 → m < 4 → g < 128 → o ≤ text-limit → n ≤ text-limit → Fits (record { kind = k; place = 0; maturity = m; documented = 0; flags = g; name = o; size = n; privilege = 0; further = 0 })
 plain-fits a b c d e = record { kind-fits = a; place-fits = omega arith; maturity-fits = b; documented-fits = omega arith; flags-fits = c; name-fits = omega (arith, d); size-fits = omega (arith, e); privilege-fits = omega arith; further-fits = omega arith }

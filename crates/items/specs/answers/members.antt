@@ -2,7 +2,7 @@
 use Prim.Native.Nat.{ℕ, _≤_, _<_}
 use mathlib.Core.Path.{_≡_}
 use mathlib.Core.Option.{Option}
-use mathlib.Core.List.{List}
+use mathlib.Core.List.{List, [], _∷_}
 use lib.Dec.{ltb}
 use Rattle.lexing.specs.reply.{Parser}
 use Rattle.lexing.specs.words.{Word}
@@ -12,7 +12,7 @@ use Rattle.lexing.specs.declared.answers.Lost.the-variants.{Fail, Stop}
 use Rattle.lexing.specs.declared.blanks.DocSpan.{DocSpan}
 use Rattle.items.specs.members.{EventQualities as EventQualitiesOf, event-qualities, EventHead as EventHeadOf, event-head, parse-event-after-doc-maturity, CommandHead as CommandHeadOf, command-head, CommandTypes as CommandTypesOf, command-types, Command as CommandOf, parse-command-after-doc-maturity}
 use Rattle.items.specs.answers.{optionOf, ReadTo, wordBetween, Front, CountsTo}
-use Rattle.items.specs.records.{event-records}
+use Rattle.items.specs.records.{Record, command-record, event-records}
 use Rattle.items.specs.declared.counts.Count.{Count}
 use Rattle.items.specs.declared.members.Level.{Level}
 use Rattle.items.specs.declared.members.Level.the-variants.{Chosen, NoLevel}
@@ -208,3 +208,7 @@ commandWithin d m b (NoCommand l) = Unit {0}
 
 abbrev pub CommandTo : DocSpan → ℕ → CommandRead → ℕ → List ℕ → Type 0
 CommandTo d m r b u = ReadTo commandAnswer (commandWithin d m) (parse-command-after-doc-maturity (docOf d) m) r b u
+
+-- a command is one record
+abbrev pub command-records : CommandOf → List Record
+command-records c = command-record c ∷ []
