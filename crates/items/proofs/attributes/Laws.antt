@@ -24,15 +24,13 @@ use Rattle.lexing.proofs.words.Laws.{keyword-says}
 use Rattle.items.specs.members.{Access as AccessOf, access-entry, comma, separated-list0, access-list, Privileges as PrivilegesOf, granted-by, default-privileges, listed, attribute-access, Attribute as AttributeOf}
 use Rattle.items.specs.clusters.{mapped}
 use Rattle.items.specs.records.{absent, bits, each, plain, documented, field-record, attribute-records}
-use Rattle.items.specs.layout.{packed, width, from-top, offset, size, layout-20, further-word, record-words, words-bytes, catalogue-words, catalogue-bytes, word-count, text-limit}
+use Rattle.items.specs.layout.{packed, width, from-top, offset, size, layout-20, record-words, words-bytes, catalogue-words, catalogue-bytes, word-count, text-limit}
 use Rattle.items.specs.buffers.{put}
 use Rattle.items.specs.answers.{ReadTo, first-of, docWord, docBit}
-use Rattle.items.specs.answers.structs.{StructFieldBetween}
 use Rattle.items.specs.answers.attributes.{SmallPrivileges, PrivilegesTo, attributeAt, AttributeBetween}
 use Rattle.items.specs.inner.structs.{field-parts}
 use Rattle.items.specs.inner.attributes.{access-words, operation-of, operationBy, operationAnswer, operationLost, operationMeans, OperationTo, grantBy, grant-of, grantSmall, accessLost, AccessTo, separated-entry, grantsWith, grants-from, grantsSmall, listAnswer, listLost, listSmall, ListTo, listEnd, no-grants, optionalList, attribute-first, attribute-parts}
 use Rattle.items.specs.declared.attributes.AttributeParts.{AttributeParts}
-use Rattle.items.specs.declared.structs.StructFieldParts.{StructFieldParts}
 use Rattle.items.specs.declared.attributes.Operation.{Operation}
 use Rattle.items.specs.declared.attributes.Operation.the-variants.{Read, Write, Neither}
 use Rattle.items.specs.declared.attributes.OperationRead.{OperationRead}

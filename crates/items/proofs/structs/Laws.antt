@@ -55,7 +55,7 @@ use Rattle.items.proofs.RecordWords.{map-elementwise}
 use Rattle.items.proofs.Answers.{read-within, read-took, read-lost}
 use Rattle.items.proofs.Headed.{Headed}
 use Rattle.items.proofs.WordBetween.{word-moved, extent-between}
-use Rattle.items.proofs.writing.Laws.{put-two, put-next, plain-bytes, documented-bytes, Writing, writing-fits, writing-more, writing-ends}
+use Rattle.items.proofs.writing.Laws.{put-two, put-next, plain-bytes, documented-put, Writing, writing-fits, writing-more, writing-ends}
 use Rattle.items.proofs.counts.Laws.{Counting, counting-more}
 use Rattle.items.proofs.optional.Laws.{opt-ok, opt-fail, opt-stop}
 
@@ -314,6 +314,7 @@ field-put s p i j t x w l l₁ l₂ l₃ l₄ r ei ej d e₁ f e₂ e₃ y e₄ 
     (spanned (at (s .field .«type_at») (s .field .«type_end» - s .field .«type_at»)) ∷ value (s .field .code) ∷ value (or-else 0 (optionOf (s .field .«has_maximum») (s .field .maximum))) ∷ []) g z)
     (put-next p (p + 24) (f₁ ∷ f₂ ∷ s .field .code ∷ []) l l₃ l₄ (omega arith) (omega arith) (put-next p (p + 16) (f₁ ∷ f₂ ∷ []) l l₂ l₃ (omega arith) (omega arith) (put-two p l l₁ l₂ (omega arith) d e₁ f e₂) refl e₃) y e₄)
 
+-- four words, by offsets too
 pub field-parts-words : (s : StructFieldParts) → word-count (field-parts s ∷ []) ≡ 4
 unfolding word-count catalogue-words each record-words layout-20 plain
 field-parts-words s = refl
@@ -353,12 +354,9 @@ module _ (b : ℕ) (u : List ℕ) (p : ℕ) (old : List ℕ) (room : Room (map f
 pub struct-first-put : (f : FrontParts) (h : StructHeadParts) (p v i s : ℕ) (l l₁ l₂ : List ℕ) → p + 24 ≤ length l → v ≡ docBit (f .doc) → i ≡ kindNumber (h .kind)
     → l₁ ≡ put p (words-bytes (first-of (record { kind = 5; place = f .place; maturity = f .maturity; documented = v; flags = i * 32 + h .scoped * 16; name = h .name; size = h .end - h .name; privilege = 0; further = 0 }) ∷ docWord (f .doc) ∷ [])) l
     → s ≡ responseNumber (h .kind) (h .code) → l₂ ≡ put (p + 16) (big-endian 8 s) l₁ → l₂ ≡ put p (catalogue-bytes layout-20 (struct-first f h ∷ [])) l
-unfolding from-top packed width offset size layout-20 further-word
+unfolding from-top packed width offset size further-word
 struct-first-put f h p v i s l l₁ l₂ r d e e₁ z e₂ =
-    let g : ℕ = i * 32 + h .scoped * 16 in
-    let y : g ≡ from-top 7 (bits 2 (kindNumber (h .kind)) ∷ bits 1 (h .scoped) ∷ []) = omega (arith, e) in
-    rw (documented-bytes 5 (f .place) (f .maturity) (f .doc) (bits 2 (kindNumber (h .kind)) ∷ bits 1 (h .scoped) ∷ []) (at (h .name) (h .end - h .name)) 0 0 (value (responseNumber (h .kind) (h .code)) ∷ []) g y)
-    (put-next p (p + 16) (first-of (record { kind = 5; place = f .place; maturity = f .maturity; documented = docBit (f .doc); flags = g; name = h .name; size = h .end - h .name; privilege = 0; further = 0 }) ∷ docWord (f .doc) ∷ []) l l₁ l₂ (omega arith) (omega arith) (rw (← d) e₁) z e₂)
+    documented-put 5 (f .place) (f .maturity) (f .doc) (bits 2 (kindNumber (h .kind)) ∷ bits 1 (h .scoped) ∷ []) (at (h .name) (h .end - h .name)) 0 0 (value (responseNumber (h .kind) (h .code))) p (i * 32 + h .scoped * 16) v s l l₁ l₂ (omega (arith, e)) r d e₁ z e₂
 
 pub kind-small : (k : StructKind) → kindNumber k < 4
 kind-small Regular = omega arith

@@ -14,7 +14,7 @@ mul-t7 : tie.Need-mul-t7
 mul-t7 c = omega (arith, c .before .before .before .pre .1 .1 .flags)
 
 put-documented-requires : tie.Need-put-documented-requires
-put-documented-requires c κs = (omega (arith, c .before .before .before .before .pre .0), (documented-fits (attributeFront (c .before .before .before .before .args .a)) (c .before .before .before .before .pre .1 .0) (omega arith) (c .before .before .doc-bit .ensures) (omega (arith, c .before .before .before .before .pre .1 .1 .flags)) (omega arith) (omega arith) (c .before .before .before .before .pre .1 .1 .privileges .read) (c .before .before .before .before .pre .1 .1 .privileges .write), c .before .before .before .before .pre .1 .0 .doc-fits))
+put-documented-requires c κs = (omega (arith, c .before .before .before .before .pre .0), (documented-fits (attributeFront (c .before .before .before .before .args .a)) (c .before .before .before .before .pre .1 .0) (omega arith) (c .before .before .doc-bit .ensures) (omega (arith, c .before .before .before .before .pre .1 .1 .flags)) (omega arith) (omega arith) (omega (arith, c .before .before .before .before .pre .1 .1 .privileges)) (omega (arith, c .before .before .before .before .pre .1 .1 .privileges)), c .before .before .before .before .pre .1 .0 .doc-fits))
 
 add-put-field : tie.Need-add-put-field
 add-put-field c = search needs
