@@ -2,6 +2,7 @@
 pub mod entries
 pub mod structs
 pub mod choices
+pub mod members
 pub mod attributes
 pub mod clusters
 pub mod endpoints

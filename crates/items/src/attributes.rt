@@ -4,18 +4,27 @@ ghost use Prim.Native.Nat.{_+_, _≤_};
 ghost use lib.ListN.{length, take};
 ghost use Rattle.lexing.specs.words.{isLower};
 ghost use Rattle.lexing.specs.answers.{docOf, tagReply};
-ghost use Rattle.items.specs.layout.{text-limit};
+ghost use Rattle.items.specs.layout.{text-limit, layout-20, catalogue-bytes};
+ghost use Rattle.items.specs.buffers.{put};
+ghost use Rattle.items.specs.records.{attribute-records};
+ghost use Rattle.items.specs.answers.{FrontFits, Room, Written};
 ghost use Rattle.lexing.specs.reply.{many0};
 ghost use Rattle.items.specs.members.{access-entry, comma, separated-list0, access-list, parse-attribute-after-doc-maturity};
-ghost use Rattle.items.specs.answers.attributes.{PrivilegesTo, privilegesLost, attributeLost, AttributeTo};
-ghost use Rattle.items.specs.inner.attributes.{operationBy, operationLost, OperationTo, grantBy, accessLost, AccessTo, separated-entry, grantsWith, grantsSmall, listLost, listEnd, ListTo, no-grants, optionalList};
+ghost use Rattle.items.specs.answers.attributes.{PrivilegesTo, privilegesLost, attributeLost, AttributeBetween, AttributeTo};
+ghost use Rattle.items.specs.inner.attributes.{operationBy, operationLost, OperationTo, grantBy, accessLost, AccessTo, separated-entry, grantsWith, grantsSmall, listLost, listEnd, ListTo, no-grants, optionalList, attributeFront, attribute-parts};
 use crate::members::Level;
 use crate::members::access_privilege;
 use crate::members::level_lost;
 use crate::structs::StructFieldParts;
 use crate::structs::StructFieldRead;
 use crate::structs::parse_struct_field;
+use crate::structs::put_field;
 use crate::structs::struct_field_lost;
+use crate::writing::First;
+use crate::writing::FrontParts;
+use crate::writing::Wrote;
+use crate::writing::doc_bit;
+use crate::writing::put_documented;
 use lexing::answers::Lost;
 use lexing::answers::Step;
 use lexing::answers::step_lost;
@@ -334,7 +343,7 @@ pub fn parse_attribute_after_doc_maturity(
     maturity: u8,
 ) -> AttributeRead
     requires { ⌜ base + length (now part) ≤ text-limit ⌝ }
-    ensures { λ r. ⌜ AttributeTo (parse-attribute-after-doc-maturity (docOf doc) maturity) r base (now (part .entry)) ⌝ }
+    ensures { λ r. ⌜ AttributeTo doc maturity r base (now (part .entry)) ⌝ }
 {
     let q = keywords_set(part, base, 4);
     let c1 = q.next;
@@ -385,5 +394,53 @@ pub fn attribute_lost(r: AttributeRead) -> Lost
     match r {
         AttributeRead::Attribute(_, c) => Lost::Fail(c),
         AttributeRead::NoAttribute(l) => l,
+    }
+}
+
+// The records of an attribute and of its field.
+fn put_attribute(out: &mut [u8], at: usize, a: AttributeParts)
+    requires { ⌜ at + 48 ≤ length (now out) ⌝ }
+    requires { ⌜ FrontFits (attributeFront a) ⌝ }
+    requires { ⌜ AttributeBetween 0 a text-limit ⌝ }
+    ensures { λ _. ⌜ now (out .exit) ≡ put at (catalogue-bytes layout-20 (attribute-parts a)) (now (out .entry)) ⌝ }
+{
+    let doc = a.doc;
+    let first = First {
+        kind: 7,
+        place: 0,
+        maturity: a.maturity,
+        documented: doc_bit(doc),
+        flags: a.flags * 8,
+        name: 0,
+        size: 0,
+        privilege: a.read,
+        further: a.write,
+    };
+    put_documented(out, at, first, doc);
+    put_field(out, at + 16, a.field);
+}
+
+// The second pass over an attribute.
+pub fn write_attribute(
+    part: &[u8],
+    base: usize,
+    front: FrontParts,
+    out: &mut [u8],
+    at: usize,
+) -> Wrote
+    requires { ⌜ base + length (now part) ≤ text-limit ⌝ }
+    requires { ⌜ FrontFits front ⌝ }
+    requires { ⌜ Room attribute-records (parse-attribute-after-doc-maturity (docOf (front .doc)) (front .maturity)) base (now part) at (length (now out)) ⌝ }
+    ensures { λ r. ⌜ Written attribute-records (parse-attribute-after-doc-maturity (docOf (front .doc)) (front .maturity)) base (now (part .entry)) at r (now (out .entry)) (now (out .exit)) ⌝ }
+{
+    let doc = front.doc;
+    let r = parse_attribute_after_doc_maturity(part, base, doc, front.maturity);
+    let AttributeRead::Attribute(a, c) = r else {
+        return Wrote { next: base, to: at };
+    };
+    put_attribute(out, at, a);
+    Wrote {
+        next: c,
+        to: at + 48,
     }
 }

@@ -1,14 +1,29 @@
 // Events and commands.
 ghost use mathlib.Core.Path.{_≡_};
-ghost use Prim.Native.Nat.{_+_, _≤_};
+ghost use mathlib.Core.List.{[], _∷_};
+ghost use Prim.Native.Nat.{_+_, _-_, _≤_};
+ghost use lib.Dec.{ltb};
 ghost use lib.ListN.{length};
 ghost use Rattle.lexing.specs.answers.{docOf};
-ghost use Rattle.items.specs.layout.{text-limit};
-ghost use Rattle.items.specs.members.{access-privilege, event-priority, access-to, invoke-access, parse-command-after-doc-maturity};
-ghost use Rattle.items.specs.answers.members.{levelLost, LevelTo, levelOr, eventQualitiesLost, EventQualitiesTo, eventHeadLost, EventHeadTo, EventCountTo, commandHeadLost, CommandHeadTo, commandTypesLost, CommandTypesTo, commandLost, CommandTo};
+ghost use Rattle.items.specs.layout.{text-limit, layout-20, further-word, catalogue-bytes};
+ghost use Rattle.items.specs.buffers.{put};
+ghost use Rattle.items.specs.records.{spanned, event-records};
+ghost use Rattle.items.specs.members.{access-privilege, event-priority, access-to, invoke-access, parse-event-after-doc-maturity, parse-command-after-doc-maturity};
+ghost use Rattle.items.specs.answers.{FrontFits, Room, Written};
+ghost use Rattle.items.specs.answers.members.{levelLost, LevelTo, levelOr, eventQualitiesLost, EventQualitiesTo, eventHeadLost, EventHeadTo, EventCountTo, commandHeadLost, CommandHeadTo, commandTypesLost, CommandTypesTo, commandLost, EventHeadBetween, CommandBetween, CommandTo, command-records};
+ghost use Rattle.items.specs.inner.members.{extentIf, commandFront, command-parts, event-first};
 use crate::counts::Count;
 use crate::optional::optional;
 use crate::structs::struct_fields;
+use crate::structs::write_struct_fields;
+use crate::writing::First;
+use crate::writing::FrontParts;
+use crate::writing::Wrote;
+use crate::writing::doc_bit;
+use crate::writing::flag;
+use crate::writing::put_documented;
+use crate::writing::put_word;
+use crate::writing::span_word;
 use lexing::answers::Lost;
 use lexing::answers::Step;
 use lexing::answers::step_lost;
@@ -439,7 +454,7 @@ pub fn parse_command_after_doc_maturity(
     maturity: u8,
 ) -> CommandRead
     requires { ⌜ base + length (now part) ≤ text-limit ⌝ }
-    ensures { λ r. ⌜ CommandTo (parse-command-after-doc-maturity (docOf doc) maturity) r base (now (part .entry)) ⌝ }
+    ensures { λ r. ⌜ CommandTo doc maturity r base (now (part .entry)) ⌝ }
 {
     let head = command_head(part, base);
     let CommandHeadRead::CommandHead(h, c1) = head else {
@@ -492,4 +507,105 @@ pub fn command_lost(r: CommandRead) -> Lost
         CommandRead::Command(_, c) => Lost::Fail(c),
         CommandRead::NoCommand(l) => l,
     }
+}
+
+// The span between two offsets, or zeros where there is nothing between them.
+fn optional_span_word(from: usize, to: usize) -> u64
+    requires { ⌜ from ≤ to ⌝ }
+    requires { ⌜ to ≤ text-limit ⌝ }
+    ensures { λ r. ⌜ r ≡ further-word layout-20 (spanned (extentIf (ltb from to) from (to - from))) ⌝ }
+{
+    if from < to {
+        return span_word(from, to - from);
+    }
+    0
+}
+
+// The record of a command.
+fn put_command(out: &mut [u8], at: usize, p: CommandParts)
+    requires { ⌜ at + 40 ≤ length (now out) ⌝ }
+    requires { ⌜ FrontFits (commandFront p) ⌝ }
+    requires { ⌜ CommandBetween 0 p text-limit ⌝ }
+    ensures { λ _. ⌜ now (out .exit) ≡ put at (catalogue-bytes layout-20 (command-parts p ∷ [])) (now (out .entry)) ⌝ }
+{
+    let doc = p.doc;
+    let first = First {
+        kind: 8,
+        place: 0,
+        maturity: p.maturity,
+        documented: doc_bit(doc),
+        flags: p.flags * 32 + flag(p.input < p.input_end) * 16,
+        name: p.name,
+        size: p.end - p.name,
+        privilege: p.access,
+        further: 0,
+    };
+    put_documented(out, at, first, doc);
+    put_word(out, at + 16, optional_span_word(p.input, p.input_end));
+    put_word(out, at + 24, span_word(p.output, p.output_end - p.output));
+    put_word(out, at + 32, p.code);
+}
+
+// The first record of an event.
+fn put_event(out: &mut [u8], at: usize, front: FrontParts, head: EventHeadParts)
+    requires { ⌜ at + 24 ≤ length (now out) ⌝ }
+    requires { ⌜ FrontFits front ⌝ }
+    requires { ⌜ EventHeadBetween 0 head text-limit ⌝ }
+    ensures { λ _. ⌜ now (out .exit) ≡ put at (catalogue-bytes layout-20 (event-first front head ∷ [])) (now (out .entry)) ⌝ }
+{
+    let doc = front.doc;
+    let first = First {
+        kind: 9,
+        place: 0,
+        maturity: front.maturity,
+        documented: doc_bit(doc),
+        flags: head.rank * 32 + head.sensitive * 16,
+        name: head.name,
+        size: head.end - head.name,
+        privilege: head.privilege,
+        further: 0,
+    };
+    put_documented(out, at, first, doc);
+    put_word(out, at + 16, head.code);
+}
+
+// The second pass over a command.
+pub fn write_command(
+    part: &[u8],
+    base: usize,
+    front: FrontParts,
+    out: &mut [u8],
+    at: usize,
+) -> Wrote
+    requires { ⌜ base + length (now part) ≤ text-limit ⌝ }
+    requires { ⌜ FrontFits front ⌝ }
+    requires { ⌜ Room command-records (parse-command-after-doc-maturity (docOf (front .doc)) (front .maturity)) base (now part) at (length (now out)) ⌝ }
+    ensures { λ r. ⌜ Written command-records (parse-command-after-doc-maturity (docOf (front .doc)) (front .maturity)) base (now (part .entry)) at r (now (out .entry)) (now (out .exit)) ⌝ }
+{
+    let doc = front.doc;
+    let r = parse_command_after_doc_maturity(part, base, doc, front.maturity);
+    let CommandRead::Command(p, c) = r else {
+        return Wrote { next: base, to: at };
+    };
+    put_command(out, at, p);
+    Wrote {
+        next: c,
+        to: at + 40,
+    }
+}
+
+// The second pass over an event.
+pub fn write_event(part: &[u8], base: usize, front: FrontParts, out: &mut [u8], at: usize) -> Wrote
+    requires { ⌜ base + length (now part) ≤ text-limit ⌝ }
+    requires { ⌜ FrontFits front ⌝ }
+    requires { ⌜ Room event-records (parse-event-after-doc-maturity (docOf (front .doc)) (front .maturity)) base (now part) at (length (now out)) ⌝ }
+    ensures { λ r. ⌜ Written event-records (parse-event-after-doc-maturity (docOf (front .doc)) (front .maturity)) base (now (part .entry)) at r (now (out .entry)) (now (out .exit)) ⌝ }
+{
+    let head = event_head(part, base);
+    let EventHeadRead::EventHead(h, c) = head else {
+        return Wrote { next: base, to: at };
+    };
+    let w = write_struct_fields(rest_at(part, base, c), c, out, at + 24);
+    put_event(out, at, front, h);
+    w
 }

@@ -3,7 +3,7 @@ use mathlib.Core.Path.{_≡_, refl, sym, ap, _∙_, subst}
 use mathlib.Core.Bool.{Bool, true, false}
 use mathlib.Core.Option.{none, some}
 use mathlib.Core.List.{List, [], _∷_, _++_}
-use Prim.Native.Nat.{ℕ, zero, suc, _-_, _<_}
+use Prim.Native.Nat.{ℕ, zero, suc, _+_, _-_, _*_, _≤_, _<_}
 use native.Mathlib.Omega.{arith}
 use lib.ListN.{length, take, drop}
 use Rattle.lexing.specs.bytes.{ascii, within, lower}
@@ -11,8 +11,9 @@ use Rattle.lexing.specs.reply.{Reply, ok, fail, stop, Parser, ret, _>>=_, _>>_,
 use Rattle.lexing.specs.words.{Word, bytesOf, offsetOf, isKeyword, isLower, keyword, any-keyword}
 use Rattle.lexing.specs.blanks.{Doc}
 use Rattle.lexing.specs.word_sets.{same-bytes}
-use Rattle.lexing.specs.answers.{got, lost, Rest, lostReply, reply, tagReply, wordAt, wordReply}
+use Rattle.lexing.specs.answers.{docOf, got, lost, Rest, lostReply, reply, tagReply, wordAt, wordReply}
 use Rattle.lexing.specs.declared.answers.Lost.{Lost}
+use Rattle.lexing.specs.declared.blanks.DocSpan.{DocSpan}
 use Rattle.lexing.specs.declared.answers.Lost.the-variants.{Fail, Stop}
 use Rattle.lexing.specs.declared.answers.Step.{Step}
 use Rattle.lexing.specs.declared.answers.Step.the-variants.{Next}
@@ -24,12 +25,15 @@ use Rattle.lexing.proofs.Repetition.{ManyAt, manyEnd, many0-start, many0-step, 
 use Rattle.lexing.proofs.words.Laws.{keyword-says}
 use Rattle.items.specs.members.{Access as AccessOf, access-entry, comma, separated-list0, access-list, Privileges as PrivilegesOf, granted-by, default-privileges, listed, attribute-access, Attribute as AttributeOf, parse-attribute-after-doc-maturity}
 use Rattle.items.specs.clusters.{mapped}
-use Rattle.items.specs.records.{each, plain, documented, field-record, attribute-records}
-use Rattle.items.specs.layout.{layout-20, record-words, catalogue-words, word-count}
-use Rattle.items.specs.answers.{ReadTo, CountTo}
-use Rattle.items.specs.answers.attributes.{SmallPrivileges, PrivilegesTo, AttributeTo}
-use Rattle.items.specs.inner.attributes.{access-words, operation-of, operationBy, operationAnswer, operationLost, operationMeans, OperationTo, grantBy, grant-of, grantSmall, accessLost, AccessTo, separated-entry, grantsWith, grants-from, grantsSmall, listAnswer, listLost, listSmall, ListTo, listEnd, no-grants, optionalList}
+use Rattle.items.specs.records.{each, plain, documented, field-record, attribute-records, absent, bits}
+use Rattle.items.specs.layout.{layout-20, record-words, catalogue-words, word-count, packed, width, from-top, offset, size, words-bytes, catalogue-bytes, text-limit}
+use Rattle.items.specs.answers.{ReadTo, CountTo, first-of, docWord, docBit}
+use Rattle.items.specs.answers.attributes.{SmallPrivileges, PrivilegesTo, AttributeTo, attributeAt, AttributeBetween}
+use Rattle.items.specs.inner.attributes.{access-words, operation-of, operationBy, operationAnswer, operationLost, operationMeans, OperationTo, grantBy, grant-of, grantSmall, accessLost, AccessTo, separated-entry, grantsWith, grants-from, grantsSmall, listAnswer, listLost, listSmall, ListTo, listEnd, no-grants, optionalList, attribute-first, attribute-parts}
 use Rattle.items.specs.declared.counts.Count.the-variants.{Words}
+use Rattle.items.specs.buffers.{put}
+use Rattle.items.specs.inner.structs.{field-parts}
+use Rattle.items.specs.declared.attributes.AttributeParts.{AttributeParts}
 use Rattle.items.specs.declared.attributes.Operation.{Operation}
 use Rattle.items.specs.declared.attributes.Operation.the-variants.{Read, Write, Neither}
 use Rattle.items.specs.declared.attributes.OperationRead.{OperationRead}
@@ -44,7 +48,6 @@ use Rattle.items.specs.declared.attributes.ListRead.{ListRead}
 use Rattle.items.specs.declared.attributes.ListRead.the-variants.{Listed, NoList}
 use Rattle.items.specs.declared.attributes.PrivilegesRead.{PrivilegesRead}
 use Rattle.items.specs.declared.attributes.PrivilegesRead.the-variants.{Privileges, NoPrivileges}
-use Rattle.items.specs.declared.attributes.AttributeParts.{AttributeParts}
 use Rattle.items.specs.declared.attributes.AttributeRead.{AttributeRead}
 use Rattle.items.specs.declared.attributes.AttributeRead.the-variants.{Attribute}
 use Rattle.items.proofs.Answers.{read-within, read-lost}
@@ -52,7 +55,9 @@ use Rattle.items.proofs.Mapped.{TookAs, lost-as, mapped-ok, mapped-not,
 use Rattle.items.proofs.Locality.{access-entry-inside, access-entry-consumes, comma-local, separated-list0-inside, access-list-inside, attribute-access-inside, parse-attribute-consumes}
 use Rattle.items.proofs.counts.Laws.{read-counted}
 use Rattle.items.proofs.members.Laws.{or-fails}
-use Rattle.items.proofs.structs.Laws.{other-case, by-case}
+use Rattle.items.proofs.RecordWords.{words-bytes-length, catalogue-bytes-append, catalogue-bytes-length}
+use Rattle.items.proofs.writing.Laws.{put-on, documented-bytes}
+use Rattle.items.proofs.structs.Laws.{other-case, by-case, field-parts-is, field-parts-words, field-in-limit}
 use Rattle.items.proofs.optional.Laws.{opt-ok, opt-fail, opt-stop}
 
 -- the word of an entry
@@ -372,6 +377,30 @@ pub attribute-words : (a : AttributeOf) → word-count (attribute-records a) ≡
 unfolding word-count catalogue-words each record-words layout-20 attribute-records field-record plain documented
 attribute-words a = refl
 
-pub attribute-counted : (d : Doc) (v : ℕ) {a : AttributeRead} {b : ℕ} {u : List ℕ} {p : AttributeParts} {c : ℕ} → AttributeTo (parse-attribute-after-doc-maturity d v) a b u → a ≡ Attribute p c
-    → CountTo attribute-records (parse-attribute-after-doc-maturity d v) (Words 6 c) b u
-attribute-counted d v h e = read-counted attribute-records (parse-attribute-consumes d v) h e refl (attribute-words _) (omega arith)
+pub attribute-counted : (d : DocSpan) (v : ℕ) {a : AttributeRead} {b : ℕ} {u : List ℕ} {p : AttributeParts} {c : ℕ} → AttributeTo d v a b u → a ≡ Attribute p c
+    → CountTo attribute-records (parse-attribute-after-doc-maturity (docOf d) v) (Words 6 c) b u
+attribute-counted d v h e = read-counted attribute-records (parse-attribute-consumes (docOf d) v) h e refl (attribute-words _) (omega arith)
+
+-- The second pass.
+
+-- the words of both records
+pub attribute-put : (a : AttributeParts) (p v : ℕ) (l l₁ l₂ : List ℕ) → p + 48 ≤ length l → v ≡ docBit (a .doc)
+    → l₁ ≡ put p (words-bytes (first-of (record { kind = 7; place = 0; maturity = a .maturity; documented = v; flags = a .flags * 8; name = 0; size = 0; privilege = a .read; further = a .write }) ∷ docWord (a .doc) ∷ [])) l
+    → l₂ ≡ put (p + 16) (catalogue-bytes layout-20 (field-parts (a .field) ∷ [])) l₁ → l₂ ≡ put p (catalogue-bytes layout-20 (attribute-parts a)) l
+unfolding from-top packed width offset size
+attribute-put a p v l l₁ l₂ r d e₁ e₂ =
+    let w : List ℕ = first-of (record { kind = 7; place = 0; maturity = a .maturity; documented = docBit (a .doc); flags = a .flags * 8; name = 0; size = 0; privilege = a .read; further = a .write }) ∷ docWord (a .doc) ∷ [] in
+    let f : List ℕ = catalogue-bytes layout-20 (field-parts (a .field) ∷ []) in
+    let y : a .flags * 8 ≡ from-top 7 (bits 4 (a .flags) ∷ []) = omega arith in
+    let z = documented-bytes 7 0 (a .maturity) (a .doc) (bits 4 (a .flags) ∷ []) absent (a .read) (a .write) [] (a .flags * 8) y in
+    let k = catalogue-bytes-length (field-parts (a .field) ∷ []) in
+    let g : l₂ ≡ put p (words-bytes w ++ f) l = put-on p (p + 16) (words-bytes w) f l l₁ l₂ (omega (arith, words-bytes-length w)) (omega (arith, k, field-parts-words (a .field))) (rw (← d) e₁) e₂ in
+    rw (catalogue-bytes-append layout-20 (attribute-first a ∷ []) (field-parts (a .field) ∷ []), z) g
+
+-- the records of what was read
+pub attribute-parts-is : (b : ℕ) (u : List ℕ) (a : AttributeParts) (c : ℕ) → AttributeBetween b a c → c ≤ b + length u → attribute-parts a ≡ attribute-records (attributeAt b u a)
+unfolding attribute-records
+attribute-parts-is b u a c w i = rw (field-parts-is b u (a .field) c (w .field) i)
+
+pub attribute-in-limit : {b : ℕ} {a : AttributeParts} {c : ℕ} → AttributeBetween b a c → c ≤ text-limit → AttributeBetween 0 a text-limit
+attribute-in-limit w i = record { flags = w .flags; privileges = w .privileges; field = field-in-limit (w .field) i }

@@ -30,7 +30,7 @@ use Rattle.items.specs.declared.choices.ChoiceHeadRead.the-variants.{Cho
 use Rattle.items.proofs.Answers.{read-is}
 use Rattle.items.proofs.Headed.{Headed}
 use Rattle.items.proofs.WordBetween.{extent-between}
-use Rattle.items.proofs.writing.Laws.{documented-bytes, put-next}
+use Rattle.items.proofs.writing.Laws.{documented-put}
 use Rattle.items.proofs.Locality.{shared-before-local, choice-head-local, constant-entries-list-local}
 use Rattle.items.proofs.optional.Laws.{optional-skips, optional-present, skip-took, skip-lost}
 
@@ -93,10 +93,7 @@ pub choice-first-put : (f : FrontParts) (h : ChoiceHeadParts) (p v i s : ℕ) (l
     → s ≡ spanWord (h .«base_at») (h .«base_end» - h .«base_at») → l₂ ≡ put (p + 16) (big-endian 8 s) l₁ → l₂ ≡ put p (catalogue-bytes layout-20 (choice-first f h ∷ [])) l
 unfolding from-top packed width flag offset size layout-20 further-word
 choice-first-put f h p v i s l l₁ l₂ r d e e₁ z e₂ =
-    let g : ℕ = i * 64 in
-    let y : g ≡ from-top 7 (flag (h .shared) ∷ []) = omega (arith, e) in
-    rw (documented-bytes (f .kind) (f .place) (f .maturity) (f .doc) (flag (h .shared) ∷ []) (at (h .name) (h .end - h .name)) 0 0 (spanned (at (h .«base_at») (h .«base_end» - h .«base_at»)) ∷ []) g y)
-    (put-next p (p + 16) (first-of (record { kind = f .kind; place = f .place; maturity = f .maturity; documented = docBit (f .doc); flags = g; name = h .name; size = h .end - h .name; privilege = 0; further = 0 }) ∷ docWord (f .doc) ∷ []) l l₁ l₂ (omega arith) (omega arith) (rw (← d) e₁) z e₂)
+    documented-put (f .kind) (f .place) (f .maturity) (f .doc) (flag (h .shared) ∷ []) (at (h .name) (h .end - h .name)) 0 0 (spanned (at (h .«base_at») (h .«base_end» - h .«base_at»))) p (i * 64) v s l l₁ l₂ (omega (arith, e)) r d e₁ z e₂
 
 -- the first record of what was read
 pub choice-first-is : (f : FrontParts) (k : List ℕ) (b : ℕ) (u : List ℕ) (h : ChoiceHeadParts) (c : ℕ) (l : List Entry) → ChoiceHeadBetween b h c → c ≤ b + length u → choice-first f h ≡ choice-headed k .first (frontOf f) (choiceHeadAt b u h) l

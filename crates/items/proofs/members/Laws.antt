@@ -1,9 +1,9 @@
 -- Events and commands: one law for each way through a reader.
 use mathlib.Core.Path.{_≡_, refl, sym, ap, _∙_, subst}
-use mathlib.Core.Bool.{true, false}
+use mathlib.Core.Bool.{Bool, true, false}
 use mathlib.Core.Option.{Option, none, some}
 use mathlib.Core.List.{List, [], _∷_, map}
-use Prim.Native.Nat.{ℕ, _+_, _-_, _≤_, _<_}
+use Prim.Native.Nat.{ℕ, _+_, _-_, _*_, _≤_, _<_}
 use native.Mathlib.Omega.{arith}
 use native.Mathlib.Nat.{max-eq-left}
 use lib.Dec.{ltb}
@@ -12,7 +12,8 @@ use borrow.Author.Tests.{lt-ltb, le-ltb}
 use Rattle.lexing.specs.reply.{Reply, ok, fail, stop, Parser, ret, _>>=_, _>>_, _or_, further, opt}
 use Rattle.lexing.specs.words.{Word, word, parse-id, keyword}
 use Rattle.lexing.specs.blanks.{Doc}
-use Rattle.lexing.specs.answers.{Answer, got, lost, Rest, lostReply, reply, lostOf, wordAt, wordReply}
+use Rattle.lexing.specs.answers.{Answer, got, lost, Rest, lostReply, reply, lostOf, wordAt, wordReply, docOf}
+use Rattle.lexing.specs.word_sets.{bit}
 use Rattle.lexing.specs.declared.answers.Lost.{Lost}
 use Rattle.lexing.specs.declared.answers.Lost.the-variants.{Fail, Stop}
 use Rattle.lexing.specs.declared.answers.Step.{Step}
@@ -23,12 +24,12 @@ use Rattle.lexing.proofs.Locality.{OnChain, chain-opt, chain-inside}
 use Rattle.lexing.proofs.TokenLocality.{parse-id-chain}
 use Rattle.lexing.proofs.Slicing.{Took, took, walks, told-not, rebase, begin, on}
 use Rattle.lexing.proofs.words.Laws.{Says, keyword-says}
-use Rattle.items.specs.structs.{struct-fields}
+use Rattle.items.specs.structs.{struct-fields, StructField as StructFieldOf}
 use Rattle.items.specs.members.{or-else, event-qualities, event-head, parse-event-after-doc-maturity, command-head, CommandTypes as CommandTypesOf, command-types, Command as CommandOf, parse-command-after-doc-maturity}
-use Rattle.items.specs.records.{bits, value, each, word-extent, documented, field-record, command-record, event-records}
-use Rattle.items.specs.layout.{layout-20, record-words, catalogue-words, word-count}
-use Rattle.items.specs.answers.{optionOf, wordBetween, optionalStep, CountTo, Front}
-use Rattle.items.specs.answers.members.{levelAnswer, levelLost, levelSmall, LevelTo, levelOr, SmallEventQualities, EventQualitiesTo, eventHeadAt, eventHeadLost, EventHeadBetween, EventHeadTo, optionalBetween, CommandHeadBetween, commandHeadAnswer, commandHeadWithin, CommandHeadTo, commandTypesAt, commandTypesAnswer, CommandTypesBetween, commandTypesWithin, CommandTypesTo, commandAt, CommandTo}
+use Rattle.items.specs.records.{bits, value, each, word-extent, documented, field-record, command-record, event-records, at, spanned, flag, optional-extent}
+use Rattle.items.specs.layout.{layout-20, record-words, catalogue-words, word-count, packed, width, from-top, offset, size, further-word, big-endian, words-bytes, catalogue-bytes, text-limit}
+use Rattle.items.specs.answers.{optionOf, wordBetween, optionalStep, CountTo, Front, first-of, spanWord, docWord, docBit, frontOf}
+use Rattle.items.specs.answers.members.{command-records, levelAnswer, levelLost, levelSmall, LevelTo, levelOr, SmallEventQualities, EventQualitiesTo, eventHeadAt, eventHeadLost, EventHeadBetween, EventHeadTo, optionalBetween, CommandHeadBetween, commandHeadAnswer, commandHeadWithin, CommandHeadTo, commandTypesAt, commandTypesAnswer, CommandTypesBetween, commandTypesWithin, CommandTypesTo, commandAt, CommandTo, CommandBetween}
 use Rattle.items.specs.declared.counts.Count.the-variants.{Words}
 use Rattle.items.specs.declared.members.Level.{Level}
 use Rattle.items.specs.declared.members.Level.the-variants.{Chosen, NoLevel}
@@ -48,12 +49,17 @@ use Rattle.items.specs.declared.members.CommandParts.{CommandParts}
 use Rattle.items.specs.declared.members.CommandRead.{CommandRead}
 use Rattle.items.specs.declared.members.CommandRead.the-variants.{Command, NoCommand}
 use Rattle.items.proofs.Answers.{read-within, read-took, read-lost}
-use Rattle.items.proofs.WordBetween.{word-moved}
-use Rattle.items.proofs.Headed.{Headed}
-use Rattle.items.proofs.Locality.{event-head-inside, command-types-inside, parse-command-consumes}
+use Rattle.items.proofs.WordBetween.{word-moved, extent-between}
+use Rattle.items.proofs.writing.Laws.{put-next, documented-bytes, documented-put}
+use Rattle.items.proofs.structs.Laws.{present-is}
 use Rattle.items.proofs.maturity.Laws.{fail-then}
-use Rattle.items.proofs.counts.Laws.{read-counted}
 use Rattle.items.proofs.optional.Laws.{opt-ok, opt-fail, opt-stop}
+use Rattle.items.proofs.Locality.{command-types-inside, event-head-inside, parse-command-consumes}
+use Rattle.items.specs.buffers.{put}
+use Rattle.items.specs.inner.members.{event-first, extentIf, command-parts}
+use Rattle.items.specs.declared.writing.FrontParts.{FrontParts}
+use Rattle.items.proofs.Headed.{Headed}
+use Rattle.items.proofs.counts.Laws.{read-counted}
 
 -- a choice of keywords: one that is not there fails at its start, and so do all
 keyword-lost : (k : List ℕ) (b : ℕ) (u : List ℕ) (l : Lost) → lostReply l ≡ keyword k b u → fail b ≡ keyword k b u
@@ -131,7 +137,7 @@ level-after {m = m} {k} w (Chosen v c) {b = b} {u = u} t q h = record { reads = 
 level-after {m = m} {k} w (NoLevel l) {b = b} {n} {u} t q h = record { reads = begin (m >> k) b u (on k t (h .reads ∙ ap (k n) (q .same))); within = tt }
 
 -- events, up to the name
-pub event-qualities-is : (q y z v : ℕ) (o : Option ℕ) (b c : ℕ) (u : List ℕ) → q < 16 → y < 4 → v < 4 → or-else z o ≡ v
+pub event-qualities-is : (q y z v : ℕ) (o : Option ℕ) (b c : ℕ) (u : List ℕ) → q < 2 → y < 4 → v < 4 → or-else z o ≡ v
     → ok (record { sensitive = q; rank = y; privilege = or-else z o }) c (drop (c - b) u) ≡ event-qualities b u → EventQualitiesTo (EventQualities (record { sensitive = q; rank = y; privilege = v }) c) b u
 event-qualities-is q y z v o b c u f g h d e =
     record {
@@ -166,7 +172,7 @@ event-headed = record {
 }
 
 -- commands, up to the name
-pub command-head-is : (q z v : ℕ) (o : Option ℕ) (b n c : ℕ) (u : List ℕ) → q < 16 → v < 4 → b ≤ n → n ≤ c → or-else z o ≡ v
+pub command-head-is : (q z v : ℕ) (o : Option ℕ) (b n c : ℕ) (u : List ℕ) → q < 4 → v < 4 → b ≤ n → n ≤ c → or-else z o ≡ v
     → ok (record { qualities = q; privilege = or-else z o; id = wordBetween b u n c }) c (drop (c - b) u) ≡ command-head b u → CommandHeadTo (CommandHead (record { qualities = q; privilege = v; name = n; end = c }) c) b u
 command-head-is q z v o b n c u f g h i d e =
     record {
@@ -226,22 +232,26 @@ commandParts d v k h t = record { doc = d; maturity = v; flags = h .qualities; a
 pub command-head-within : {a : CommandHeadRead} {h : CommandHeadParts} {b c : ℕ} {u : List ℕ} → CommandHeadTo a b u → a ≡ CommandHead h c → CommandHeadBetween b h c
 command-head-within t e = read-within t e
 
-pub command-is : (m : Parser CommandOf) (d : DocSpan) (v k : ℕ) (h : CommandHeadParts) (t : CommandTypesParts) (b c1 c2 c : ℕ) (u : List ℕ)
+pub command-is : (d : DocSpan) (v k : ℕ) (h : CommandHeadParts) (t : CommandTypesParts) (b c1 c2 c : ℕ) (u : List ℕ)
     → CommandHeadBetween b h c1 → CommandTypesBetween c1 t c2 → c2 ≤ c
-    → ok (commandAt b u (commandParts d v k h t)) c (drop (c - b) u) ≡ m b u → CommandTo m (Command (commandParts d v k h t) c) b u
-command-is m d v k h t b c1 c2 c u x y l e =
+    → ok (commandAt b u (commandParts d v k h t)) c (drop (c - b) u) ≡ parse-command-after-doc-maturity (docOf d) v b u → CommandTo d v (Command (commandParts d v k h t) c) b u
+command-is d v k h t b c1 c2 c u x y l e =
     record {
       reads = e;
       within = record {
-        flags = x .qualities;
-        access = x .privilege;
-        name-from = x .name-from;
-        name-to = x .name-to;
-        input-from = omega (arith, x .before, y .input-from);
-        input-to = y .input-to;
-        output-from = y .output-from;
-        output-to = y .output-to;
-        before = omega (arith, y .before);
+        doc = refl;
+        maturity = refl;
+        between = record {
+          flags = x .qualities;
+          access = x .privilege;
+          name-from = x .name-from;
+          name-to = x .name-to;
+          input-from = omega (arith, x .before, y .input-from);
+          input-to = y .input-to;
+          output-from = y .output-from;
+          output-to = y .output-to;
+          before = omega (arith, y .before);
+        };
       };
     }
 
@@ -250,6 +260,80 @@ pub command-words : (c : CommandOf) → word-count (command-record c ∷ []) ≡
 unfolding word-count catalogue-words each record-words layout-20 command-record documented
 command-words c = refl
 
-pub command-counted : (d : Doc) (v : ℕ) {a : CommandRead} {b : ℕ} {u : List ℕ} {p : CommandParts} {c : ℕ} → CommandTo (parse-command-after-doc-maturity d v) a b u → a ≡ Command p c
-    → CountTo (λ x. command-record x ∷ []) (parse-command-after-doc-maturity d v) (Words 5 c) b u
-command-counted d v h e = read-counted (λ x. command-record x ∷ []) (parse-command-consumes d v) h e refl (command-words _) (omega arith)
+pub command-counted : (d : DocSpan) (v : ℕ) {a : CommandRead} {b : ℕ} {u : List ℕ} {p : CommandParts} {c : ℕ} → CommandTo d v a b u → a ≡ Command p c
+    → CountTo command-records (parse-command-after-doc-maturity (docOf d) v) (Words 5 c) b u
+command-counted d v h e = read-counted command-records (parse-command-consumes (docOf d) v) h e refl (command-words _) (omega arith)
+
+-- The second pass.
+
+-- the three words of an event's first record
+pub event-first-put : (f : FrontParts) (h : EventHeadParts) (p v : ℕ) (l l₁ l₂ : List ℕ) → p + 24 ≤ length l → v ≡ docBit (f .doc)
+    → l₁ ≡ put p (words-bytes (first-of (record { kind = 9; place = 0; maturity = f .maturity; documented = v; flags = h .rank * 32 + h .sensitive * 16; name = h .name; size = h .end - h .name; privilege = h .privilege; further = 0 }) ∷ docWord (f .doc) ∷ [])) l
+    → l₂ ≡ put (p + 16) (big-endian 8 (h .code)) l₁ → l₂ ≡ put p (catalogue-bytes layout-20 (event-first f h ∷ [])) l
+unfolding from-top packed width offset size further-word
+event-first-put f h p v l l₁ l₂ r d e₁ e₂ =
+    documented-put 9 0 (f .maturity) (f .doc) (bits 2 (h .rank) ∷ bits 1 (h .sensitive) ∷ []) (at (h .name) (h .end - h .name)) (h .privilege) 0 (value (h .code)) p (h .rank * 32 + h .sensitive * 16) v (h .code) l l₁ l₂ (omega arith) r d e₁ refl e₂
+
+-- the first record of what was read
+pub event-first-is : (f : FrontParts) (b : ℕ) (u : List ℕ) (h : EventHeadParts) (c : ℕ) (l : List StructFieldOf) → EventHeadBetween b h c → c ≤ b + length u → event-first f h ≡ event-headed .first (frontOf f) (eventHeadAt b u h) l
+unfolding event-headed
+event-first-is f b u h c l w i = rw (extent-between b u (h .name) (h .end) (w .name-from) (w .name-to) (omega (arith, w .before)))
+
+pub event-in-limit : {b : ℕ} {h : EventHeadParts} {c : ℕ} → EventHeadBetween b h c → c ≤ text-limit → EventHeadBetween 0 h text-limit
+event-in-limit w i = record { sensitive = w .sensitive; rank = w .rank; privilege = w .privilege; name-from = omega arith; name-to = w .name-to; before = omega (arith, w .before) }
+
+-- the word of a span that may be absent
+pub span-there : (o e w : ℕ) → ltb o e ≡ true → w ≡ spanWord o (e - o) → w ≡ further-word layout-20 (spanned (extentIf (ltb o e) o (e - o)))
+unfolding layout-20 further-word packed offset size
+span-there o e w t h = rw t h
+
+pub span-absent : (o e : ℕ) → ltb o e ≡ false → 0 ≡ further-word layout-20 (spanned (extentIf (ltb o e) o (e - o)))
+unfolding layout-20 further-word packed offset size
+span-absent o e t = rw t refl
+
+-- the five words of a command's record
+pub command-put : (p : CommandParts) (q v j s t : ℕ) (l l₁ l₂ l₃ l₄ : List ℕ) → q + 40 ≤ length l → v ≡ docBit (p .doc) → j ≡ bit (ltb (p .input) (p .«input_end»))
+    → l₁ ≡ put q (words-bytes (first-of (record { kind = 8; place = 0; maturity = p .maturity; documented = v; flags = p .flags * 32 + j * 16; name = p .name; size = p .end - p .name; privilege = p .access; further = 0 }) ∷ docWord (p .doc) ∷ [])) l
+    → s ≡ further-word layout-20 (spanned (extentIf (ltb (p .input) (p .«input_end»)) (p .input) (p .«input_end» - p .input))) → l₂ ≡ put (q + 16) (big-endian 8 s) l₁
+    → t ≡ spanWord (p .output) (p .«output_end» - p .output) → l₃ ≡ put (q + 24) (big-endian 8 t) l₂ → l₄ ≡ put (q + 32) (big-endian 8 (p .code)) l₃
+    → l₄ ≡ put q (catalogue-bytes layout-20 (command-parts p ∷ [])) l
+unfolding from-top packed width flag offset size layout-20 further-word
+command-put p q v j s t l l₁ l₂ l₃ l₄ r d ej e₁ f e₂ h e₃ e₄ =
+    let there : Bool = ltb (p .input) (p .«input_end») in
+    let g : ℕ = p .flags * 32 + j * 16 in
+    let y : g ≡ from-top 7 (bits 2 (p .flags) ∷ flag there ∷ []) = omega (arith, ej) in
+    let w₁ : ℕ = first-of (record { kind = 8; place = 0; maturity = p .maturity; documented = docBit (p .doc); flags = g; name = p .name; size = p .end - p .name; privilege = p .access; further = 0 }) in
+    let w₂ : ℕ = further-word layout-20 (spanned (extentIf there (p .input) (p .«input_end» - p .input))) in
+    let w₃ : ℕ = spanWord (p .output) (p .«output_end» - p .output) in
+    rw (documented-bytes 8 0 (p .maturity) (p .doc) (bits 2 (p .flags) ∷ flag there ∷ []) (at (p .name) (p .end - p .name)) (p .access) 0
+    (spanned (extentIf there (p .input) (p .«input_end» - p .input)) ∷ spanned (at (p .output) (p .«output_end» - p .output)) ∷ value (p .code) ∷ []) g y)
+    (put-next q (q + 32) (w₁ ∷ docWord (p .doc) ∷ w₂ ∷ w₃ ∷ []) l l₃ l₄ (omega arith) (omega arith) (put-next q (q + 24) (w₁ ∷ docWord (p .doc) ∷ w₂ ∷ []) l l₂ l₃ (omega arith) (omega arith) (put-next q (q + 16) (w₁ ∷ docWord (p .doc) ∷ []) l l₁ l₂ (omega arith) (omega arith) (rw (← d) e₁) f e₂) h e₃) refl e₄)
+
+-- the record of what was read
+extent-if : (t : Bool) (w : Word) {o n : ℕ} → word-extent w ≡ at o n → optional-extent (optionOf t w) ≡ extentIf t o n
+unfolding optional-extent
+extent-if true w e = e
+extent-if false w e = refl
+
+pub command-parts-is : (b : ℕ) (u : List ℕ) (p : CommandParts) (c : ℕ) → CommandBetween b p c → c ≤ b + length u → command-parts p ≡ command-record (commandAt b u p)
+unfolding command-record
+command-parts-is b u p c w i =
+    let there : Bool = ltb (p .input) (p .«input_end») in
+    let x = extent-between b u (p .name) (p .end) (w .name-from) (w .name-to) (omega (arith, w .input-from, w .input-to, w .output-from, w .output-to, w .before)) in
+    let y = extent-between b u (p .output) (p .«output_end») (omega (arith, w .name-from, w .name-to, w .input-from, w .input-to, w .output-from)) (w .output-to) (omega (arith, w .before)) in
+    let z = extent-between b u (p .input) (p .«input_end») (omega (arith, w .name-from, w .name-to, w .input-from)) (w .input-to) (omega (arith, w .output-from, w .output-to, w .before)) in
+    rw (present-is there (wordBetween b u (p .input) (p .«input_end»)), x, y, extent-if there (wordBetween b u (p .input) (p .«input_end»)) z)
+
+pub command-in-limit : {b : ℕ} {p : CommandParts} {c : ℕ} → CommandBetween b p c → c ≤ text-limit → CommandBetween 0 p text-limit
+command-in-limit w i =
+    record {
+      flags = w .flags;
+      access = w .access;
+      name-from = omega arith;
+      name-to = w .name-to;
+      input-from = w .input-from;
+      input-to = w .input-to;
+      output-from = w .output-from;
+      output-to = w .output-to;
+      before = omega (arith, w .before);
+    }

@@ -55,7 +55,7 @@ use Rattle.items.proofs.RecordWords.{map-elementwise}
 use Rattle.items.proofs.Answers.{read-within, read-took, read-lost}
 use Rattle.items.proofs.Headed.{Headed}
 use Rattle.items.proofs.WordBetween.{word-moved, extent-between}
-use Rattle.items.proofs.writing.Laws.{put-two, put-next, plain-bytes, documented-bytes, Writing, writing-fits, writing-more, writing-ends}
+use Rattle.items.proofs.writing.Laws.{put-two, put-next, plain-bytes, documented-put, Writing, writing-fits, writing-more, writing-ends}
 use Rattle.items.proofs.counts.Laws.{Counting, counting-more}
 use Rattle.items.proofs.optional.Laws.{opt-ok, opt-fail, opt-stop}
 
@@ -114,16 +114,16 @@ marker-is b c u e =
 pub marker-took : {b n : ℕ} {u r : List ℕ} {t : Marker} → Rest b u n r → MarkerTo t n r → Took (opt list-marker) b u n (optionOf (t .list) tt) (t .next)
 marker-took q h = took (walks (chain-opt (list-marker-local .on-chain))) q (h .reads)
 
-present-is : (x : Bool) → present (optionOf {A = Unit {0}} x tt) ≡ x
+pub present-is : {A : Type 0} (x : Bool) (a : A) → present (optionOf x a) ≡ x
 unfolding present
-present-is true = refl
-present-is false = refl
+present-is true a = refl
+present-is false a = refl
 
 -- the ways of a field
 pub field-is : (b : ℕ) (u : List ℕ) (f : FieldParts) (c : ℕ)
     → ok (record { data-type = wordBetween b u (f .«type_at») (f .«type_end»); maximum = optionOf (f .«has_maximum») (f .maximum); name = wordBetween b u (f .name) (f .end); list = present (optionOf {A = Unit {0}} (f .list) tt); code = f .code }) c (drop (c - b) u) ≡ parse-field b u
     → FieldBetween b f c → FieldTo (Field f c) b u
-field-is b u f c h w = record { reads = rw (present-is (f .list)) at h; within = w }
+field-is b u f c h w = record { reads = rw (present-is {A = Unit {0}} (f .list) tt) at h; within = w }
 
 -- a field, seen from the part's start
 field-moved : (b n : ℕ) (u r : List ℕ) (f : FieldParts) (c : ℕ) → Rest b u n r → FieldBetween n f c → fieldAt n r f ≡ fieldAt b u f
@@ -314,10 +314,10 @@ field-put s p i j t x w l l₁ l₂ l₃ l₄ r ei ej d e₁ f e₂ e₃ y e₄ 
     (spanned (at (s .field .«type_at») (s .field .«type_end» - s .field .«type_at»)) ∷ value (s .field .code) ∷ value (or-else 0 (optionOf (s .field .«has_maximum») (s .field .maximum))) ∷ []) g z)
     (put-next p (p + 24) (f₁ ∷ f₂ ∷ s .field .code ∷ []) l l₃ l₄ (omega arith) (omega arith) (put-next p (p + 16) (f₁ ∷ f₂ ∷ []) l l₂ l₃ (omega arith) (omega arith) (put-two p l l₁ l₂ (omega arith) d e₁ f e₂) refl e₃) y e₄)
 
-present-number : (x : Bool) (n : ℕ) → present (optionOf x n) ≡ x
-unfolding present
-present-number true n = refl
-present-number false n = refl
+-- four words, by offsets too
+pub field-parts-words : (s : StructFieldParts) → word-count (field-parts s ∷ []) ≡ 4
+unfolding word-count catalogue-words each record-words layout-20 plain
+field-parts-words s = refl
 
 -- the record of a field that was read
 pub field-parts-is : (b : ℕ) (u : List ℕ) (s : StructFieldParts) (c : ℕ) → StructFieldBetween b s c → c ≤ b + length u → field-parts s ≡ field-record (structFieldAt b u s)
@@ -325,7 +325,7 @@ unfolding field-record
 field-parts-is b u s c w i =
     let v = w .between in
     rw (
-      present-number (s .field .«has_maximum») (s .field .maximum),
+      present-is (s .field .«has_maximum») (s .field .maximum),
       extent-between b u (s .field .name) (s .field .end) (omega (arith, v .type-from, v .type-to, v .name-from)) (v .name-to) (omega (arith, v .before)),
       extent-between b u (s .field .«type_at») (s .field .«type_end») (v .type-from) (v .type-to) (omega (arith, v .name-from, v .name-to, v .before)),
     )
@@ -354,12 +354,9 @@ module _ (b : ℕ) (u : List ℕ) (p : ℕ) (old : List ℕ) (room : Room (map f
 pub struct-first-put : (f : FrontParts) (h : StructHeadParts) (p v i s : ℕ) (l l₁ l₂ : List ℕ) → p + 24 ≤ length l → v ≡ docBit (f .doc) → i ≡ kindNumber (h .kind)
     → l₁ ≡ put p (words-bytes (first-of (record { kind = 5; place = f .place; maturity = f .maturity; documented = v; flags = i * 32 + h .scoped * 16; name = h .name; size = h .end - h .name; privilege = 0; further = 0 }) ∷ docWord (f .doc) ∷ [])) l
     → s ≡ responseNumber (h .kind) (h .code) → l₂ ≡ put (p + 16) (big-endian 8 s) l₁ → l₂ ≡ put p (catalogue-bytes layout-20 (struct-first f h ∷ [])) l
-unfolding from-top packed width offset size layout-20 further-word
+unfolding from-top packed width offset size further-word
 struct-first-put f h p v i s l l₁ l₂ r d e e₁ z e₂ =
-    let g : ℕ = i * 32 + h .scoped * 16 in
-    let y : g ≡ from-top 7 (bits 2 (kindNumber (h .kind)) ∷ bits 1 (h .scoped) ∷ []) = omega (arith, e) in
-    rw (documented-bytes 5 (f .place) (f .maturity) (f .doc) (bits 2 (kindNumber (h .kind)) ∷ bits 1 (h .scoped) ∷ []) (at (h .name) (h .end - h .name)) 0 0 (value (responseNumber (h .kind) (h .code)) ∷ []) g y)
-    (put-next p (p + 16) (first-of (record { kind = 5; place = f .place; maturity = f .maturity; documented = docBit (f .doc); flags = g; name = h .name; size = h .end - h .name; privilege = 0; further = 0 }) ∷ docWord (f .doc) ∷ []) l l₁ l₂ (omega arith) (omega arith) (rw (← d) e₁) z e₂)
+    documented-put 5 (f .place) (f .maturity) (f .doc) (bits 2 (kindNumber (h .kind)) ∷ bits 1 (h .scoped) ∷ []) (at (h .name) (h .end - h .name)) 0 0 (value (responseNumber (h .kind) (h .code))) p (i * 32 + h .scoped * 16) v s l l₁ l₂ (omega (arith, e)) r d e₁ z e₂
 
 pub kind-small : (k : StructKind) → kindNumber k < 4
 kind-small Regular = omega arith

@@ -121,6 +121,14 @@ pub documented-bytes : (k p m : ℕ) (d : DocSpan) (fl : List Bits) (e : Extent)
 unfolding catalogue-bytes catalogue-words each record-words layout-20 further-word documented
 documented-bytes k p m d fl e x y l g h = rw (h, doc-bit-is d, doc-word d) (ap words-bytes (append-nil _))
 
+-- such a record of three words: what the code has computed of it
+pub documented-put : (k p m : ℕ) (d : DocSpan) (fl : List Bits) (e : Extent) (x y : ℕ) (w : Further) (q g v s : ℕ) (l l₁ l₂ : List ℕ) → g ≡ from-top 7 fl → q + 24 ≤ length l → v ≡ docBit d
+    → l₁ ≡ put q (words-bytes (first-of (record { kind = k; place = p; maturity = m; documented = v; flags = g; name = offset e; size = size e; privilege = x; further = y }) ∷ docWord d ∷ [])) l
+    → s ≡ further-word layout-20 w → l₂ ≡ put (q + 16) (big-endian 8 s) l₁ → l₂ ≡ put q (catalogue-bytes layout-20 (documented k p m (docOf d) fl e x y (w ∷ []) ∷ [])) l
+documented-put k p m d fl e x y w q g v s l l₁ l₂ h r z e₁ f e₂ =
+    rw (documented-bytes k p m d fl e x y (w ∷ []) g h)
+    (put-next q (q + 16) (first-of (record { kind = k; place = p; maturity = m; documented = docBit d; flags = g; name = offset e; size = size e; privilege = x; further = y }) ∷ docWord d ∷ []) l l₁ l₂ (omega arith) (omega arith) (rw (← z) e₁) f e₂)
+
 -- a record without one
 pub plain-fits : {k m g o n : ℕ} → k < 256 → m < 4 → g < 128 → o ≤ text-limit → n ≤ text-limit → Fits (record { kind = k; place = 0; maturity = m; documented = 0; flags = g; name = o; size = n; privilege = 0; further = 0 })
 plain-fits a b c d e = record { kind-fits = a; place-fits = omega arith; maturity-fits = b; documented-fits = omega arith; flags-fits = c; name-fits = omega (arith, d); size-fits = omega (arith, e); privilege-fits = omega arith; further-fits = omega arith }
@@ -158,6 +166,22 @@ no-room h (Stop i p) e = let z = h .is ∙ sym e in let y : _≡_ {A = ℕ} 0 1 
 -- a declaration that was written, as a step of a sequence
 pub written-took : {A : Type 0} {records : A → List Record} {m : Parser A} (v : Onward m) {b n : ℕ} {u r : List ℕ} {at : ℕ} {w : Wrote} {old new : List ℕ} → Rest b u n r → (h : Written records m n r at w old new) → Took m b u n (h .value) (w .next)
 written-took v q h = took v q (h .is)
+
+-- a declaration of k words that was read: there is room for them, and it is written once its records are
+module _ {A : Type 0} {records : A → List Record} {m : Parser A} {b : ℕ} {u : List ℕ} {a : A} {c k : ℕ} (e : ok a c (drop (c - b) u) ≡ m b u) (z : word-count (records a) ≡ k) {at : ℕ} where
+  pub read-room : {n : ℕ} → Room records m b u at n → at + 8 * k ≤ n
+  read-room room =
+      let x = room .is ∙ sym e in
+      let y : room .value ≡ a = cc in
+      let f : word-count (records (room .value)) ≡ word-count (records a) = ap (λ v. word-count (records v)) y in
+      omega (arith, room .fits, f, z)
+
+  pub read-written : {l : List Record} {old new : List ℕ} → l ≡ records a → new ≡ put at (catalogue-bytes layout-20 l) old → Written records m b u at (record { next = c; to = at + 8 * k }) old new
+  read-written h g = record { value = a; is = e; place = omega (arith, z); bytes = rw (← h) g }
+
+-- its front, where its doc comment and its maturity are those that its reader was handed
+pub front-kept : (f : FrontParts) {k : ℕ} {d : DocSpan} {v : ℕ} → FrontFits f → d ≡ f .doc → v ≡ f .maturity → FrontFits (record { kind = k; place = 0; doc = d; maturity = v })
+front-kept f h x y = record { place-fits = omega arith; maturity-fits = omega (arith, h .maturity-fits, y); doc-fits = subst (λ (d : DocSpan). DocFits d) (sym x) (h .doc-fits) }
 
 -- the buffer keeps its length
 pub written-same : {A : Type 0} {records : A → List Record} {m : Parser A} {b : ℕ} {u : List ℕ} {at n : ℕ} {w : Wrote} {old new : List ℕ} → Room records m b u at n → Written records m b u at w old new → n ≡ length old → length new ≡ length old

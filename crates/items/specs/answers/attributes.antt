@@ -1,11 +1,12 @@
 -- Answers of the readers of attributes.
 use Prim.Native.Nat.{ℕ, _<_}
+use mathlib.Core.Path.{_≡_}
 use mathlib.Core.List.{List}
-use Rattle.lexing.specs.reply.{Parser}
 use Rattle.lexing.specs.answers.{Answer, got, lost, docOf}
 use Rattle.lexing.specs.declared.answers.Lost.{Lost}
 use Rattle.lexing.specs.declared.answers.Lost.the-variants.{Fail}
-use Rattle.items.specs.members.{Privileges as PrivilegesOf, attribute-access, Attribute as AttributeOf}
+use Rattle.lexing.specs.declared.blanks.DocSpan.{DocSpan}
+use Rattle.items.specs.members.{Privileges as PrivilegesOf, attribute-access, Attribute as AttributeOf, parse-attribute-after-doc-maturity}
 use Rattle.items.specs.answers.{ReadTo}
 use Rattle.items.specs.answers.structs.{structFieldAt, StructFieldBetween}
 use Rattle.items.specs.declared.attributes.PrivilegesRead.{PrivilegesRead}
@@ -57,9 +58,15 @@ pub record AttributeBetween (b : ℕ) (p : AttributeParts) (c : ℕ) : Type 0 wh
   pub privileges : SmallPrivileges (p .read) (p .write)
   pub field : StructFieldBetween b (p .field) c
 
-abbrev pub attributeWithin : ℕ → AttributeRead → Type 0
-attributeWithin b (Attribute p c) = AttributeBetween b p c
-attributeWithin b (NoAttribute l) = Unit {0}
+-- with the doc comment and the maturity that its reader was handed
+pub record AttributeIn (d : DocSpan) (m b : ℕ) (p : AttributeParts) (c : ℕ) : Type 0 where
+  pub doc : p .doc ≡ d
+  pub maturity : p .maturity ≡ m
+  pub between : AttributeBetween b p c
 
-abbrev pub AttributeTo : Parser AttributeOf → AttributeRead → ℕ → List ℕ → Type 0
-AttributeTo m r b u = ReadTo attributeAnswer attributeWithin m r b u
+abbrev pub attributeWithin : DocSpan → ℕ → ℕ → AttributeRead → Type 0
+attributeWithin d m b (Attribute p c) = AttributeIn d m b p c
+attributeWithin d m b (NoAttribute l) = Unit {0}
+
+abbrev pub AttributeTo : DocSpan → ℕ → AttributeRead → ℕ → List ℕ → Type 0
+AttributeTo d m r b u = ReadTo attributeAnswer (attributeWithin d m) (parse-attribute-after-doc-maturity (docOf d) m) r b u

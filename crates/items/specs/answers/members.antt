@@ -1,16 +1,18 @@
 -- Answers of the readers of events and commands.
 use Prim.Native.Nat.{ℕ, _≤_, _<_}
+use mathlib.Core.Path.{_≡_}
 use mathlib.Core.Option.{Option}
-use mathlib.Core.List.{List}
+use mathlib.Core.List.{List, [], _∷_}
 use lib.Dec.{ltb}
 use Rattle.lexing.specs.reply.{Parser}
 use Rattle.lexing.specs.words.{Word}
 use Rattle.lexing.specs.answers.{Answer, got, lost, docOf}
 use Rattle.lexing.specs.declared.answers.Lost.{Lost}
 use Rattle.lexing.specs.declared.answers.Lost.the-variants.{Fail, Stop}
-use Rattle.items.specs.members.{EventQualities as EventQualitiesOf, event-qualities, EventHead as EventHeadOf, event-head, parse-event-after-doc-maturity, CommandHead as CommandHeadOf, command-head, CommandTypes as CommandTypesOf, command-types, Command as CommandOf}
+use Rattle.lexing.specs.declared.blanks.DocSpan.{DocSpan}
+use Rattle.items.specs.members.{EventQualities as EventQualitiesOf, event-qualities, EventHead as EventHeadOf, event-head, parse-event-after-doc-maturity, CommandHead as CommandHeadOf, command-head, CommandTypes as CommandTypesOf, command-types, Command as CommandOf, parse-command-after-doc-maturity}
 use Rattle.items.specs.answers.{optionOf, ReadTo, wordBetween, Front, CountsTo}
-use Rattle.items.specs.records.{event-records}
+use Rattle.items.specs.records.{Record, command-record, event-records}
 use Rattle.items.specs.declared.counts.Count.{Count}
 use Rattle.items.specs.declared.members.Level.{Level}
 use Rattle.items.specs.declared.members.Level.the-variants.{Chosen, NoLevel}
@@ -65,7 +67,7 @@ eventQualitiesLost (EventQualities h c) = Fail c
 eventQualitiesLost (NoEventQualities l) = l
 
 pub record SmallEventQualities (h : EventQualitiesParts) : Type 0 where
-  pub sensitive : h .sensitive < 16
+  pub sensitive : h .sensitive < 2
   pub rank : h .rank < 4
   pub privilege : h .privilege < 4
 
@@ -89,7 +91,7 @@ eventHeadLost (EventHead h c) = Fail c
 eventHeadLost (NoEventHead l) = l
 
 pub record EventHeadBetween (b : ℕ) (h : EventHeadParts) (c : ℕ) : Type 0 where
-  pub sensitive : h .sensitive < 16
+  pub sensitive : h .sensitive < 2
   pub rank : h .rank < 4
   pub privilege : h .privilege < 4
   pub name-from : b ≤ h .name
@@ -123,7 +125,7 @@ commandHeadLost (CommandHead h c) = Fail c
 commandHeadLost (NoCommandHead l) = l
 
 pub record CommandHeadBetween (b : ℕ) (h : CommandHeadParts) (c : ℕ) : Type 0 where
-  pub qualities : h .qualities < 16
+  pub qualities : h .qualities < 4
   pub privilege : h .privilege < 4
   pub name-from : b ≤ h .name
   pub name-to : h .name ≤ h .end
@@ -184,7 +186,7 @@ commandLost (Command p c) = Fail c
 commandLost (NoCommand l) = l
 
 pub record CommandBetween (b : ℕ) (p : CommandParts) (c : ℕ) : Type 0 where
-  pub flags : p .flags < 16
+  pub flags : p .flags < 4
   pub access : p .access < 4
   pub name-from : b ≤ p .name
   pub name-to : p .name ≤ p .end
@@ -194,9 +196,19 @@ pub record CommandBetween (b : ℕ) (p : CommandParts) (c : ℕ) : Type 0 where
   pub output-to : p .output ≤ p .«output_end»
   pub before : p .«output_end» ≤ c
 
-abbrev pub commandWithin : ℕ → CommandRead → Type 0
-commandWithin b (Command p c) = CommandBetween b p c
-commandWithin b (NoCommand l) = Unit {0}
+-- with the doc comment and the maturity that its reader was handed
+pub record CommandIn (d : DocSpan) (m b : ℕ) (p : CommandParts) (c : ℕ) : Type 0 where
+  pub doc : p .doc ≡ d
+  pub maturity : p .maturity ≡ m
+  pub between : CommandBetween b p c
 
-abbrev pub CommandTo : Parser CommandOf → CommandRead → ℕ → List ℕ → Type 0
-CommandTo m r b u = ReadTo commandAnswer commandWithin m r b u
+abbrev pub commandWithin : DocSpan → ℕ → ℕ → CommandRead → Type 0
+commandWithin d m b (Command p c) = CommandIn d m b p c
+commandWithin d m b (NoCommand l) = Unit {0}
+
+abbrev pub CommandTo : DocSpan → ℕ → CommandRead → ℕ → List ℕ → Type 0
+CommandTo d m r b u = ReadTo commandAnswer (commandWithin d m) (parse-command-after-doc-maturity (docOf d) m) r b u
+
+-- a command is one record
+abbrev pub command-records : CommandOf → List Record
+command-records c = command-record c ∷ []

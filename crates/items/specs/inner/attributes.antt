@@ -7,13 +7,17 @@ use Rattle.lexing.specs.bytes.{ascii}
 use Rattle.lexing.specs.reply.{Parser, _>>_}
 use Rattle.lexing.specs.words.{Word, offsetOf, bytesOf, any-keyword}
 use Rattle.lexing.specs.word_sets.{same-bytes}
-use Rattle.lexing.specs.answers.{Answer, got, lost, wordAt, reply}
+use Rattle.lexing.specs.answers.{Answer, got, lost, wordAt, reply, docOf}
 use Rattle.lexing.specs.declared.answers.Lost.{Lost}
 use Rattle.lexing.specs.declared.answers.Lost.the-variants.{Fail, Stop}
 use Rattle.items.specs.clusters.{mapped}
+use Rattle.items.specs.records.{Record, absent, bits, documented}
 use Rattle.items.specs.members.{Access as AccessOf, access-entry, comma}
 use Rattle.items.specs.answers.{ReadTo}
 use Rattle.items.specs.answers.attributes.{SmallPrivileges}
+use Rattle.items.specs.inner.structs.{field-parts}
+use Rattle.items.specs.declared.writing.FrontParts.{FrontParts}
+use Rattle.items.specs.declared.attributes.AttributeParts.{AttributeParts}
 use Rattle.items.specs.declared.attributes.Operation.{Operation}
 use Rattle.items.specs.declared.attributes.Operation.the-variants.{Read, Write, Neither}
 use Rattle.items.specs.declared.attributes.OperationRead.{OperationRead}
@@ -137,3 +141,16 @@ no-grants = Granted 0 1
 abbrev pub optionalList : ListRead → ℕ → ListRead
 optionalList (Listed g c) b = Listed g c
 optionalList (NoList l) b = listEnd l no-grants b
+
+-- The second pass.
+
+-- what stands before an attribute
+abbrev pub attributeFront : AttributeParts → FrontParts
+attributeFront a = record { kind = 7; place = 0; doc = a .doc; maturity = a .maturity }
+
+-- the records of an attribute and of its field, by offsets
+abbrev pub attribute-first : AttributeParts → Record
+attribute-first a = documented 7 0 (a .maturity) (docOf (a .doc)) (bits 4 (a .flags) ∷ []) absent (a .read) (a .write) []
+
+abbrev pub attribute-parts : AttributeParts → List Record
+attribute-parts a = attribute-first a ∷ field-parts (a .field) ∷ []

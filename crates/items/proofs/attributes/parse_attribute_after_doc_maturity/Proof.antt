@@ -3,6 +3,7 @@ use Rattle.items.proofs.attributes.parse_attribute_after_doc_maturity.S
 use Rattle.items.proofs.attributes.parse_attribute_after_doc_maturity.Tie as tie
 use Rattle.lexing.specs.answers.{docOf, wordAt}
 use Rattle.items.specs.members.{parse-attribute-after-doc-maturity}
+use Rattle.items.proofs.SetSizes.{fits-4}
 use Rattle.items.proofs.attributes.Laws.{privileges-small, attribute-access-onward}
 use Rattle.items.proofs.structs.Laws.{struct-field-between, between-wider, parse-struct-field-on, struct-field-took, struct-field-none}
 use mathlib.Core.Path.{refl}
@@ -133,7 +134,7 @@ returns-5 c = read-not _ refl tt (begin (parse-attribute-after-doc-maturity (doc
 
 returns-6 : tie.Need-returns-6
 unfolding parse-attribute-after-doc-maturity
-returns-6 c = read-is refl (begin (parse-attribute-after-doc-maturity (docOf (c .before .before .before .before .before .before .before .before .before .before .before .before .before .before .before .before .before .before .before .before .before .before .before .before .before .before .before .before .before .before .before .before .before .before .args .doc)) (c .before .before .before .before .before .before .before .before .before .before .before .before .before .before .before .before .before .before .before .before .before .before .before .before .before .before .before .before .before .before .before .before .before .before .args .maturity)) _ _ (go _ (set-took (rest-self _ _) (c .before .before .before .before .before .before .before .before .before .before .before .before .before .before .before .before .before .before .before .before .before .before .before .before .before .before .before .before .before .before .before .before .keywords-set .ensures)) (on _ (blank-took (c .before .before .before .before .before .before .before .before .before .before .before .before .before .before .before .before .before .before .before .before .before .before .before .before .before .before .before .before .before .before .before .rest-at .ensures) (c .before .before .before .before .before .before .before .before .before .before .before .before .before .before .before .before .before .before .before .before .before .before .before .before .before .before .before .before .before .before .whitespace0 .ensures)) (on _ (keyword-took (c .before .before .before .before .before .before .before .before .before .before .before .before .before .before .before .before .before .before .before .before .before .before .before .before .before .before .before .before .before .rest-at2 .ensures) (c .before .before .before .before .before .before .before .before .before .before .before .before .before .before .before .before .before .before .before .before .before .before .before .before .before .attribute .given .1) (ascii "attribute") (c .before .before .before .before .before .before .before .before .before .before .before .before .before .before .before .before .before .before .before .before .before .before .before .before .before .before .before .keyword .ensures)) (on _ (gap-took (c .before .before .before .before .before .before .before .before .before .before .before .before .before .before .before .before .before .before .before .before .before .before .before .rest-at3 .ensures) (c .before .before .before .before .before .before .before .before .before .before .before .before .before .before .before .before .before .before .before .before .gap .given .1) (c .before .before .before .before .before .before .before .before .before .before .before .before .before .before .before .before .before .before .before .before .before .before .whitespace1 .ensures)) (go _ (read-took (c .before .before .before .before .before .before .before .before .before .before .before .before .before .before .before .before .before .attribute-access .ensures) (c .before .before .before .before .before .before .before .before .before .before .before .before .before .before .before .access .given .1) attribute-access-onward (c .before .before .before .before .before .before .before .before .before .before .before .before .before .before .before .before .before .before .rest-at4 .ensures) refl) (on _ (blank-took (c .before .before .before .before .before .before .before .before .before .before .before .before .before .rest-at5 .ensures) (c .before .before .before .before .before .before .before .before .before .before .before .before .whitespace02 .ensures)) (go _ (struct-field-took parse-struct-field-on (c .before .before .before .before .before .before .before .before .before .before .before .rest-at6 .ensures) (c .before .before .before .before .before .before .before .before .before .before .parse-struct-field .ensures) (c .before .before .before .before .before .before .before .before .r .given .1)) (on _ (blank-took (c .before .before .before .before .before .before .rest-at7 .ensures) (c .before .before .before .before .before .whitespace03 .ensures)) (on _ (tag-took (c .before .before .before .before .rest-at8 .ensures) (c .before .semicolon .given .1) 59 (c .before .before .before .tag .ensures)) (done _ _ _ _))))))))))) (let w = struct-field-between parse-struct-field-on (c .before .before .before .before .before .before .before .before .before .before .before .rest-at6 .ensures) (c .before .before .before .before .before .before .before .before .before .before .parse-struct-field .ensures) (c .before .before .before .before .before .before .before .before .r .given .1) in record { flags = c .before .before .before .before .before .before .before .before .before .before .before .before .before .before .before .before .before .before .before .before .before .before .before .before .before .before .before .before .before .before .before .before .keywords-set .ensures .small; privileges = privileges-small (c .before .before .before .before .before .before .before .before .before .before .before .before .before .before .before .before .before .attribute-access .ensures) (c .before .before .before .before .before .before .before .before .before .before .before .before .before .before .before .access .given .1); field = record { between = between-wider (c .before .before .before .before .before .before .before .before .before .before .before .rest-at6 .ensures .from) (omega (arith, (blank-took (c .before .before .before .before .before .before .rest-at7 .ensures) (c .before .before .before .before .before .whitespace03 .ensures)) .up, (tag-took (c .before .before .before .before .rest-at8 .ensures) (c .before .semicolon .given .1) 59 (c .before .before .before .tag .ensures)) .up)) (w .between); few-maturities = w .few-maturities; few-flags = w .few-flags } })
+returns-6 c = read-is refl (begin (parse-attribute-after-doc-maturity (docOf (c .before .before .before .before .before .before .before .before .before .before .before .before .before .before .before .before .before .before .before .before .before .before .before .before .before .before .before .before .before .before .before .before .before .before .args .doc)) (c .before .before .before .before .before .before .before .before .before .before .before .before .before .before .before .before .before .before .before .before .before .before .before .before .before .before .before .before .before .before .before .before .before .before .args .maturity)) _ _ (go _ (set-took (rest-self _ _) (c .before .before .before .before .before .before .before .before .before .before .before .before .before .before .before .before .before .before .before .before .before .before .before .before .before .before .before .before .before .before .before .before .keywords-set .ensures)) (on _ (blank-took (c .before .before .before .before .before .before .before .before .before .before .before .before .before .before .before .before .before .before .before .before .before .before .before .before .before .before .before .before .before .before .before .rest-at .ensures) (c .before .before .before .before .before .before .before .before .before .before .before .before .before .before .before .before .before .before .before .before .before .before .before .before .before .before .before .before .before .before .whitespace0 .ensures)) (on _ (keyword-took (c .before .before .before .before .before .before .before .before .before .before .before .before .before .before .before .before .before .before .before .before .before .before .before .before .before .before .before .before .before .rest-at2 .ensures) (c .before .before .before .before .before .before .before .before .before .before .before .before .before .before .before .before .before .before .before .before .before .before .before .before .before .attribute .given .1) (ascii "attribute") (c .before .before .before .before .before .before .before .before .before .before .before .before .before .before .before .before .before .before .before .before .before .before .before .before .before .before .before .keyword .ensures)) (on _ (gap-took (c .before .before .before .before .before .before .before .before .before .before .before .before .before .before .before .before .before .before .before .before .before .before .before .rest-at3 .ensures) (c .before .before .before .before .before .before .before .before .before .before .before .before .before .before .before .before .before .before .before .before .gap .given .1) (c .before .before .before .before .before .before .before .before .before .before .before .before .before .before .before .before .before .before .before .before .before .before .whitespace1 .ensures)) (go _ (read-took (c .before .before .before .before .before .before .before .before .before .before .before .before .before .before .before .before .before .attribute-access .ensures) (c .before .before .before .before .before .before .before .before .before .before .before .before .before .before .before .access .given .1) attribute-access-onward (c .before .before .before .before .before .before .before .before .before .before .before .before .before .before .before .before .before .before .rest-at4 .ensures) refl) (on _ (blank-took (c .before .before .before .before .before .before .before .before .before .before .before .before .before .rest-at5 .ensures) (c .before .before .before .before .before .before .before .before .before .before .before .before .whitespace02 .ensures)) (go _ (struct-field-took parse-struct-field-on (c .before .before .before .before .before .before .before .before .before .before .before .rest-at6 .ensures) (c .before .before .before .before .before .before .before .before .before .before .parse-struct-field .ensures) (c .before .before .before .before .before .before .before .before .r .given .1)) (on _ (blank-took (c .before .before .before .before .before .before .rest-at7 .ensures) (c .before .before .before .before .before .whitespace03 .ensures)) (on _ (tag-took (c .before .before .before .before .rest-at8 .ensures) (c .before .semicolon .given .1) 59 (c .before .before .before .tag .ensures)) (done _ _ _ _))))))))))) (let w = struct-field-between parse-struct-field-on (c .before .before .before .before .before .before .before .before .before .before .before .rest-at6 .ensures) (c .before .before .before .before .before .before .before .before .before .before .parse-struct-field .ensures) (c .before .before .before .before .before .before .before .before .r .given .1) in record { doc = refl; maturity = refl; between = record { flags = fits-4 (c .before .before .before .before .before .before .before .before .before .before .before .before .before .before .before .before .before .before .before .before .before .before .before .before .before .before .before .before .before .before .before .before .keywords-set .ensures); privileges = privileges-small (c .before .before .before .before .before .before .before .before .before .before .before .before .before .before .before .before .before .attribute-access .ensures) (c .before .before .before .before .before .before .before .before .before .before .before .before .before .before .before .access .given .1); field = record { between = between-wider (c .before .before .before .before .before .before .before .before .before .before .before .rest-at6 .ensures .from) (omega (arith, (blank-took (c .before .before .before .before .before .before .rest-at7 .ensures) (c .before .before .before .before .before .whitespace03 .ensures)) .up, (tag-took (c .before .before .before .before .rest-at8 .ensures) (c .before .semicolon .given .1) 59 (c .before .before .before .tag .ensures)) .up)) (w .between); few-maturities = w .few-maturities; few-flags = w .few-flags } } })
 
 pub parse-attribute-after-doc-maturity-spec : {M : Type 1} → statement M
 parse-attribute-after-doc-maturity-spec =

@@ -2,6 +2,7 @@ use borrow.Author.Needs.{needs}
 use Rattle.items.proofs.members.command_head.Statement.{statement}
 use Rattle.items.proofs.members.command_head.Tie as tie
 use Rattle.items.specs.members.{command-head}
+use Rattle.items.proofs.SetSizes.{fits-3}
 use Rattle.items.proofs.members.Laws.{command-head-is, level-or-took, level-or-lost}
 use mathlib.Core.Path.{refl}
 use native.Mathlib.Omega.{arith}
@@ -93,7 +94,7 @@ returns-3 c = read-not _ refl tt (begin (command-head) _ _ (go _ (set-took (rest
 
 returns-4 : tie.Need-returns-4
 unfolding command-head
-returns-4 c = command-head-is _ 1 _ ((level-or-took 1 (c .before .before .before .before .before .before .before .before .before .before .before .invoke-access .ensures) (c .before .before .before .before .before .before .before .before .before .before .level-or .ensures) (chain-then whitespace0-chain (chain-inside (access-to-inside (ascii "invoke")))) (omega arith) (c .before .before .before .before .before .before .before .before .before .before .before .before .rest-at3 .ensures) (c .before .before .before .before .before .before .before .before .access .given .1)) .granted) _ _ _ _ (c .before .before .before .before .before .before .before .before .before .before .before .before .before .before .before .before .before .before .before .before .before .keywords-set .ensures .small) ((level-or-took 1 (c .before .before .before .before .before .before .before .before .before .before .before .invoke-access .ensures) (c .before .before .before .before .before .before .before .before .before .before .level-or .ensures) (chain-then whitespace0-chain (chain-inside (access-to-inside (ascii "invoke")))) (omega arith) (c .before .before .before .before .before .before .before .before .before .before .before .before .rest-at3 .ensures) (c .before .before .before .before .before .before .before .before .access .given .1)) .small) (omega (arith, (blank-took (c .before .before .before .before .before .before .rest-at4 .ensures) (c .before .before .before .before .before .whitespace02 .ensures)) .up, c .before .before .before .before .before .before .rest-at4 .ensures .from)) (omega (arith, (word-took (c .before .before .before .before .rest-at5 .ensures) (c .before .id .given .1) (c .before .before .before .parse-id .ensures)) .up)) ((level-or-took 1 (c .before .before .before .before .before .before .before .before .before .before .before .invoke-access .ensures) (c .before .before .before .before .before .before .before .before .before .before .level-or .ensures) (chain-then whitespace0-chain (chain-inside (access-to-inside (ascii "invoke")))) (omega arith) (c .before .before .before .before .before .before .before .before .before .before .before .before .rest-at3 .ensures) (c .before .before .before .before .before .before .before .before .access .given .1)) .is) (begin (command-head) _ _ (go _ (set-took (rest-self _ _) (c .before .before .before .before .before .before .before .before .before .before .before .before .before .before .before .before .before .before .before .before .before .keywords-set .ensures)) (on _ (blank-took (c .before .before .before .before .before .before .before .before .before .before .before .before .before .before .before .before .before .before .before .before .rest-at .ensures) (c .before .before .before .before .before .before .before .before .before .before .before .before .before .before .before .before .before .before .before .whitespace0 .ensures)) (on _ (keyword-took (c .before .before .before .before .before .before .before .before .before .before .before .before .before .before .before .before .before .before .rest-at2 .ensures) (c .before .before .before .before .before .before .before .before .before .before .before .before .before .before .command .given .1) (ascii "command") (c .before .before .before .before .before .before .before .before .before .before .before .before .before .before .before .before .keyword .ensures)) (go _ ((level-or-took 1 (c .before .before .before .before .before .before .before .before .before .before .before .invoke-access .ensures) (c .before .before .before .before .before .before .before .before .before .before .level-or .ensures) (chain-then whitespace0-chain (chain-inside (access-to-inside (ascii "invoke")))) (omega arith) (c .before .before .before .before .before .before .before .before .before .before .before .before .rest-at3 .ensures) (c .before .before .before .before .before .before .before .before .access .given .1)) .step) (on _ (blank-took (c .before .before .before .before .before .before .rest-at4 .ensures) (c .before .before .before .before .before .whitespace02 .ensures)) (go _ (word-took (c .before .before .before .before .rest-at5 .ensures) (c .before .id .given .1) (c .before .before .before .parse-id .ensures)) (done _ _ _ _))))))))
+returns-4 c = command-head-is _ 1 _ ((level-or-took 1 (c .before .before .before .before .before .before .before .before .before .before .before .invoke-access .ensures) (c .before .before .before .before .before .before .before .before .before .before .level-or .ensures) (chain-then whitespace0-chain (chain-inside (access-to-inside (ascii "invoke")))) (omega arith) (c .before .before .before .before .before .before .before .before .before .before .before .before .rest-at3 .ensures) (c .before .before .before .before .before .before .before .before .access .given .1)) .granted) _ _ _ _ (fits-3 (c .before .before .before .before .before .before .before .before .before .before .before .before .before .before .before .before .before .before .before .before .before .keywords-set .ensures)) ((level-or-took 1 (c .before .before .before .before .before .before .before .before .before .before .before .invoke-access .ensures) (c .before .before .before .before .before .before .before .before .before .before .level-or .ensures) (chain-then whitespace0-chain (chain-inside (access-to-inside (ascii "invoke")))) (omega arith) (c .before .before .before .before .before .before .before .before .before .before .before .before .rest-at3 .ensures) (c .before .before .before .before .before .before .before .before .access .given .1)) .small) (omega (arith, (blank-took (c .before .before .before .before .before .before .rest-at4 .ensures) (c .before .before .before .before .before .whitespace02 .ensures)) .up, c .before .before .before .before .before .before .rest-at4 .ensures .from)) (omega (arith, (word-took (c .before .before .before .before .rest-at5 .ensures) (c .before .id .given .1) (c .before .before .before .parse-id .ensures)) .up)) ((level-or-took 1 (c .before .before .before .before .before .before .before .before .before .before .before .invoke-access .ensures) (c .before .before .before .before .before .before .before .before .before .before .level-or .ensures) (chain-then whitespace0-chain (chain-inside (access-to-inside (ascii "invoke")))) (omega arith) (c .before .before .before .before .before .before .before .before .before .before .before .before .rest-at3 .ensures) (c .before .before .before .before .before .before .before .before .access .given .1)) .is) (begin (command-head) _ _ (go _ (set-took (rest-self _ _) (c .before .before .before .before .before .before .before .before .before .before .before .before .before .before .before .before .before .before .before .before .before .keywords-set .ensures)) (on _ (blank-took (c .before .before .before .before .before .before .before .before .before .before .before .before .before .before .before .before .before .before .before .before .rest-at .ensures) (c .before .before .before .before .before .before .before .before .before .before .before .before .before .before .before .before .before .before .before .whitespace0 .ensures)) (on _ (keyword-took (c .before .before .before .before .before .before .before .before .before .before .before .before .before .before .before .before .before .before .rest-at2 .ensures) (c .before .before .before .before .before .before .before .before .before .before .before .before .before .before .command .given .1) (ascii "command") (c .before .before .before .before .before .before .before .before .before .before .before .before .before .before .before .before .keyword .ensures)) (go _ ((level-or-took 1 (c .before .before .before .before .before .before .before .before .before .before .before .invoke-access .ensures) (c .before .before .before .before .before .before .before .before .before .before .level-or .ensures) (chain-then whitespace0-chain (chain-inside (access-to-inside (ascii "invoke")))) (omega arith) (c .before .before .before .before .before .before .before .before .before .before .before .before .rest-at3 .ensures) (c .before .before .before .before .before .before .before .before .access .given .1)) .step) (on _ (blank-took (c .before .before .before .before .before .before .rest-at4 .ensures) (c .before .before .before .before .before .whitespace02 .ensures)) (go _ (word-took (c .before .before .before .before .rest-at5 .ensures) (c .before .id .given .1) (c .before .before .before .parse-id .ensures)) (done _ _ _ _))))))))
 
 pub command-head-spec : {M : Type 1} → statement M
 command-head-spec =

@@ -2,6 +2,7 @@ use borrow.Author.Needs.{needs}
 use Rattle.items.proofs.members.event_qualities.Statement.{statement}
 use Rattle.items.proofs.members.event_qualities.Tie as tie
 use Rattle.items.specs.members.{event-qualities}
+use Rattle.items.proofs.SetSizes.{fits-2}
 use Rattle.items.proofs.members.Laws.{level-small, event-qualities-is, level-took, level-lost, level-or-took, level-or-lost}
 use mathlib.Core.Path.{refl}
 use native.Mathlib.Omega.{arith}
@@ -127,7 +128,7 @@ returns-5 c = read-not _ refl tt (begin (event-qualities) _ _ (go _ (set-took (r
 
 returns-6 : tie.Need-returns-6
 unfolding event-qualities
-returns-6 c = event-qualities-is _ _ 0 _ ((level-or-took 0 (c .before .before .before .before .access-to .ensures) (c .before .before .before .level-or .ensures) (chain-inside (access-to-inside (ascii "read"))) (omega arith) (c .before .before .before .before .before .before .rest-at6 .ensures) (c .before .access .given .1)) .granted) _ _ _ (c .before .before .before .before .before .before .before .before .before .before .before .before .before .before .before .before .before .before .before .before .before .before .before .before .before .before .before .before .before .before .keywords-set .ensures .small) (level-small (c .before .before .before .before .before .before .before .before .before .before .before .before .before .before .before .before .before .before .before .before .before .before .before .before .before .before .event-priority .ensures) (c .before .before .before .before .before .before .before .before .before .before .before .before .before .before .before .before .before .before .before .before .before .before .before .before .priority .given .1)) ((level-or-took 0 (c .before .before .before .before .access-to .ensures) (c .before .before .before .level-or .ensures) (chain-inside (access-to-inside (ascii "read"))) (omega arith) (c .before .before .before .before .before .before .rest-at6 .ensures) (c .before .access .given .1)) .small) ((level-or-took 0 (c .before .before .before .before .access-to .ensures) (c .before .before .before .level-or .ensures) (chain-inside (access-to-inside (ascii "read"))) (omega arith) (c .before .before .before .before .before .before .rest-at6 .ensures) (c .before .access .given .1)) .is) (begin (event-qualities) _ _ (go _ (set-took (rest-self _ _) (c .before .before .before .before .before .before .before .before .before .before .before .before .before .before .before .before .before .before .before .before .before .before .before .before .before .before .before .before .before .before .keywords-set .ensures)) (on _ (blank-took (c .before .before .before .before .before .before .before .before .before .before .before .before .before .before .before .before .before .before .before .before .before .before .before .before .before .before .before .before .before .rest-at .ensures) (c .before .before .before .before .before .before .before .before .before .before .before .before .before .before .before .before .before .before .before .before .before .before .before .before .before .before .before .before .whitespace0 .ensures)) (go _ (level-took (c .before .before .before .before .before .before .before .before .before .before .before .before .before .before .before .before .before .before .before .before .before .before .before .before .before .before .event-priority .ensures) (walks (event-priority-local .on-chain)) (c .before .before .before .before .before .before .before .before .before .before .before .before .before .before .before .before .before .before .before .before .before .before .before .before .before .before .before .rest-at2 .ensures) (c .before .before .before .before .before .before .before .before .before .before .before .before .before .before .before .before .before .before .before .before .before .before .before .before .priority .given .1)) (on _ (gap-took (c .before .before .before .before .before .before .before .before .before .before .before .before .before .before .before .before .before .before .before .before .before .before .rest-at3 .ensures) (c .before .before .before .before .before .before .before .before .before .before .before .before .before .before .before .before .before .before .before .gap1 .given .1) (c .before .before .before .before .before .before .before .before .before .before .before .before .before .before .before .before .before .before .before .before .before .whitespace1 .ensures)) (on _ (keyword-took (c .before .before .before .before .before .before .before .before .before .before .before .before .before .before .before .before .before .rest-at4 .ensures) (c .before .before .before .before .before .before .before .before .before .before .before .before .before .event .given .1) (ascii "event") (c .before .before .before .before .before .before .before .before .before .before .before .before .before .before .before .keyword .ensures)) (on _ (gap-took (c .before .before .before .before .before .before .before .before .before .before .before .rest-at5 .ensures) (c .before .before .before .before .before .before .before .before .gap2 .given .1) (c .before .before .before .before .before .before .before .before .before .before .whitespace12 .ensures)) (go _ ((level-or-took 0 (c .before .before .before .before .access-to .ensures) (c .before .before .before .level-or .ensures) (chain-inside (access-to-inside (ascii "read"))) (omega arith) (c .before .before .before .before .before .before .rest-at6 .ensures) (c .before .access .given .1)) .step) (done _ _ _ _)))))))))
+returns-6 c = event-qualities-is _ _ 0 _ ((level-or-took 0 (c .before .before .before .before .access-to .ensures) (c .before .before .before .level-or .ensures) (chain-inside (access-to-inside (ascii "read"))) (omega arith) (c .before .before .before .before .before .before .rest-at6 .ensures) (c .before .access .given .1)) .granted) _ _ _ (fits-2 (c .before .before .before .before .before .before .before .before .before .before .before .before .before .before .before .before .before .before .before .before .before .before .before .before .before .before .before .before .before .before .keywords-set .ensures)) (level-small (c .before .before .before .before .before .before .before .before .before .before .before .before .before .before .before .before .before .before .before .before .before .before .before .before .before .before .event-priority .ensures) (c .before .before .before .before .before .before .before .before .before .before .before .before .before .before .before .before .before .before .before .before .before .before .before .before .priority .given .1)) ((level-or-took 0 (c .before .before .before .before .access-to .ensures) (c .before .before .before .level-or .ensures) (chain-inside (access-to-inside (ascii "read"))) (omega arith) (c .before .before .before .before .before .before .rest-at6 .ensures) (c .before .access .given .1)) .small) ((level-or-took 0 (c .before .before .before .before .access-to .ensures) (c .before .before .before .level-or .ensures) (chain-inside (access-to-inside (ascii "read"))) (omega arith) (c .before .before .before .before .before .before .rest-at6 .ensures) (c .before .access .given .1)) .is) (begin (event-qualities) _ _ (go _ (set-took (rest-self _ _) (c .before .before .before .before .before .before .before .before .before .before .before .before .before .before .before .before .before .before .before .before .before .before .before .before .before .before .before .before .before .before .keywords-set .ensures)) (on _ (blank-took (c .before .before .before .before .before .before .before .before .before .before .before .before .before .before .before .before .before .before .before .before .before .before .before .before .before .before .before .before .before .rest-at .ensures) (c .before .before .before .before .before .before .before .before .before .before .before .before .before .before .before .before .before .before .before .before .before .before .before .before .before .before .before .before .whitespace0 .ensures)) (go _ (level-took (c .before .before .before .before .before .before .before .before .before .before .before .before .before .before .before .before .before .before .before .before .before .before .before .before .before .before .event-priority .ensures) (walks (event-priority-local .on-chain)) (c .before .before .before .before .before .before .before .before .before .before .before .before .before .before .before .before .before .before .before .before .before .before .before .before .before .before .before .rest-at2 .ensures) (c .before .before .before .before .before .before .before .before .before .before .before .before .before .before .before .before .before .before .before .before .before .before .before .before .priority .given .1)) (on _ (gap-took (c .before .before .before .before .before .before .before .before .before .before .before .before .before .before .before .before .before .before .before .before .before .before .rest-at3 .ensures) (c .before .before .before .before .before .before .before .before .before .before .before .before .before .before .before .before .before .before .before .gap1 .given .1) (c .before .before .before .before .before .before .before .before .before .before .before .before .before .before .before .before .before .before .before .before .before .whitespace1 .ensures)) (on _ (keyword-took (c .before .before .before .before .before .before .before .before .before .before .before .before .before .before .before .before .before .rest-at4 .ensures) (c .before .before .before .before .before .before .before .before .before .before .before .before .before .event .given .1) (ascii "event") (c .before .before .before .before .before .before .before .before .before .before .before .before .before .before .before .keyword .ensures)) (on _ (gap-took (c .before .before .before .before .before .before .before .before .before .before .before .rest-at5 .ensures) (c .before .before .before .before .before .before .before .before .gap2 .given .1) (c .before .before .before .before .before .before .before .before .before .before .whitespace12 .ensures)) (go _ ((level-or-took 0 (c .before .before .before .before .access-to .ensures) (c .before .before .before .level-or .ensures) (chain-inside (access-to-inside (ascii "read"))) (omega arith) (c .before .before .before .before .before .before .rest-at6 .ensures) (c .before .access .given .1)) .step) (done _ _ _ _)))))))))
 
 pub event-qualities-spec : {M : Type 1} → statement M
 event-qualities-spec =

@@ -124,7 +124,7 @@ returns-5 c = read-not _ refl tt (begin (parse-command-after-doc-maturity (docOf
 
 returns-6 : tie.Need-returns-6
 unfolding parse-command-after-doc-maturity
-returns-6 c = command-is _ (c .before .before .before .before .before .before .before .before .before .before .before .before .before .before .before .before .before .before .before .before .before .before .before .before .before .before .before .before .before .before .before .args .doc) _ _ _ _ _ _ _ _ _ (command-head-within (c .before .before .before .before .before .before .before .before .before .before .before .before .before .before .before .before .before .before .before .before .before .before .before .before .before .before .before .before .before .command-head .ensures) (c .before .before .before .before .before .before .before .before .before .before .before .before .before .before .before .before .before .before .before .before .before .before .before .before .before .before .before .head .given .1)) (command-types-within (c .before .before .before .before .before .before .before .before .before .before .before .before .before .before .before .before .before .before .before .before .before .before .before .before .command-types .ensures) (c .before .before .before .before .before .before .before .before .before .before .before .before .before .before .before .before .before .before .before .before .before .before .types .given .1)) (omega (arith, (blank-took (c .before .before .before .before .before .before .before .before .before .before .before .before .before .before .before .before .before .before .before .before .rest-at2 .ensures) (c .before .before .before .before .before .before .before .before .before .before .before .before .before .before .before .before .before .before .before .whitespace0 .ensures)) .up, (tag-took (c .before .before .before .before .before .before .before .before .before .before .before .before .before .before .before .before .before .before .rest-at3 .ensures) (c .before .before .before .before .before .before .before .before .before .before .before .before .before .before .before .equals .given .1) 61 (c .before .before .before .before .before .before .before .before .before .before .before .before .before .before .before .before .before .tag .ensures)) .up, (blank-took (c .before .before .before .before .before .before .before .before .before .before .before .before .before .rest-at4 .ensures) (c .before .before .before .before .before .before .before .before .before .before .before .before .whitespace02 .ensures)) .up, (integer-took (c .before .before .before .before .before .before .before .before .before .before .before .rest-at5 .ensures) (c .before .before .before .before .before .before .before .before .number .given .1) (c .before .before .before .before .before .before .before .before .before .before .positive-integer .ensures)) .up, (blank-took (c .before .before .before .before .before .before .rest-at6 .ensures) (c .before .before .before .before .before .whitespace03 .ensures)) .up, (tag-took (c .before .before .before .before .rest-at7 .ensures) (c .before .semicolon .given .1) 59 (c .before .before .before .tag2 .ensures)) .up)) (begin (parse-command-after-doc-maturity (docOf (c .before .before .before .before .before .before .before .before .before .before .before .before .before .before .before .before .before .before .before .before .before .before .before .before .before .before .before .before .before .before .before .args .doc)) (c .before .before .before .before .before .before .before .before .before .before .before .before .before .before .before .before .before .before .before .before .before .before .before .before .before .before .before .before .before .before .before .args .maturity)) _ _ (go _ (read-took (c .before .before .before .before .before .before .before .before .before .before .before .before .before .before .before .before .before .before .before .before .before .before .before .before .before .before .before .before .before .command-head .ensures) (c .before .before .before .before .before .before .before .before .before .before .before .before .before .before .before .before .before .before .before .before .before .before .before .before .before .before .before .head .given .1) (walks (chain-inside command-head-inside)) (rest-self _ _) refl) (go _ (command-types-took (c .before .before .before .before .before .before .before .before .before .before .before .before .before .before .before .before .before .before .before .before .before .before .before .before .command-types .ensures) (c .before .before .before .before .before .before .before .before .before .before .before .before .before .before .before .before .before .before .before .before .before .before .types .given .1) (c .before .before .before .before .before .before .before .before .before .before .before .before .before .before .before .before .before .before .before .before .before .before .before .before .before .rest-at .ensures)) (on _ (blank-took (c .before .before .before .before .before .before .before .before .before .before .before .before .before .before .before .before .before .before .before .before .rest-at2 .ensures) (c .before .before .before .before .before .before .before .before .before .before .before .before .before .before .before .before .before .before .before .whitespace0 .ensures)) (on _ (tag-took (c .before .before .before .before .before .before .before .before .before .before .before .before .before .before .before .before .before .before .rest-at3 .ensures) (c .before .before .before .before .before .before .before .before .before .before .before .before .before .before .before .equals .given .1) 61 (c .before .before .before .before .before .before .before .before .before .before .before .before .before .before .before .before .before .tag .ensures)) (on _ (blank-took (c .before .before .before .before .before .before .before .before .before .before .before .before .before .rest-at4 .ensures) (c .before .before .before .before .before .before .before .before .before .before .before .before .whitespace02 .ensures)) (go _ (integer-took (c .before .before .before .before .before .before .before .before .before .before .before .rest-at5 .ensures) (c .before .before .before .before .before .before .before .before .number .given .1) (c .before .before .before .before .before .before .before .before .before .before .positive-integer .ensures)) (on _ (blank-took (c .before .before .before .before .before .before .rest-at6 .ensures) (c .before .before .before .before .before .whitespace03 .ensures)) (on _ (tag-took (c .before .before .before .before .rest-at7 .ensures) (c .before .semicolon .given .1) 59 (c .before .before .before .tag2 .ensures)) (done _ _ _ _))))))))))
+returns-6 c = command-is (c .before .before .before .before .before .before .before .before .before .before .before .before .before .before .before .before .before .before .before .before .before .before .before .before .before .before .before .before .before .before .before .args .doc) _ _ _ _ _ _ _ _ _ (command-head-within (c .before .before .before .before .before .before .before .before .before .before .before .before .before .before .before .before .before .before .before .before .before .before .before .before .before .before .before .before .before .command-head .ensures) (c .before .before .before .before .before .before .before .before .before .before .before .before .before .before .before .before .before .before .before .before .before .before .before .before .before .before .before .head .given .1)) (command-types-within (c .before .before .before .before .before .before .before .before .before .before .before .before .before .before .before .before .before .before .before .before .before .before .before .before .command-types .ensures) (c .before .before .before .before .before .before .before .before .before .before .before .before .before .before .before .before .before .before .before .before .before .before .types .given .1)) (omega (arith, (blank-took (c .before .before .before .before .before .before .before .before .before .before .before .before .before .before .before .before .before .before .before .before .rest-at2 .ensures) (c .before .before .before .before .before .before .before .before .before .before .before .before .before .before .before .before .before .before .before .whitespace0 .ensures)) .up, (tag-took (c .before .before .before .before .before .before .before .before .before .before .before .before .before .before .before .before .before .before .rest-at3 .ensures) (c .before .before .before .before .before .before .before .before .before .before .before .before .before .before .before .equals .given .1) 61 (c .before .before .before .before .before .before .before .before .before .before .before .before .before .before .before .before .before .tag .ensures)) .up, (blank-took (c .before .before .before .before .before .before .before .before .before .before .before .before .before .rest-at4 .ensures) (c .before .before .before .before .before .before .before .before .before .before .before .before .whitespace02 .ensures)) .up, (integer-took (c .before .before .before .before .before .before .before .before .before .before .before .rest-at5 .ensures) (c .before .before .before .before .before .before .before .before .number .given .1) (c .before .before .before .before .before .before .before .before .before .before .positive-integer .ensures)) .up, (blank-took (c .before .before .before .before .before .before .rest-at6 .ensures) (c .before .before .before .before .before .whitespace03 .ensures)) .up, (tag-took (c .before .before .before .before .rest-at7 .ensures) (c .before .semicolon .given .1) 59 (c .before .before .before .tag2 .ensures)) .up)) (begin (parse-command-after-doc-maturity (docOf (c .before .before .before .before .before .before .before .before .before .before .before .before .before .before .before .before .before .before .before .before .before .before .before .before .before .before .before .before .before .before .before .args .doc)) (c .before .before .before .before .before .before .before .before .before .before .before .before .before .before .before .before .before .before .before .before .before .before .before .before .before .before .before .before .before .before .before .args .maturity)) _ _ (go _ (read-took (c .before .before .before .before .before .before .before .before .before .before .before .before .before .before .before .before .before .before .before .before .before .before .before .before .before .before .before .before .before .command-head .ensures) (c .before .before .before .before .before .before .before .before .before .before .before .before .before .before .before .before .before .before .before .before .before .before .before .before .before .before .before .head .given .1) (walks (chain-inside command-head-inside)) (rest-self _ _) refl) (go _ (command-types-took (c .before .before .before .before .before .before .before .before .before .before .before .before .before .before .before .before .before .before .before .before .before .before .before .before .command-types .ensures) (c .before .before .before .before .before .before .before .before .before .before .before .before .before .before .before .before .before .before .before .before .before .before .types .given .1) (c .before .before .before .before .before .before .before .before .before .before .before .before .before .before .before .before .before .before .before .before .before .before .before .before .before .rest-at .ensures)) (on _ (blank-took (c .before .before .before .before .before .before .before .before .before .before .before .before .before .before .before .before .before .before .before .before .rest-at2 .ensures) (c .before .before .before .before .before .before .before .before .before .before .before .before .before .before .before .before .before .before .before .whitespace0 .ensures)) (on _ (tag-took (c .before .before .before .before .before .before .before .before .before .before .before .before .before .before .before .before .before .before .rest-at3 .ensures) (c .before .before .before .before .before .before .before .before .before .before .before .before .before .before .before .equals .given .1) 61 (c .before .before .before .before .before .before .before .before .before .before .before .before .before .before .before .before .before .tag .ensures)) (on _ (blank-took (c .before .before .before .before .before .before .before .before .before .before .before .before .before .rest-at4 .ensures) (c .before .before .before .before .before .before .before .before .before .before .before .before .whitespace02 .ensures)) (go _ (integer-took (c .before .before .before .before .before .before .before .before .before .before .before .rest-at5 .ensures) (c .before .before .before .before .before .before .before .before .number .given .1) (c .before .before .before .before .before .before .before .before .before .before .positive-integer .ensures)) (on _ (blank-took (c .before .before .before .before .before .before .rest-at6 .ensures) (c .before .before .before .before .before .whitespace03 .ensures)) (on _ (tag-took (c .before .before .before .before .rest-at7 .ensures) (c .before .semicolon .given .1) 59 (c .before .before .before .tag2 .ensures)) (done _ _ _ _))))))))))
 
 pub parse-command-after-doc-maturity-spec : {M : Type 1} → statement M
 parse-command-after-doc-maturity-spec =
