@@ -1,11 +1,11 @@
 -- Laws of names behind keywords, device types, defaults and instances of attributes.
 use mathlib.Core.Path.{_≡_, refl, sym, ap, _∙_, subst}
 use mathlib.Core.List.{List, [], _∷_, map}
-use mathlib.Core.Bool.{Bool}
-use mathlib.Core.Option.{Option}
-use Prim.Native.Nat.{ℕ, suc, _+_, _-_, _≤_, _<_, max}
+use mathlib.Core.Bool.{Bool, true, false}
+use mathlib.Core.Option.{Option, none, some}
+use Prim.Native.Nat.{ℕ, zero, suc, _+_, _-_, _*_, _≤_, _<_, max}
 use native.Mathlib.Omega.{arith}
-use lib.ListN.{drop, take}
+use lib.ListN.{length, drop, take}
 use Rattle.lexing.specs.reply.{Reply, ok, fail, stop, Parser, ret, _>>=_, _>>_, _or_, further, opt}
 use Rattle.lexing.specs.words.{Word, word}
 use Rattle.lexing.specs.integers.{signed, positive-integer, signed-integer}
@@ -25,14 +25,19 @@ use Rattle.lexing.proofs.Locality.{Consumes, chain-opt, chain-then, consumes-th
 use Rattle.lexing.proofs.TokenLocality.{whitespace0-chain, whitespace1-chain}
 use Rattle.lexing.proofs.Slicing.{Took, took, walks, rebase, begin, on, told-next, step-lost, integer-lost, or-next}
 use Rattle.items.specs.clusters.{mapped}
-use Rattle.items.specs.endpoints.{name-behind, device-version, Default as DefaultOf, number, signed-number, text, value-tries, default-attribute-value, attribute-handling-type, AttributeInstance as AttributeInstanceOf, attribute-instantiation, named-after, attribute-instance, command-instance, event-instance, instance-tries, deep-run, deep-braces, DeviceType as DeviceTypeOf, device-type, device, binding, instantiation, instantiation-head, cluster-instantiation, part-tries, endpoint-head, endpoint}
-use Rattle.items.specs.records.{absent, value, word-extent, plain, each, instance-record, part-records, endpoint-records}
-use Rattle.items.specs.inner.endpoints.{blank-binding}
-use Rattle.items.specs.layout.{layout-20, record-words, catalogue-words, word-count}
+use Rattle.items.specs.endpoints.{name-behind, device-version, Default as DefaultOf, number, signed-number, truth, text, value-tries, default-attribute-value, attribute-handling-type, AttributeInstance as AttributeInstanceOf, attribute-instantiation, named-after, attribute-instance, command-instance, event-instance, instance-tries, deep-run, deep-braces, DeviceType as DeviceTypeOf, device-type, device, binding, instantiation, instantiation-head, cluster-instantiation, part-tries, endpoint-head, endpoint}
+use Rattle.items.specs.records.{Bits, absent, at, bits, value, word-extent, plain, each, twos-complement, default-number, default-word, instance-record, part-records, endpoint-records}
+use Rattle.items.specs.inner.endpoints.{blank-binding, plainWord, name-parts, device-parts, instance-parts, endpoint-first}
+use Rattle.items.specs.layout.{packed, width, from-top, offset, size, layout-20, further-word, record-words, big-endian, catalogue-words, catalogue-bytes, word-count, text-limit}
+use Rattle.items.specs.buffers.{put}
 use Rattle.items.specs.answers.{NameIn, wordBetween}
-use Rattle.items.specs.answers.endpoints.{NamedTo, valueOf, valueLost, valueAnswer, ValueIn, ValueTo, DefaultIn, optionalValue, OptionalTo}
+use Rattle.items.specs.answers.endpoints.{NamedTo, valueOf, valueLost, valueAnswer, ValueIn, ValueTo, SpanIn, DefaultIn, optionalValue, defaultOf, OptionalTo}
+use Rattle.items.specs.declared.endpoints.DeviceTypeParts.{DeviceTypeParts}
+use Rattle.items.specs.declared.endpoints.AttributeInstanceParts.{AttributeInstanceParts}
 use Rattle.items.specs.declared.endpoints.Named.{Named}
 use Rattle.items.specs.declared.endpoints.Named.the-variants.{Name}
+use Rattle.items.specs.declared.endpoints.SpanParts.{SpanParts}
+use Rattle.items.specs.declared.endpoints.DefaultValue.{DefaultValue}
 use Rattle.items.specs.declared.endpoints.DefaultValue.the-variants.{Number as Num, Signed as SignedValue, Truth, Text}
 use Rattle.items.specs.declared.endpoints.ValueRead.{ValueRead}
 use Rattle.items.specs.declared.endpoints.ValueRead.the-variants.{Read, NoValue}
@@ -45,6 +50,7 @@ use Rattle.items.proofs.Answers.{read-within, read-took, last-lost}
 use Rattle.items.proofs.WordBetween.{word-moved}
 use Rattle.items.proofs.optional.Laws.{opt-ok, opt-fail, opt-stop}
 use Rattle.items.proofs.Headed.{Headed}
+use Rattle.items.proofs.writing.Laws.{put-one, put-two, put-next, plain-bytes}
 use Rattle.items.proofs.endpoints.Places.{integer-place, signed-place, StringPlace, string-place}
 
 pub name-behind-on : (k j : List ℕ) → Onward (name-behind k j)
@@ -275,3 +281,58 @@ endpoint-headed = record {
   hands = λ i n l. refl;
   size = λ i n l. refl;
 }
+
+-- The second pass: the words of each record.
+pub named-put : (k p o e w : ℕ) (l l₁ : List ℕ) → w ≡ plainWord k 0 o e → l₁ ≡ put p (big-endian 8 w) l → l₁ ≡ put p (catalogue-bytes layout-20 (name-parts k o e ∷ [])) l
+unfolding from-top packed width offset size
+named-put k p o e w l l₁ d e₁ = rw (plain-bytes k 0 [] (at o (e - o)) [] 0 refl, ← d) (put-one p w l l₁ e₁)
+
+pub device-put : (t : DeviceTypeParts) (p w : ℕ) (l l₁ l₂ l₃ : List ℕ) → p + 24 ≤ length l → w ≡ plainWord 11 0 (t .name) (t .end)
+    → l₁ ≡ put p (big-endian 8 w) l → l₂ ≡ put (p + 8) (big-endian 8 (t .code)) l₁ → l₃ ≡ put (p + 16) (big-endian 8 (t .version)) l₂ → l₃ ≡ put p (catalogue-bytes layout-20 (device-parts t ∷ [])) l
+unfolding from-top packed width offset size further-word
+device-put t p w l l₁ l₂ l₃ h d e₁ e₂ e₃ =
+    rw (plain-bytes 11 0 [] (at (t .name) (t .end - t .name)) (value (t .code) ∷ value (t .version) ∷ []) 0 refl)
+    (put-next p (p + 16) (plainWord 11 0 (t .name) (t .end) ∷ t .code ∷ []) l l₂ l₃ (omega arith) (omega arith) (put-two p l l₁ l₂ (omega arith) d e₁ refl e₂) refl e₃)
+
+pub instance-put : (a : AttributeInstanceParts) (p g n w v : ℕ) (l l₁ l₂ : List ℕ) → p + 16 ≤ length l → n ≡ default-number (defaultOf (a .default)) → g ≡ a .handling * 32 + n * 4
+    → w ≡ plainWord 14 g (a .name) (a .end) → l₁ ≡ put p (big-endian 8 w) l → v ≡ further-word layout-20 (default-word (defaultOf (a .default))) → l₂ ≡ put (p + 8) (big-endian 8 v) l₁
+    → l₂ ≡ put p (catalogue-bytes layout-20 (instance-parts a ∷ [])) l
+unfolding from-top packed width offset size
+instance-put a p g n w v l l₁ l₂ h en eg d e₁ f e₂ =
+    let fl : List Bits = bits 2 (a .handling) ∷ bits 3 (default-number (defaultOf (a .default))) ∷ [] in
+    let z : g ≡ from-top 7 fl = omega (arith, en, eg) in
+    rw (plain-bytes 14 0 fl (at (a .name) (a .end - a .name)) (default-word (defaultOf (a .default)) ∷ []) g z) (put-two p l l₁ l₂ h d e₁ f e₂)
+
+pub endpoint-put : (p n w : ℕ) (l l₁ l₂ : List ℕ) → p + 16 ≤ length l → w ≡ plainWord 10 0 0 0 → l₁ ≡ put p (big-endian 8 w) l → l₂ ≡ put (p + 8) (big-endian 8 n) l₁ → l₂ ≡ put p (catalogue-bytes layout-20 (endpoint-first n ∷ [])) l
+unfolding from-top packed width offset size further-word
+endpoint-put p n w l l₁ l₂ h d e₁ e₂ = rw (plain-bytes 10 0 [] absent (value n ∷ []) 0 refl) (put-two p l l₁ l₂ h d e₁ refl e₂)
+
+pub number-small : (d : Option DefaultOf) → default-number d < 5
+unfolding default-number
+number-small none = omega arith
+number-small (some (number n)) = omega arith
+number-small (some (signed-number z)) = omega arith
+number-small (some (truth t)) = omega arith
+number-small (some (text s)) = omega arith
+
+-- two's complement
+pub complement-zero : (m : Bool) → twos-complement (signed m 0) ≡ 0
+unfolding twos-complement
+complement-zero true = refl
+complement-zero false = refl
+
+pub complement-negative : (v : ℕ) → 0 < v → twos-complement (signed true v) ≡ 18446744073709551615 - (v - 1)
+unfolding twos-complement
+complement-negative zero h = absurd (omega arith)
+complement-negative (suc v) h = omega arith
+
+pub complement-positive : (v : ℕ) → twos-complement (signed false v) ≡ v
+unfolding twos-complement
+complement-positive v = refl
+
+-- what a default's span fits
+pub span-fits : (v : DefaultValue) {s : SpanParts} → v ≡ Text s → SpanIn v text-limit → (s .start ≤ text-limit) × (s .length ≤ text-limit)
+span-fits v {s} e h = let k : s .start + s .length < text-limit = subst (λ (x : DefaultValue). SpanIn x text-limit) e h in (omega (arith, k), omega (arith, k))
+
+pub default-fits : (d : Default) {v : DefaultValue} → d ≡ Present v → DefaultIn d text-limit → SpanIn v text-limit
+default-fits d e h = subst (λ (x : Default). DefaultIn x text-limit) e h
