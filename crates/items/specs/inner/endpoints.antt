@@ -1,13 +1,14 @@
 -- What the private functions of the readers of endpoints promise.
 use Prim.Native.Nat.{ℕ, _-_, max}
-use mathlib.Core.List.{[], _∷_}
+use mathlib.Core.List.{List, [], _∷_}
 use Rattle.lexing.specs.bytes.{ascii, byte}
-use Rattle.lexing.specs.reply.{Parser, _>>_, catch, failAt}
+use Rattle.lexing.specs.reply.{Parser, ret, _>>=_, _>>_, catch, failAt}
 use Rattle.lexing.specs.words.{Word, tag}
 use Rattle.lexing.specs.blanks.{whitespace0}
 use Rattle.lexing.specs.declared.answers.Lost.{Lost}
 use Rattle.lexing.specs.declared.answers.Lost.the-variants.{Fail, Stop}
-use Rattle.items.specs.endpoints.{named-after}
+use Rattle.items.specs.clusters.{mapped}
+use Rattle.items.specs.endpoints.{Tried as TriedOf, Deep, deep-run, named-after}
 use Rattle.items.specs.records.{Record, absent, at, bits, value, plain, default-number, default-word}
 use Rattle.items.specs.answers.{first-of}
 use Rattle.items.specs.answers.endpoints.{defaultOf}
@@ -29,6 +30,16 @@ triedEnd (Stop i p) n c = NotFound (Stop i p)
 -- the closing brace behind tries whose furthest place is q
 unfoldable pub deep-close : ℕ → Parser (Unit {0})
 deep-close q = catch (whitespace0 >> tag (byte "}")) (λ p. failAt (max p q))
+
+-- tries behind their opening brace, with the closing one: what was read, and its list
+abbrev pub deep-tail : {A : Type 0} → (ℕ → Parser (TriedOf A)) → Parser (Deep A)
+deep-tail f = do
+  s ← deep-run f
+  deep-close (s .deepest)
+  ret s
+
+unfoldable pub deep-rest : {A : Type 0} → (ℕ → Parser (TriedOf A)) → Parser (List A)
+deep-rest f = mapped (deep-tail f) (λ s. s .read)
 
 -- a binding as a try: blanks may stand before it
 unfoldable pub blank-binding : Parser Word
