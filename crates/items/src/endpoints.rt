@@ -11,11 +11,12 @@ ghost use Rattle.items.specs.buffers.{put};
 ghost use Rattle.items.specs.records.{each, twos-complement, default-number, default-word, instance-record, part-records, endpoint-records};
 ghost use Rattle.items.specs.endpoints.{name-behind, named-after, device-version, value-tries, default-attribute-value, deep-run, deep-braces, instance-tries, instantiation, instantiation-head, cluster-instantiation, part-tries, endpoint-head, endpoint};
 ghost use Rattle.items.specs.answers.{NameIn, CountTo};
-ghost use Rattle.items.specs.answers.endpoints.{NamedTo, namedLost, DeviceTypeTo, deviceTypeLost, HandlingTo, handlingLost, ValueTo, valueLost, valueOf, SpanIn, optionalValue, DefaultTo, DefaultIn, defaultOf, defaultLost, InstanceIn, AttributeInstanceTo, attributeInstanceLost, triedLost, TriedTo, DeepTo};
+ghost use Rattle.items.specs.answers.endpoints.{NamedTo, namedLost, DeviceTypeTo, deviceTypeLost, HandlingTo, handlingLost, ValueTo, valueLost, valueOf, SpanIn, optionalValue, DefaultTo, DefaultIn, defaultOf, defaultLost, InstanceIn, AttributeInstanceTo, attributeInstanceLost, triedLost, TriedTo, DeepTo, TryRoom, TryWritten};
 ghost use Rattle.items.specs.inner.endpoints.{furtherLost, triedEnd, deep-close, blank-binding, plainWord, name-parts, device-parts, instance-parts, endpoint-first};
 use crate::counts::Count;
 use crate::counts::count_lost;
 use crate::writing::First;
+use crate::writing::Wrote;
 use crate::writing::first_word;
 use crate::writing::flag;
 use crate::writing::put_word;
@@ -815,4 +816,37 @@ fn put_endpoint(out: &mut [u8], at: usize, id: u64)
 {
     put_word(out, at, plain_word(10, 0, 0, 0));
     put_word(out, at + 8, id);
+}
+
+// The second pass over an instance.
+fn write_instance(part: &[u8], base: usize, out: &mut [u8], at: usize) -> Wrote
+    requires { ⌜ base + length (now part) ≤ text-limit ⌝ }
+    requires { ⌜ TryRoom (λ i. instance-record i ∷ []) instance-tries base (now part) at (length (now out)) ⌝ }
+    ensures { λ r. ⌜ TryWritten (λ i. instance-record i ∷ []) instance-tries base (now (part .entry)) at r (now (out .entry)) (now (out .exit)) ⌝ }
+{
+    let attribute = attribute_instantiation(part, base);
+    if let AttributeInstanceRead::AttributeInstance(a, c) = attribute {
+        put_attribute_instance(out, at, a);
+        return Wrote {
+            next: c,
+            to: at + 16,
+        };
+    }
+    let command = named_after(part, base, b"handle", b"command");
+    if let Named::Name(name, end, c) = command {
+        put_named(out, at, 15, name, end);
+        return Wrote {
+            next: c,
+            to: at + 8,
+        };
+    }
+    let event = named_after(part, base, b"emits", b"event");
+    let Named::Name(name, end, c) = event else {
+        return Wrote { next: base, to: at };
+    };
+    put_named(out, at, 16, name, end);
+    Wrote {
+        next: c,
+        to: at + 8,
+    }
 }

@@ -6,10 +6,11 @@ use mathlib.Core.Option.{Option, none, some}
 use Prim.Native.Nat.{ℕ, zero, suc, _+_, _-_, _*_, _≤_, _<_, max}
 use native.Mathlib.Omega.{arith}
 use lib.ListN.{length, drop, take}
-use Rattle.lexing.specs.reply.{Reply, ok, fail, stop, Parser, ret, _>>=_, _>>_, _or_, further, opt}
-use Rattle.lexing.specs.words.{Word, word}
+use Rattle.lexing.specs.reply.{Reply, ok, fail, stop, Parser, ret, _>>=_, _>>_, _or_, further, opt, keep}
+use Rattle.lexing.specs.bytes.{isLetter, isSpace, within}
+use Rattle.lexing.specs.words.{Word, word, keyword}
 use Rattle.lexing.specs.integers.{signed, positive-integer, signed-integer}
-use Rattle.lexing.specs.blanks.{Doc, whitespace1}
+use Rattle.lexing.specs.blanks.{Doc, no-doc, one-blank, whitespace0, whitespace1}
 use Rattle.lexing.specs.strings.{Span, span, default-escape, default-string}
 use Rattle.lexing.specs.answers.{Answer, got, lost, reply, lostReply, Rest, lostOf, numberLost, numberReply, signedReply, spanTo, stringReply}
 use Rattle.lexing.specs.declared.answers.Lost.{Lost}
@@ -22,7 +23,9 @@ use Rattle.lexing.specs.declared.integers.SignedNumber.{SignedNumber}
 use Rattle.lexing.specs.declared.integers.SignedNumber.the-variants.{Sized, NoSigned}
 use Rattle.lexing.proofs.Onward.{Onward}
 use Rattle.lexing.proofs.Locality.{Consumes, chain-opt, chain-then, consumes-then-right}
-use Rattle.lexing.proofs.TokenLocality.{whitespace0-chain, whitespace1-chain}
+use Rattle.lexing.proofs.TokenLocality.{whitespace0-chain, whitespace1-chain, no-group, one-blank-consumes}
+use Rattle.lexing.proofs.Repetition.{iter-fail}
+use Rattle.lexing.proofs.words.Laws.{keyword-no-word}
 use Rattle.lexing.proofs.Slicing.{Took, took, walks, rebase, begin, on, told-next, step-lost, integer-lost, or-next}
 use Rattle.items.specs.clusters.{mapped}
 use Rattle.items.specs.endpoints.{name-behind, device-version, Default as DefaultOf, number, signed-number, truth, text, value-tries, default-attribute-value, attribute-handling-type, AttributeInstance as AttributeInstanceOf, attribute-instantiation, named-after, attribute-instance, command-instance, event-instance, instance-tries, deep-run, deep-braces, DeviceType as DeviceTypeOf, device-type, device, binding, instantiation, instantiation-head, cluster-instantiation, part-tries, endpoint-head, endpoint}
@@ -31,7 +34,7 @@ use Rattle.items.specs.inner.endpoints.{blank-binding, plainWord, name-p
 use Rattle.items.specs.layout.{packed, width, from-top, offset, size, layout-20, further-word, record-words, big-endian, catalogue-words, catalogue-bytes, word-count, text-limit}
 use Rattle.items.specs.buffers.{put}
 use Rattle.items.specs.answers.{NameIn, wordBetween}
-use Rattle.items.specs.answers.endpoints.{NamedTo, valueOf, valueLost, valueAnswer, ValueIn, ValueTo, SpanIn, DefaultIn, optionalValue, defaultOf, OptionalTo}
+use Rattle.items.specs.answers.endpoints.{NamedTo, deviceTypeAt, InstanceIn, attributeInstanceAt, valueOf, valueLost, valueAnswer, ValueIn, ValueTo, SpanIn, DefaultIn, optionalValue, defaultOf, OptionalTo}
 use Rattle.items.specs.declared.endpoints.DeviceTypeParts.{DeviceTypeParts}
 use Rattle.items.specs.declared.endpoints.AttributeInstanceParts.{AttributeInstanceParts}
 use Rattle.items.specs.declared.endpoints.Named.{Named}
@@ -47,10 +50,12 @@ use Rattle.items.specs.declared.endpoints.DefaultRead.{DefaultRead}
 use Rattle.items.proofs.Locality.{name-behind-local, device-version-local, value-tries-local, default-attribute-value-local, attribute-handling-type-local, attribute-instantiation-inside, named-after-local, named-after-consumes, instance-tries-inside, instance-tries-consumes, deep-run-inside, instances-local, instantiation-head-local, device-type-inside, cluster-instantiation-inside, part-tries-inside, part-tries-consumes, parts-local, endpoint-head-local}
 use Rattle.items.proofs.Mapped.{mapped-ok, mapped-not}
 use Rattle.items.proofs.Answers.{read-within, read-took, last-lost}
-use Rattle.items.proofs.WordBetween.{word-moved}
+use Rattle.items.proofs.WordBetween.{word-moved, extent-between}
 use Rattle.items.proofs.optional.Laws.{opt-ok, opt-fail, opt-stop}
 use Rattle.items.proofs.Headed.{Headed}
 use Rattle.items.proofs.writing.Laws.{put-one, put-two, put-next, plain-bytes}
+use Rattle.items.proofs.Tries.{bind-fail, then-fail, then-ok, or-both, mapped-fail}
+use Rattle.items.proofs.endpoints.Placed.{Unclosing, none-found}
 use Rattle.items.proofs.endpoints.Places.{integer-place, signed-place, StringPlace, string-place}
 
 pub name-behind-on : (k j : List ℕ) → Onward (name-behind k j)
@@ -336,3 +341,48 @@ span-fits v {s} e h = let k : s .start + s .length < text-limit = subst (λ (x :
 
 pub default-fits : (d : Default) {v : DefaultValue} → d ≡ Present v → DefaultIn d text-limit → SpanIn v text-limit
 default-fits d e h = subst (λ (x : Default). DefaultIn x text-limit) e h
+
+-- records by offsets are those of what was read
+module _ (b : ℕ) (u : List ℕ) where
+  pub name-parts-is : (k : ℕ) {o e c : ℕ} → NameIn b o e c → c ≤ b + length u → name-parts k o e ≡ plain k 0 [] (word-extent (wordBetween b u o e)) []
+  name-parts-is k {o} {e} h i = rw (extent-between b u o e (h .from) (h .up) (omega (arith, h .inside, i)))
+
+  pub device-parts-is : (t : DeviceTypeParts) {c : ℕ} → NameIn b (t .name) (t .end) c → c ≤ b + length u → device-parts t ∷ [] ≡ part-records (device (deviceTypeAt b u t))
+  unfolding part-records
+  device-parts-is t h i = rw (extent-between b u (t .name) (t .end) (h .from) (h .up) (omega (arith, h .inside, i)))
+
+  pub instance-parts-is : (a : AttributeInstanceParts) {c : ℕ} → InstanceIn b a c → c ≤ b + length u → instance-parts a ≡ instance-record (attribute-instance (attributeInstanceAt b u a))
+  unfolding instance-record
+  instance-parts-is a h i = rw (extent-between b u (a .name) (a .end) (h .named .from) (h .named .up) (omega (arith, h .named .inside, i)))
+
+pub name-in-limit : {b o e c : ℕ} → NameIn b o e c → c ≤ text-limit → NameIn 0 o e text-limit
+name-in-limit h i = record { from = omega arith; up = h .up; inside = omega (arith, h .inside, i) }
+
+pub instance-in-limit : {b : ℕ} (a : AttributeInstanceParts) {c : ℕ} → InstanceIn b a c → c ≤ text-limit → InstanceIn 0 a text-limit
+instance-in-limit a h i = record { small = h .small; named = name-in-limit (h .named) i; spanned = default-within (a .default) _ text-limit (h .spanned) i }
+
+-- where a closing brace stands no word and no blank does, and every try fails
+module _ (b : ℕ) (u : List ℕ) where
+  brace-keyword : (k : List ℕ) → keyword k b (125 ∷ u) ≡ fail b
+  unfolding isLetter within
+  brace-keyword k = sym (keyword-no-word k b (125 ∷ u) refl)
+
+  brace-name : (k j : List ℕ) → name-behind k j b (125 ∷ u) ≡ fail b
+  unfolding name-behind
+  brace-name k j = then-fail _ _ (brace-keyword k)
+
+  brace-named : (k j : List ℕ) → named-after k j b (125 ∷ u) ≡ fail b
+  unfolding named-after
+  brace-named k j = bind-fail _ _ (brace-name k j)
+
+  brace-blank : whitespace0 b (125 ∷ u) ≡ ok no-doc b (125 ∷ u)
+  unfolding whitespace0 one-blank keep isSpace within
+  brace-blank = iter-fail one-blank keep one-blank-consumes no-doc b (125 ∷ u) b (bind-fail _ _ (no-group b 125 u refl))
+
+  brace-attribute : attribute-instantiation b (125 ∷ u) ≡ fail b
+  unfolding attribute-instantiation attribute-handling-type
+  brace-attribute = bind-fail _ _ (or-both _ _ (then-fail _ _ (brace-keyword _)) (or-both _ _ (then-fail _ _ (brace-keyword _)) (then-fail _ _ (brace-keyword _))))
+
+pub instances-unclosing : Unclosing instance-tries
+unfolding instance-tries
+instances-unclosing q b u = none-found _ _ _ (sym (mapped-fail _ attribute-instance (brace-attribute b u))) (sym (mapped-fail _ command-instance (brace-named b u _ _))) (sym (mapped-fail _ event-instance (brace-named b u _ _))) q

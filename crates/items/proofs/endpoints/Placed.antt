@@ -33,7 +33,7 @@ use Rattle.items.proofs.Locality.{deep-step-consumes, deep-run-inside}
 use Rattle.items.proofs.RecordWords.{Elementwise, word-count-none, word-count-more, word-count-grows, catalogue-bytes-none, catalogue-bytes-length, catalogue-bytes-more}
 use Rattle.items.proofs.Braces.{Step, rest-is, taken, then-value, follows, close-took, close-caught}
 use Rattle.items.proofs.endpoints.Deep.{intercept-found, intercept-last, next-at, stop-at, deep-close-on}
-use Rattle.items.proofs.writing.Laws.{put-length, put-nothing, put-on, no-room}
+use Rattle.items.proofs.writing.Laws.{put-length, put-nothing, put-on, no-room, written-same}
 
 -- an accepted reply is none that is lost
 lost-not : {A : Type 0} {a : A} {c : ℕ} {r : List ℕ} {m : Reply A} → ok a c r ≡ m → (l : Lost) → lostReply l ≡ m → ⊥
@@ -154,17 +154,18 @@ module _ {A : Type 0} {records : List A → List Record} {one : A → List Recor
       run-ends : (p : ℕ) → fail p ≡ f (i .far) c₁ r → ok (deeper p state) c (drop (c - b) u) ≡ iter (deep-step f) deeper (record { deepest = b; read = [] }) b u
       run-ends p e = iter-ends (deep-step-consumes t v) (i .run) p (sym (step-lost (Fail p) e))
 
-      unclosed : (l : Lost) → lostReply l ≡ tag 125 c₁ r → (m : ℕ) → (l' : Lost) × (lostReply l' ≡ deep-close m c (drop (c - b) u))
+      unclosed : (l : Lost) {r' : List ℕ} → Rest b u c₁ r' → lostReply l ≡ tag 125 c₁ r' → (m : ℕ) → (l' : Lost) × (lostReply l' ≡ deep-close m c (drop (c - b) u))
       unfolding deep-close failAt
-      unclosed (Fail p) e m = (Fail _, close-caught s _ (Fail p) q e)
-      unclosed (Stop n p) e m = (Stop n p, close-caught s _ (Stop n p) q e)
+      unclosed (Fail p) q' e m = (Fail _, close-caught s _ (Fail p) q' e)
+      unclosed (Stop n p) q' e m = (Stop n p, close-caught s _ (Stop n p) q' e)
 
       -- without the closing brace a try finds something, and there is room for it
-      pub placing-room : (l : Lost) → lostReply l ≡ tag 125 c₁ r → Room (λ x. one (x .found)) (f (i .far)) c₁ r to (length new)
-      placing-room l e = find (f (i .far) c₁ r) refl
+      pub placing-room : (l : Lost) {r' : List ℕ} → Rest b u c₁ r' → lostReply l ≡ tag 125 c₁ r' → Room (λ x. one (x .found)) (f (i .far)) c₁ r to (length new)
+      placing-room l q' e = find (f (i .far) c₁ r) refl
         where
           on-chain : Onward (f (i .far))
           on-chain = walks (t (i .far) .on-chain)
+
           find : (x : Reply (TriedOf A)) → f (i .far) c₁ r ≡ x → Room (λ x. one (x .found)) (f (i .far)) c₁ r to (length new)
           find (ok x e' r') z =
               let y = rest-is on-chain c₁ e' r r' x z in
@@ -174,7 +175,7 @@ module _ {A : Type 0} {records : List A → List Record} {one : A → List Recor
           find (fail p) z =
               let k = run-is ∙ sym (run-ends p (sym z)) in
               let n : whole .next ≡ c = cc in
-              let m = unclosed l e (whole .value .deepest) in
+              let m = unclosed l q' e (whole .value .deepest) in
               let y : lostReply (m .0) ≡ close (whole .value) c (drop (c - b) u) = fall _ _ (m .0) (rest-from b c u (i .run .from) (i .run .inside)) (m .1) in
               absurd (lost-not (whole .then) (m .0) (subst (λ (o : ℕ). lostReply (m .0) ≡ close (whole .value) o (drop (o - b) u)) (sym n) y))
           find (stop n p) z = absurd (lost-not run-is (Stop n p) (sym (iter-stop (deep-step f) deeper (deep-step-consumes t v) state c (drop (c - b) u) n p (sym (step-lost (Stop n p) (sym z)))) ∙ i .run .left))
@@ -224,6 +225,7 @@ onward-bind {A} {B} {m} {k} w v = record { onward = λ b u. go b u (m b u) refl 
     further b c u r s e (ok a c' r') p = (suf-trans (p .0) s, p .1 ∙ e)
     further b c u r s e (fail q) p = tt
     further b c u r s e (stop n q) p = tt
+
     go : (b : ℕ) (u : List ℕ) (x : Reply A) → m b u ≡ x → Ends b u x → Ends b u ((m >>= k) b u)
     go b u (ok a c r) e p = rw (e, _>>=_) (further b c u r (p .0) (p .1) (k a c r) (v a .onward c r))
     go b u (fail q) e p = rw (e, _>>=_) tt
@@ -274,7 +276,17 @@ module _ {A : Type 0} {one : A → List Record} {f : ℕ → Parser (TriedOf A)}
 abbrev pub three-tries : {A : Type 0} (m₁ m₂ m₃ : Parser A) → ℕ → Parser (TriedOf A)
 three-tries m₁ m₂ m₃ q = intercept q m₁ λ q. intercept q m₂ λ q. intercept q m₃ λ q. failAt q
 
+pub try-took : {A B : Type 0} (g : A → B) {m : Parser A} {b : ℕ} {u : List ℕ} {a : A} {c : ℕ} → Took m b u b a c → ok (g a) c (drop (c - b) u) ≡ mapped m g b u
+try-took g {m} {b} {u} {a} {c} t = mapped-ok g m b u a c (drop (c - b) u) refl (begin m b u (sym (t .goes)))
+
+pub try-same : {A : Type 0} {one : A → List Record} {f : ℕ → Parser (TriedOf A)} {b : ℕ} {u : List ℕ} {at n : ℕ} {w : Wrote} {old new : List ℕ} → TryRoom one f b u at n → TryWritten one f b u at w old new → n ≡ length old → length new ≡ length old
+try-same room h e = written-same (room .room) (h .written (room .far)) e
+
 module _ {A : Type 0} (m₁ m₂ m₃ : Parser A) {b : ℕ} {u : List ℕ} where
+  pub none-found : {p p' p'' : ℕ} → fail p ≡ m₁ b u → fail p' ≡ m₂ b u → fail p'' ≡ m₃ b u → (q : ℕ) → (p : ℕ) × (fail p ≡ three-tries m₁ m₂ m₃ q b u)
+  none-found {p} {p'} {p''} h h' h'' q =
+      (max p'' (max p' (max p q)), next-at q m₁ _ b u (Fail p) (max p q) refl h (next-at (max p q) m₂ _ b u (Fail p') (max p' (max p q)) refl h' (intercept-last (max p' (max p q)) m₃ b u (Fail p'') refl h'')))
+
   module _ {x : A} {c : ℕ} where
     pub first-found : ok x c (drop (c - b) u) ≡ m₁ b u → FoundAt (three-tries m₁ m₂ m₃) b u x c
     first-found e q = (q, intercept-found q m₁ _ b u x c (drop (c - b) u) e)
