@@ -10,9 +10,9 @@ ghost use Rattle.items.specs.layout.{text-limit, layout-20, further-word
 ghost use Rattle.items.specs.buffers.{put};
 ghost use Rattle.items.specs.records.{each, twos-complement, default-number, default-word, instance-record, part-records, endpoint-records};
 ghost use Rattle.items.specs.endpoints.{name-behind, named-after, device-version, value-tries, default-attribute-value, deep-run, deep-braces, instance-tries, instantiation, instantiation-head, cluster-instantiation, part-tries, endpoint-head, endpoint};
-ghost use Rattle.items.specs.answers.{NameIn, CountTo};
+ghost use Rattle.items.specs.answers.{NameIn, CountTo, Room, Written};
 ghost use Rattle.items.specs.answers.endpoints.{NamedTo, namedLost, DeviceTypeTo, deviceTypeLost, HandlingTo, handlingLost, ValueTo, valueLost, valueOf, SpanIn, optionalValue, DefaultTo, DefaultIn, defaultOf, defaultLost, InstanceIn, AttributeInstanceTo, attributeInstanceLost, triedLost, TriedTo, DeepTo, TryRoom, TryWritten};
-ghost use Rattle.items.specs.inner.endpoints.{furtherLost, triedEnd, deep-close, blank-binding, plainWord, name-parts, device-parts, instance-parts, endpoint-first};
+ghost use Rattle.items.specs.inner.endpoints.{furtherLost, triedEnd, deep-close, deep-rest, blank-binding, plainWord, name-parts, device-parts, instance-parts, endpoint-first};
 use crate::counts::Count;
 use crate::counts::count_lost;
 use crate::writing::First;
@@ -849,4 +849,127 @@ fn write_instance(part: &[u8], base: usize, out: &mut [u8], at: usize) -> Wrote
         next: c,
         to: at + 8,
     }
+}
+
+// The second pass over instances behind their opening brace, up to the closing one. Where no brace closes them there is one more of them.
+fn write_instances(part: &[u8], base: usize, out: &mut [u8], at: usize) -> Wrote
+    requires { ⌜ base + length (now part) ≤ text-limit ⌝ }
+    requires { ⌜ Room (map instance-record) (deep-rest instance-tries) base (now part) at (length (now out)) ⌝ }
+    ensures { λ r. ⌜ Written (map instance-record) (deep-rest instance-tries) base (now (part .entry)) at r (now (out .entry)) (now (out .exit)) ⌝ }
+{
+    let mut c = base;
+    let mut to = at;
+    loop {
+        let w = whitespace0(rest_at(part, base, c), c);
+        let start = w.next;
+        let close = tag(rest_at(part, base, start), start, b'}');
+        if let Step::Next(end) = close {
+            return Wrote { next: end, to };
+        }
+        let wrote = write_instance(rest_at(part, base, start), start, out, to);
+        c = wrote.next;
+        to = wrote.to;
+    }
+}
+
+// The second pass over instances between braces.
+fn braced_instances(part: &[u8], base: usize, out: &mut [u8], at: usize) -> Wrote
+    requires { ⌜ base + length (now part) ≤ text-limit ⌝ }
+    requires { ⌜ Room (map instance-record) (deep-braces instance-tries) base (now part) at (length (now out)) ⌝ }
+    ensures { λ r. ⌜ Written (map instance-record) (deep-braces instance-tries) base (now (part .entry)) at r (now (out .entry)) (now (out .exit)) ⌝ }
+{
+    let brace = tag(part, base, b'{');
+    let Step::Next(c) = brace else {
+        return Wrote { next: base, to: at };
+    };
+    write_instances(rest_at(part, base, c), c, out, at)
+}
+
+// The second pass over a cluster instantiation.
+fn write_cluster_instantiation(part: &[u8], base: usize, out: &mut [u8], at: usize) -> Wrote
+    requires { ⌜ base + length (now part) ≤ text-limit ⌝ }
+    requires { ⌜ Room (λ i. part-records (instantiation i)) cluster-instantiation base (now part) at (length (now out)) ⌝ }
+    ensures { λ r. ⌜ Written (λ i. part-records (instantiation i)) cluster-instantiation base (now (part .entry)) at r (now (out .entry)) (now (out .exit)) ⌝ }
+{
+    let head = instantiation_head(part, base);
+    let Named::Name(name, end, c) = head else {
+        return Wrote { next: base, to: at };
+    };
+    let wrote = braced_instances(rest_at(part, base, c), c, out, at + 8);
+    put_named(out, at, 13, name, end);
+    wrote
+}
+
+// The second pass over a part of an endpoint. A try that fails here costs no more than its first word.
+fn write_part(part: &[u8], base: usize, out: &mut [u8], at: usize) -> Wrote
+    requires { ⌜ base + length (now part) ≤ text-limit ⌝ }
+    requires { ⌜ TryRoom part-records part-tries base (now part) at (length (now out)) ⌝ }
+    ensures { λ r. ⌜ TryWritten part-records part-tries base (now (part .entry)) at r (now (out .entry)) (now (out .exit)) ⌝ }
+{
+    let device = device_type(part, base);
+    if let DeviceTypeRead::DeviceType(t, c) = device {
+        put_device_type(out, at, t);
+        return Wrote {
+            next: c,
+            to: at + 24,
+        };
+    }
+    let binding = blank_binding(part, base);
+    if let Named::Name(name, end, c) = binding {
+        put_named(out, at, 12, name, end);
+        return Wrote {
+            next: c,
+            to: at + 8,
+        };
+    }
+    write_cluster_instantiation(part, base, out, at)
+}
+
+// The second pass over parts behind their opening brace, up to the closing one. Where no brace closes them there is one more of them.
+fn write_parts(part: &[u8], base: usize, out: &mut [u8], at: usize) -> Wrote
+    requires { ⌜ base + length (now part) ≤ text-limit ⌝ }
+    requires { ⌜ Room (each part-records) (deep-rest part-tries) base (now part) at (length (now out)) ⌝ }
+    ensures { λ r. ⌜ Written (each part-records) (deep-rest part-tries) base (now (part .entry)) at r (now (out .entry)) (now (out .exit)) ⌝ }
+{
+    let mut c = base;
+    let mut to = at;
+    loop {
+        let w = whitespace0(rest_at(part, base, c), c);
+        let start = w.next;
+        let close = tag(rest_at(part, base, start), start, b'}');
+        if let Step::Next(end) = close {
+            return Wrote { next: end, to };
+        }
+        let wrote = write_part(rest_at(part, base, start), start, out, to);
+        c = wrote.next;
+        to = wrote.to;
+    }
+}
+
+// The second pass over parts between braces.
+fn braced_parts(part: &[u8], base: usize, out: &mut [u8], at: usize) -> Wrote
+    requires { ⌜ base + length (now part) ≤ text-limit ⌝ }
+    requires { ⌜ Room (each part-records) (deep-braces part-tries) base (now part) at (length (now out)) ⌝ }
+    ensures { λ r. ⌜ Written (each part-records) (deep-braces part-tries) base (now (part .entry)) at r (now (out .entry)) (now (out .exit)) ⌝ }
+{
+    let brace = tag(part, base, b'{');
+    let Step::Next(c) = brace else {
+        return Wrote { next: base, to: at };
+    };
+    write_parts(rest_at(part, base, c), c, out, at)
+}
+
+// The second pass over an endpoint.
+pub fn write_endpoint(part: &[u8], base: usize, out: &mut [u8], at: usize) -> Wrote
+    requires { ⌜ base + length (now part) ≤ text-limit ⌝ }
+    requires { ⌜ Room endpoint-records endpoint base (now part) at (length (now out)) ⌝ }
+    ensures { λ r. ⌜ Written endpoint-records endpoint base (now (part .entry)) at r (now (out .entry)) (now (out .exit)) ⌝ }
+{
+    let head = endpoint_head(part, base);
+    let Number::Value(id, c) = head else {
+        return Wrote { next: base, to: at };
+    };
+    let wrote = braced_parts(rest_at(part, base, c), c, out, at + 16);
+    put_endpoint(out, at, id);
+    wrote
 }

@@ -28,7 +28,7 @@ use Rattle.lexing.proofs.Repetition.{iter-fail}
 use Rattle.lexing.proofs.words.Laws.{keyword-no-word}
 use Rattle.lexing.proofs.Slicing.{Took, took, walks, rebase, begin, on, told-next, step-lost, integer-lost, or-next}
 use Rattle.items.specs.clusters.{mapped}
-use Rattle.items.specs.endpoints.{name-behind, device-version, Default as DefaultOf, number, signed-number, truth, text, value-tries, default-attribute-value, attribute-handling-type, AttributeInstance as AttributeInstanceOf, attribute-instantiation, named-after, attribute-instance, command-instance, event-instance, instance-tries, deep-run, deep-braces, DeviceType as DeviceTypeOf, device-type, device, binding, instantiation, instantiation-head, cluster-instantiation, part-tries, endpoint-head, endpoint}
+use Rattle.items.specs.endpoints.{name-behind, device-version, Default as DefaultOf, number, signed-number, truth, text, value-tries, default-attribute-value, attribute-handling-type, AttributeInstance as AttributeInstanceOf, attribute-instantiation, named-after, Instance as InstanceOf, Part, attribute-instance, command-instance, event-instance, instance-tries, deep-run, deep-braces, DeviceType as DeviceTypeOf, device-type, device, binding, instantiation, instantiation-head, cluster-instantiation, part-tries, endpoint-head, endpoint}
 use Rattle.items.specs.records.{Bits, absent, at, bits, value, word-extent, plain, each, twos-complement, default-number, default-word, instance-record, part-records, endpoint-records}
 use Rattle.items.specs.inner.endpoints.{blank-binding, plainWord, name-parts, device-parts, instance-parts, endpoint-first}
 use Rattle.items.specs.layout.{packed, width, from-top, offset, size, layout-20, further-word, record-words, big-endian, catalogue-words, catalogue-bytes, word-count, text-limit}
@@ -386,3 +386,18 @@ module _ (b : ℕ) (u : List ℕ) where
 pub instances-unclosing : Unclosing instance-tries
 unfolding instance-tries
 instances-unclosing q b u = none-found _ _ _ (sym (mapped-fail _ attribute-instance (brace-attribute b u))) (sym (mapped-fail _ command-instance (brace-named b u _ _))) (sym (mapped-fail _ event-instance (brace-named b u _ _))) q
+
+pub parts-unclosing : Unclosing part-tries
+unfolding part-tries device-type cluster-instantiation instantiation-head
+parts-unclosing q b u =
+    none-found _ _ _ (sym (mapped-fail _ device (bind-fail _ _ (brace-name b u _ _)))) (sym (mapped-fail _ binding (then-ok _ _ (brace-blank b u) ∙ brace-named b u _ _)))
+    (sym (mapped-fail _ instantiation (bind-fail _ _ (then-ok _ _ (brace-blank b u) ∙ bind-fail _ _ (brace-name b u _ _))))) q
+
+-- the first records of what was read
+pub instantiation-first-is : (b : ℕ) (u : List ℕ) {o e c : ℕ} (l : List InstanceOf) → NameIn b o e c → c ≤ b + length u → name-parts 13 o e ≡ instantiation-headed .first tt (wordBetween b u o e) l
+unfolding instantiation-headed
+instantiation-first-is b u l h i = name-parts-is b u 13 h i
+
+pub endpoint-first-is : (n : ℕ) (l : List Part) → endpoint-first n ≡ endpoint-headed .first tt n l
+unfolding endpoint-headed
+endpoint-first-is n l = refl

@@ -329,3 +329,14 @@ module _ {A : Type 0} (m₁ m₂ m₃ : Parser A) {b : ℕ} {u : List ℕ} where
 
       pub third-room : {p' : ℕ} → fail p' ≡ m₂ b u → Room one m₃ b u at n
       third-room h' = record { value = room .room .value .found; next = room .room .next; is = last-one _ (behind m₂ _ _ (behind m₁ _ _ (room .room .is) h) h'); fits = room .room .fits }
+
+-- the last try by what its own reader writes
+module _ {A B : Type 0} (g : B → A) {one : A → List Record} {m : Parser B} {b : ℕ} {u : List ℕ} {at : ℕ} where
+  pub mapped-room : {n : ℕ} → Room one (mapped m g) b u at n → Room (λ x. one (g x)) m b u at n
+  mapped-room room =
+      let s = value-as g m b u (room .value) (room .next) (drop (room .next - b) u) (room .is) in
+      let z : word-count (one (g (s .0))) ≡ word-count (one (room .value)) = ap (λ (x : A). word-count (one x)) (s .1 .0) in
+      record { value = s .0; next = room .next; is = s .1 .1; fits = omega (arith, room .fits, z) }
+
+  pub try-passed : {f : ℕ → Parser (TriedOf A)} {w : Wrote} {old new : List ℕ} (h : Written (λ x. one (g x)) m b u at w old new) → FoundAt f b u (g (h .value)) (w .next) → TryWritten one f b u at w old new
+  try-passed h e = record { written = λ q. record { value = record { furthest = e q .0; found = g (h .value) }; is = e q .1; place = h .place; bytes = h .bytes } }
