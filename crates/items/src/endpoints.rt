@@ -851,7 +851,7 @@ fn write_instance(part: &[u8], base: usize, out: &mut [u8], at: usize) -> Wrote
     }
 }
 
-// The second pass over instances behind their opening brace, up to the closing one. Where no brace closes them there is one more of them.
+// The second pass over instances behind their opening brace, up to the closing one: where that does not stand, there is one more of them.
 fn write_instances(part: &[u8], base: usize, out: &mut [u8], at: usize) -> Wrote
     requires { ⌜ base + length (now part) ≤ text-limit ⌝ }
     requires { ⌜ Room (map instance-record) (deep-rest instance-tries) base (now part) at (length (now out)) ⌝ }
@@ -925,7 +925,7 @@ fn write_part(part: &[u8], base: usize, out: &mut [u8], at: usize) -> Wrote
     write_cluster_instantiation(part, base, out, at)
 }
 
-// The second pass over parts behind their opening brace, up to the closing one. Where no brace closes them there is one more of them.
+// The second pass over parts behind their opening brace, up to the closing one: where that does not stand, there is one more of them.
 fn write_parts(part: &[u8], base: usize, out: &mut [u8], at: usize) -> Wrote
     requires { ⌜ base + length (now part) ≤ text-limit ⌝ }
     requires { ⌜ Room (each part-records) (deep-rest part-tries) base (now part) at (length (now out)) ⌝ }

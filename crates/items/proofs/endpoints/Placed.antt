@@ -7,7 +7,7 @@ use mathlib.Core.Bool.{Bool, true, false}
 use lib.Dec.{eqb}
 use lib.ListN.{length, drop}
 use borrow.Author.Tests.{eqb-true}
-use Rattle.lexing.specs.reply.{Reply, ok, fail, stop, Parser, ret, _>>=_, _>>_, catch, iterWithin, iter, position, failAt}
+use Rattle.lexing.specs.reply.{Reply, ok, fail, stop, Parser, ret, _>>=_, _>>_, iterWithin, iter, position, failAt}
 use Rattle.lexing.specs.words.{tag}
 use Rattle.lexing.specs.blanks.{Doc, whitespace0}
 use Rattle.lexing.specs.answers.{Rest, lostReply}
@@ -30,10 +30,10 @@ use Rattle.items.specs.inner.endpoints.{deep-close, deep-tail, deep-rest
 use Rattle.items.specs.declared.writing.Wrote.{Wrote}
 use Rattle.items.proofs.Mapped.{mapped-ok, mapped-not, value-as}
 use Rattle.items.proofs.Locality.{deep-step-consumes, deep-run-inside}
-use Rattle.items.proofs.RecordWords.{Elementwise, word-count-none, word-count-more, word-count-grows, catalogue-bytes-none, catalogue-bytes-length, catalogue-bytes-more}
+use Rattle.items.proofs.RecordWords.{Elementwise, word-count-none, word-count-more, catalogue-bytes-none, catalogue-bytes-length, catalogue-bytes-more}
 use Rattle.items.proofs.Braces.{Step, rest-is, taken, then-value, follows, close-took, close-caught}
 use Rattle.items.proofs.endpoints.Deep.{intercept-found, intercept-last, next-at, stop-at, deep-close-on}
-use Rattle.items.proofs.writing.Laws.{put-length, put-nothing, put-on, no-room, written-same}
+use Rattle.items.proofs.writing.Laws.{put-length, put-nothing, put-on, no-room}
 
 -- an accepted reply is none that is lost
 lost-not : {A : Type 0} {a : A} {c : ℕ} {r : List ℕ} {m : Reply A} → ok a c r ≡ m → (l : Lost) → lostReply l ≡ m → ⊥
@@ -278,9 +278,6 @@ three-tries m₁ m₂ m₃ q = intercept q m₁ λ q. intercept q m₂ λ q. int
 
 pub try-took : {A B : Type 0} (g : A → B) {m : Parser A} {b : ℕ} {u : List ℕ} {a : A} {c : ℕ} → Took m b u b a c → ok (g a) c (drop (c - b) u) ≡ mapped m g b u
 try-took g {m} {b} {u} {a} {c} t = mapped-ok g m b u a c (drop (c - b) u) refl (begin m b u (sym (t .goes)))
-
-pub try-same : {A : Type 0} {one : A → List Record} {f : ℕ → Parser (TriedOf A)} {b : ℕ} {u : List ℕ} {at n : ℕ} {w : Wrote} {old new : List ℕ} → TryRoom one f b u at n → TryWritten one f b u at w old new → n ≡ length old → length new ≡ length old
-try-same room h e = written-same (room .room) (h .written (room .far)) e
 
 module _ {A : Type 0} (m₁ m₂ m₃ : Parser A) {b : ℕ} {u : List ℕ} where
   pub none-found : {p p' p'' : ℕ} → fail p ≡ m₁ b u → fail p' ≡ m₂ b u → fail p'' ≡ m₃ b u → (q : ℕ) → (p : ℕ) × (fail p ≡ three-tries m₁ m₂ m₃ q b u)
