@@ -76,7 +76,7 @@ pub record Step {A B : Type 0} (m : Parser A) (k : A → Parser B) (v : B) (e : 
   pub is : ok value next (drop (next - c) r) ≡ m c r
   pub then : ok v e s ≡ k value next (drop (next - c) r)
 
-rest-is : {A : Type 0} {m : Parser A} (w : Onward m) (c d : ℕ) (r t : List ℕ) (a : A) → m c r ≡ ok a d t → t ≡ drop (d - c) r
+pub rest-is : {A : Type 0} {m : Parser A} (w : Onward m) (c d : ℕ) (r t : List ℕ) (a : A) → m c r ≡ ok a d t → t ≡ drop (d - c) r
 rest-is w c d r t a e =
     let p = rw e at (w .onward c r) in
     let z : length r - length t ≡ d - c = omega (arith, p .1, suf-length (p .0)) in
@@ -95,7 +95,7 @@ taken {A} {B} m k w v e s c r h = go (m c r) refl
     go (stop n p) z = let i : ok v e s ≡ stop n p = rw (z, _>>=_) at h in let y : _≡_ {A = ℕ} 0 1 = cc in absurd (omega arith)
 
 -- the value behind a step that is dropped
-then-value : {A B : Type 0} (m : Parser A) (b : B) (v : B) (e : ℕ) (s : List ℕ) (c : ℕ) (r : List ℕ) → ok v e s ≡ (m >> ret b) c r → v ≡ b
+pub then-value : {A B : Type 0} (m : Parser A) (b : B) (v : B) (e : ℕ) (s : List ℕ) (c : ℕ) (r : List ℕ) → ok v e s ≡ (m >> ret b) c r → v ≡ b
 unfolding _>>_ _>>=_ ret
 then-value {A} m b v e s c r h = go (m c r) refl
   where

@@ -1,17 +1,26 @@
 // Endpoints and what stands in them: names behind keywords, device types, instances.
 ghost use mathlib.Core.Path.{_≡_};
+ghost use mathlib.Core.Option.{some};
 ghost use mathlib.Core.List.{[], _∷_, map};
-ghost use Prim.Native.Nat.{_+_, _≤_, max};
+ghost use Prim.Native.Nat.{_+_, _≤_, _<_, max};
 ghost use lib.ListN.{length};
+ghost use Rattle.lexing.specs.integers.{signed};
 ghost use Rattle.lexing.specs.answers.{tagReply, numberReply};
-ghost use Rattle.items.specs.layout.{text-limit};
-ghost use Rattle.items.specs.records.{each, instance-record, part-records, endpoint-records};
+ghost use Rattle.items.specs.layout.{text-limit, layout-20, further-word, catalogue-bytes};
+ghost use Rattle.items.specs.buffers.{put};
+ghost use Rattle.items.specs.records.{each, twos-complement, default-number, default-word, instance-record, part-records, endpoint-records};
 ghost use Rattle.items.specs.endpoints.{name-behind, named-after, device-version, value-tries, default-attribute-value, deep-run, deep-braces, instance-tries, instantiation, instantiation-head, cluster-instantiation, part-tries, endpoint-head, endpoint};
-ghost use Rattle.items.specs.answers.{CountTo};
-ghost use Rattle.items.specs.answers.endpoints.{NamedTo, namedLost, DeviceTypeTo, deviceTypeLost, HandlingTo, handlingLost, ValueTo, valueLost, optionalValue, DefaultTo, defaultLost, AttributeInstanceTo, attributeInstanceLost, triedLost, TriedTo, DeepTo};
-ghost use Rattle.items.specs.inner.endpoints.{furtherLost, triedEnd, deep-close, blank-binding};
+ghost use Rattle.items.specs.answers.{NameIn, CountTo, Room, Written};
+ghost use Rattle.items.specs.answers.endpoints.{NamedTo, namedLost, DeviceTypeTo, deviceTypeLost, HandlingTo, handlingLost, ValueTo, valueLost, valueOf, SpanIn, optionalValue, DefaultTo, DefaultIn, defaultOf, defaultLost, InstanceIn, AttributeInstanceTo, attributeInstanceLost, triedLost, TriedTo, DeepTo, TryRoom, TryWritten};
+ghost use Rattle.items.specs.inner.endpoints.{furtherLost, triedEnd, deep-close, deep-rest, blank-binding, plainWord, name-parts, device-parts, instance-parts, endpoint-first};
 use crate::counts::Count;
 use crate::counts::count_lost;
+use crate::writing::First;
+use crate::writing::Wrote;
+use crate::writing::first_word;
+use crate::writing::flag;
+use crate::writing::put_word;
+use crate::writing::span_word;
 use lexing::answers::Lost;
 use lexing::answers::Step;
 use lexing::answers::step_lost;
@@ -690,4 +699,278 @@ pub fn endpoint(part: &[u8], base: usize) -> Count
         return run;
     };
     Count::Words(n + 2, c2)
+}
+
+// The first word of a record that has only a kind, flags and a name.
+fn plain_word(kind: u8, flags: u8, name: usize, end: usize) -> u64
+    requires { ⌜ flags < 128 ⌝ }
+    requires { ⌜ NameIn 0 name end text-limit ⌝ }
+    ensures { λ r. ⌜ r ≡ plainWord kind flags name end ⌝ }
+{
+    let first = First {
+        kind,
+        place: 0,
+        maturity: 0,
+        documented: 0,
+        flags,
+        name,
+        size: end - name,
+        privilege: 0,
+        further: 0,
+    };
+    first_word(first)
+}
+
+// A record that is a name: a binding, an instantiation, an instance of a command or of an event.
+fn put_named(out: &mut [u8], at: usize, kind: u8, name: usize, end: usize)
+    requires { ⌜ at + 8 ≤ length (now out) ⌝ }
+    requires { ⌜ NameIn 0 name end text-limit ⌝ }
+    ensures { λ _. ⌜ now (out .exit) ≡ put at (catalogue-bytes layout-20 (name-parts kind name end ∷ [])) (now (out .entry)) ⌝ }
+{
+    put_word(out, at, plain_word(kind, 0, name, end));
+}
+
+// The record of a device type.
+fn put_device_type(out: &mut [u8], at: usize, t: DeviceTypeParts)
+    requires { ⌜ at + 24 ≤ length (now out) ⌝ }
+    requires { ⌜ NameIn 0 (t .name) (t .end) text-limit ⌝ }
+    ensures { λ _. ⌜ now (out .exit) ≡ put at (catalogue-bytes layout-20 (device-parts t ∷ [])) (now (out .entry)) ⌝ }
+{
+    put_word(out, at, plain_word(11, 0, t.name, t.end));
+    put_word(out, at + 8, t.code);
+    put_word(out, at + 16, t.version);
+}
+
+// The number of a default's kind.
+fn value_number(v: DefaultValue) -> u8
+    ensures { λ r. ⌜ r ≡ default-number (some (valueOf v)) ⌝ }
+{
+    match v {
+        DefaultValue::Number(_) => 1,
+        DefaultValue::Signed(_, _) => 2,
+        DefaultValue::Truth(_) => 3,
+        DefaultValue::Text(_) => 4,
+    }
+}
+
+fn default_number(d: Default) -> u8
+    ensures { λ r. ⌜ r ≡ default-number (defaultOf d) ⌝ }
+{
+    match d {
+        Default::Absent => 0,
+        Default::Present(v) => value_number(v),
+    }
+}
+
+// A signed number in two's complement; minus zero is zero.
+fn twos_complement(negative: bool, v: u64) -> u64
+    ensures { λ r. ⌜ r ≡ twos-complement (signed negative v) ⌝ }
+{
+    if v == 0 {
+        return 0;
+    }
+    if negative {
+        return 0xffff_ffff_ffff_ffff - (v - 1);
+    }
+    v
+}
+
+// The word of a default: a number, a truth, or a string's span.
+fn value_word(v: DefaultValue) -> u64
+    requires { ⌜ SpanIn v text-limit ⌝ }
+    ensures { λ r. ⌜ r ≡ further-word layout-20 (default-word (some (valueOf v))) ⌝ }
+{
+    match v {
+        DefaultValue::Number(n) => n,
+        DefaultValue::Signed(negative, n) => twos_complement(negative, n),
+        DefaultValue::Truth(t) => flag(t) as u64,
+        DefaultValue::Text(s) => span_word(s.start, s.length),
+    }
+}
+
+fn default_word(d: Default) -> u64
+    requires { ⌜ DefaultIn d text-limit ⌝ }
+    ensures { λ r. ⌜ r ≡ further-word layout-20 (default-word (defaultOf d)) ⌝ }
+{
+    match d {
+        Default::Absent => 0,
+        Default::Present(v) => value_word(v),
+    }
+}
+
+// The record of an attribute's instance.
+fn put_attribute_instance(out: &mut [u8], at: usize, a: AttributeInstanceParts)
+    requires { ⌜ at + 16 ≤ length (now out) ⌝ }
+    requires { ⌜ InstanceIn 0 a text-limit ⌝ }
+    ensures { λ _. ⌜ now (out .exit) ≡ put at (catalogue-bytes layout-20 (instance-parts a ∷ [])) (now (out .entry)) ⌝ }
+{
+    let default = a.default;
+    let flags = a.handling * 32 + default_number(default) * 4;
+    put_word(out, at, plain_word(14, flags, a.name, a.end));
+    put_word(out, at + 8, default_word(default));
+}
+
+// The first record of an endpoint.
+fn put_endpoint(out: &mut [u8], at: usize, id: u64)
+    requires { ⌜ at + 16 ≤ length (now out) ⌝ }
+    ensures { λ _. ⌜ now (out .exit) ≡ put at (catalogue-bytes layout-20 (endpoint-first id ∷ [])) (now (out .entry)) ⌝ }
+{
+    put_word(out, at, plain_word(10, 0, 0, 0));
+    put_word(out, at + 8, id);
+}
+
+// The second pass over an instance.
+fn write_instance(part: &[u8], base: usize, out: &mut [u8], at: usize) -> Wrote
+    requires { ⌜ base + length (now part) ≤ text-limit ⌝ }
+    requires { ⌜ TryRoom (λ i. instance-record i ∷ []) instance-tries base (now part) at (length (now out)) ⌝ }
+    ensures { λ r. ⌜ TryWritten (λ i. instance-record i ∷ []) instance-tries base (now (part .entry)) at r (now (out .entry)) (now (out .exit)) ⌝ }
+{
+    let attribute = attribute_instantiation(part, base);
+    if let AttributeInstanceRead::AttributeInstance(a, c) = attribute {
+        put_attribute_instance(out, at, a);
+        return Wrote {
+            next: c,
+            to: at + 16,
+        };
+    }
+    let command = named_after(part, base, b"handle", b"command");
+    if let Named::Name(name, end, c) = command {
+        put_named(out, at, 15, name, end);
+        return Wrote {
+            next: c,
+            to: at + 8,
+        };
+    }
+    let event = named_after(part, base, b"emits", b"event");
+    let Named::Name(name, end, c) = event else {
+        return Wrote { next: base, to: at };
+    };
+    put_named(out, at, 16, name, end);
+    Wrote {
+        next: c,
+        to: at + 8,
+    }
+}
+
+// The second pass over instances behind their opening brace, up to the closing one: where that does not stand, there is one more of them.
+fn write_instances(part: &[u8], base: usize, out: &mut [u8], at: usize) -> Wrote
+    requires { ⌜ base + length (now part) ≤ text-limit ⌝ }
+    requires { ⌜ Room (map instance-record) (deep-rest instance-tries) base (now part) at (length (now out)) ⌝ }
+    ensures { λ r. ⌜ Written (map instance-record) (deep-rest instance-tries) base (now (part .entry)) at r (now (out .entry)) (now (out .exit)) ⌝ }
+{
+    let mut c = base;
+    let mut to = at;
+    loop {
+        let w = whitespace0(rest_at(part, base, c), c);
+        let start = w.next;
+        let close = tag(rest_at(part, base, start), start, b'}');
+        if let Step::Next(end) = close {
+            return Wrote { next: end, to };
+        }
+        let wrote = write_instance(rest_at(part, base, start), start, out, to);
+        c = wrote.next;
+        to = wrote.to;
+    }
+}
+
+// The second pass over instances between braces.
+fn braced_instances(part: &[u8], base: usize, out: &mut [u8], at: usize) -> Wrote
+    requires { ⌜ base + length (now part) ≤ text-limit ⌝ }
+    requires { ⌜ Room (map instance-record) (deep-braces instance-tries) base (now part) at (length (now out)) ⌝ }
+    ensures { λ r. ⌜ Written (map instance-record) (deep-braces instance-tries) base (now (part .entry)) at r (now (out .entry)) (now (out .exit)) ⌝ }
+{
+    let brace = tag(part, base, b'{');
+    let Step::Next(c) = brace else {
+        return Wrote { next: base, to: at };
+    };
+    write_instances(rest_at(part, base, c), c, out, at)
+}
+
+// The second pass over a cluster instantiation.
+fn write_cluster_instantiation(part: &[u8], base: usize, out: &mut [u8], at: usize) -> Wrote
+    requires { ⌜ base + length (now part) ≤ text-limit ⌝ }
+    requires { ⌜ Room (λ i. part-records (instantiation i)) cluster-instantiation base (now part) at (length (now out)) ⌝ }
+    ensures { λ r. ⌜ Written (λ i. part-records (instantiation i)) cluster-instantiation base (now (part .entry)) at r (now (out .entry)) (now (out .exit)) ⌝ }
+{
+    let head = instantiation_head(part, base);
+    let Named::Name(name, end, c) = head else {
+        return Wrote { next: base, to: at };
+    };
+    let wrote = braced_instances(rest_at(part, base, c), c, out, at + 8);
+    put_named(out, at, 13, name, end);
+    wrote
+}
+
+// The second pass over a part of an endpoint. A try that fails here costs no more than its first word.
+fn write_part(part: &[u8], base: usize, out: &mut [u8], at: usize) -> Wrote
+    requires { ⌜ base + length (now part) ≤ text-limit ⌝ }
+    requires { ⌜ TryRoom part-records part-tries base (now part) at (length (now out)) ⌝ }
+    ensures { λ r. ⌜ TryWritten part-records part-tries base (now (part .entry)) at r (now (out .entry)) (now (out .exit)) ⌝ }
+{
+    let device = device_type(part, base);
+    if let DeviceTypeRead::DeviceType(t, c) = device {
+        put_device_type(out, at, t);
+        return Wrote {
+            next: c,
+            to: at + 24,
+        };
+    }
+    let binding = blank_binding(part, base);
+    if let Named::Name(name, end, c) = binding {
+        put_named(out, at, 12, name, end);
+        return Wrote {
+            next: c,
+            to: at + 8,
+        };
+    }
+    write_cluster_instantiation(part, base, out, at)
+}
+
+// The second pass over parts behind their opening brace, up to the closing one: where that does not stand, there is one more of them.
+fn write_parts(part: &[u8], base: usize, out: &mut [u8], at: usize) -> Wrote
+    requires { ⌜ base + length (now part) ≤ text-limit ⌝ }
+    requires { ⌜ Room (each part-records) (deep-rest part-tries) base (now part) at (length (now out)) ⌝ }
+    ensures { λ r. ⌜ Written (each part-records) (deep-rest part-tries) base (now (part .entry)) at r (now (out .entry)) (now (out .exit)) ⌝ }
+{
+    let mut c = base;
+    let mut to = at;
+    loop {
+        let w = whitespace0(rest_at(part, base, c), c);
+        let start = w.next;
+        let close = tag(rest_at(part, base, start), start, b'}');
+        if let Step::Next(end) = close {
+            return Wrote { next: end, to };
+        }
+        let wrote = write_part(rest_at(part, base, start), start, out, to);
+        c = wrote.next;
+        to = wrote.to;
+    }
+}
+
+// The second pass over parts between braces.
+fn braced_parts(part: &[u8], base: usize, out: &mut [u8], at: usize) -> Wrote
+    requires { ⌜ base + length (now part) ≤ text-limit ⌝ }
+    requires { ⌜ Room (each part-records) (deep-braces part-tries) base (now part) at (length (now out)) ⌝ }
+    ensures { λ r. ⌜ Written (each part-records) (deep-braces part-tries) base (now (part .entry)) at r (now (out .entry)) (now (out .exit)) ⌝ }
+{
+    let brace = tag(part, base, b'{');
+    let Step::Next(c) = brace else {
+        return Wrote { next: base, to: at };
+    };
+    write_parts(rest_at(part, base, c), c, out, at)
+}
+
+// The second pass over an endpoint.
+pub fn write_endpoint(part: &[u8], base: usize, out: &mut [u8], at: usize) -> Wrote
+    requires { ⌜ base + length (now part) ≤ text-limit ⌝ }
+    requires { ⌜ Room endpoint-records endpoint base (now part) at (length (now out)) ⌝ }
+    ensures { λ r. ⌜ Written endpoint-records endpoint base (now (part .entry)) at r (now (out .entry)) (now (out .exit)) ⌝ }
+{
+    let head = endpoint_head(part, base);
+    let Number::Value(id, c) = head else {
+        return Wrote { next: base, to: at };
+    };
+    let wrote = braced_parts(rest_at(part, base, c), c, out, at + 16);
+    put_endpoint(out, at, id);
+    wrote
 }

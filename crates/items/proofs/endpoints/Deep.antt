@@ -82,7 +82,7 @@ module _ {A : Type 0} (q : ℕ) (m : Parser A) (k : ℕ → Parser (TriedOf A)) 
   unfolding intercept catch
   intercept-found a c r e = rw (sym (mapped-ok with-place m b u a c r refl e), intercept, catch) refl
 
-  next-at : {X : Reply (TriedOf A)} (l : Lost) (q' : ℕ) → Fail q' ≡ furtherLost l q → lostReply l ≡ m b u → X ≡ k q' b u → X ≡ intercept q m k b u
+  pub next-at : {X : Reply (TriedOf A)} (l : Lost) (q' : ℕ) → Fail q' ≡ furtherLost l q → lostReply l ≡ m b u → X ≡ k q' b u → X ≡ intercept q m k b u
   unfolding intercept catch
   next-at (Fail p) q' d e h =
       let y : q' ≡ max p q = cc in
@@ -90,7 +90,7 @@ module _ {A : Type 0} (q : ℕ) (m : Parser A) (k : ℕ → Parser (TriedOf A)) 
       rw (sym (mapped-not with-place m b u (Fail p) e), intercept, catch) (rw z h)
   next-at (Stop n p) q' d e h = absurd (let z : _≡_ {A = ℕ} 0 1 = cc in omega arith)
 
-  stop-at : (l : Lost) (n p : ℕ) → Stop n p ≡ furtherLost l q → lostReply l ≡ m b u → stop n p ≡ intercept q m k b u
+  pub stop-at : (l : Lost) (n p : ℕ) → Stop n p ≡ furtherLost l q → lostReply l ≡ m b u → stop n p ≡ intercept q m k b u
   unfolding intercept catch
   stop-at (Fail p') n p d e = absurd (let z : _≡_ {A = ℕ} 0 1 = cc in omega arith)
   stop-at (Stop i p') n p d e =
@@ -189,7 +189,7 @@ leaves b u (ok a c r) p = (to-suf (p .0), p .1)
 leaves b u (fail p) q = tt
 leaves b u (stop n p) q = tt
 
-deep-close-on : (q : ℕ) → Onward (deep-close q)
+pub deep-close-on : (q : ℕ) → Onward (deep-close q)
 unfolding deep-close
 deep-close-on q = record { onward = λ b u. leaves b u (deep-close q b u) (close-moves (λ (s p : ℕ). max p s) q 0 b u) }
 

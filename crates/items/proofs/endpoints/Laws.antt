@@ -1,15 +1,16 @@
 -- Laws of names behind keywords, device types, defaults, instances, and endpoints counted.
 use mathlib.Core.Path.{_≡_, refl, sym, ap, _∙_, subst}
 use mathlib.Core.List.{List, [], _∷_, map}
-use mathlib.Core.Bool.{Bool}
-use mathlib.Core.Option.{Option}
-use Prim.Native.Nat.{ℕ, suc, _+_, _-_, _≤_, _<_, max}
+use mathlib.Core.Bool.{Bool, true, false}
+use mathlib.Core.Option.{Option, none, some}
+use Prim.Native.Nat.{ℕ, zero, suc, _+_, _-_, _*_, _≤_, _<_, max}
 use native.Mathlib.Omega.{arith}
-use lib.ListN.{drop, take}
-use Rattle.lexing.specs.reply.{Reply, ok, fail, stop, Parser, ret, _>>=_, _>>_, _or_, further, opt}
-use Rattle.lexing.specs.words.{Word, word}
+use lib.ListN.{length, drop, take}
+use Rattle.lexing.specs.reply.{Reply, ok, fail, stop, Parser, ret, _>>=_, _>>_, _or_, further, opt, keep}
+use Rattle.lexing.specs.bytes.{isLetter, isSpace, within}
+use Rattle.lexing.specs.words.{Word, word, keyword}
 use Rattle.lexing.specs.integers.{signed, positive-integer, signed-integer}
-use Rattle.lexing.specs.blanks.{Doc, whitespace1}
+use Rattle.lexing.specs.blanks.{Doc, no-doc, one-blank, whitespace0, whitespace1}
 use Rattle.lexing.specs.strings.{Span, span, default-escape, default-string}
 use Rattle.lexing.specs.answers.{Answer, got, lost, reply, lostReply, Rest, lostOf, numberLost, numberReply, signedReply, spanTo, stringReply}
 use Rattle.lexing.specs.declared.answers.Lost.{Lost}
@@ -22,17 +23,24 @@ use Rattle.lexing.specs.declared.integers.SignedNumber.{SignedNumber}
 use Rattle.lexing.specs.declared.integers.SignedNumber.the-variants.{Sized, NoSigned}
 use Rattle.lexing.proofs.Onward.{Onward}
 use Rattle.lexing.proofs.Locality.{Consumes, chain-opt, chain-then, consumes-then-right}
-use Rattle.lexing.proofs.TokenLocality.{whitespace0-chain, whitespace1-chain}
+use Rattle.lexing.proofs.TokenLocality.{whitespace0-chain, whitespace1-chain, no-group, one-blank-consumes}
+use Rattle.lexing.proofs.Repetition.{iter-fail}
+use Rattle.lexing.proofs.words.Laws.{keyword-no-word}
 use Rattle.lexing.proofs.Slicing.{Took, took, walks, rebase, begin, on, told-next, step-lost, integer-lost, or-next}
 use Rattle.items.specs.clusters.{mapped}
-use Rattle.items.specs.endpoints.{name-behind, device-version, Default as DefaultOf, number, signed-number, text, value-tries, default-attribute-value, attribute-handling-type, AttributeInstance as AttributeInstanceOf, attribute-instantiation, named-after, attribute-instance, command-instance, event-instance, instance-tries, deep-run, deep-braces, DeviceType as DeviceTypeOf, device-type, device, binding, instantiation, instantiation-head, cluster-instantiation, part-tries, endpoint-head, endpoint}
-use Rattle.items.specs.records.{absent, value, word-extent, plain, each, instance-record, part-records, endpoint-records}
-use Rattle.items.specs.inner.endpoints.{blank-binding}
-use Rattle.items.specs.layout.{layout-20, record-words, catalogue-words, word-count}
+use Rattle.items.specs.endpoints.{name-behind, device-version, Default as DefaultOf, number, signed-number, truth, text, value-tries, default-attribute-value, attribute-handling-type, AttributeInstance as AttributeInstanceOf, attribute-instantiation, named-after, Instance as InstanceOf, Part, attribute-instance, command-instance, event-instance, instance-tries, deep-run, deep-braces, DeviceType as DeviceTypeOf, device-type, device, binding, instantiation, instantiation-head, cluster-instantiation, part-tries, endpoint-head, endpoint}
+use Rattle.items.specs.records.{Bits, absent, at, bits, value, word-extent, plain, each, twos-complement, default-number, default-word, instance-record, part-records, endpoint-records}
+use Rattle.items.specs.inner.endpoints.{blank-binding, plainWord, name-parts, device-parts, instance-parts, endpoint-first}
+use Rattle.items.specs.layout.{packed, width, from-top, offset, size, layout-20, further-word, record-words, big-endian, catalogue-words, catalogue-bytes, word-count, text-limit}
+use Rattle.items.specs.buffers.{put}
 use Rattle.items.specs.answers.{NameIn, wordBetween}
-use Rattle.items.specs.answers.endpoints.{NamedTo, valueOf, valueLost, valueAnswer, ValueIn, ValueTo, DefaultIn, optionalValue, OptionalTo}
+use Rattle.items.specs.answers.endpoints.{NamedTo, deviceTypeAt, InstanceIn, attributeInstanceAt, valueOf, valueLost, valueAnswer, ValueIn, ValueTo, SpanIn, DefaultIn, optionalValue, defaultOf, OptionalTo}
+use Rattle.items.specs.declared.endpoints.DeviceTypeParts.{DeviceTypeParts}
+use Rattle.items.specs.declared.endpoints.AttributeInstanceParts.{AttributeInstanceParts}
 use Rattle.items.specs.declared.endpoints.Named.{Named}
 use Rattle.items.specs.declared.endpoints.Named.the-variants.{Name}
+use Rattle.items.specs.declared.endpoints.SpanParts.{SpanParts}
+use Rattle.items.specs.declared.endpoints.DefaultValue.{DefaultValue}
 use Rattle.items.specs.declared.endpoints.DefaultValue.the-variants.{Number as Num, Signed as SignedValue, Truth, Text}
 use Rattle.items.specs.declared.endpoints.ValueRead.{ValueRead}
 use Rattle.items.specs.declared.endpoints.ValueRead.the-variants.{Read, NoValue}
@@ -42,9 +50,12 @@ use Rattle.items.specs.declared.endpoints.DefaultRead.{DefaultRead}
 use Rattle.items.proofs.Locality.{name-behind-local, device-version-local, value-tries-local, default-attribute-value-local, attribute-handling-type-local, attribute-instantiation-inside, named-after-local, named-after-consumes, instance-tries-inside, instance-tries-consumes, deep-run-inside, instances-local, instantiation-head-local, device-type-inside, cluster-instantiation-inside, part-tries-inside, part-tries-consumes, parts-local, endpoint-head-local}
 use Rattle.items.proofs.Mapped.{mapped-ok, mapped-not}
 use Rattle.items.proofs.Answers.{read-within, read-took, last-lost}
-use Rattle.items.proofs.WordBetween.{word-moved}
+use Rattle.items.proofs.WordBetween.{word-moved, extent-between}
 use Rattle.items.proofs.optional.Laws.{opt-ok, opt-fail, opt-stop}
 use Rattle.items.proofs.Headed.{Headed}
+use Rattle.items.proofs.writing.Laws.{put-one, put-two, put-next, plain-bytes}
+use Rattle.items.proofs.Tries.{bind-fail, then-fail, then-ok, or-both, mapped-fail}
+use Rattle.items.proofs.endpoints.Placed.{Unclosing, none-found}
 use Rattle.items.proofs.endpoints.Places.{integer-place, signed-place, StringPlace, string-place}
 
 pub name-behind-on : (k j : List ℕ) → Onward (name-behind k j)
@@ -275,3 +286,118 @@ endpoint-headed = record {
   hands = λ i n l. refl;
   size = λ i n l. refl;
 }
+
+-- The second pass: the words of each record.
+pub named-put : (k p o e w : ℕ) (l l₁ : List ℕ) → w ≡ plainWord k 0 o e → l₁ ≡ put p (big-endian 8 w) l → l₁ ≡ put p (catalogue-bytes layout-20 (name-parts k o e ∷ [])) l
+unfolding from-top packed width offset size
+named-put k p o e w l l₁ d e₁ = rw (plain-bytes k 0 [] (at o (e - o)) [] 0 refl, ← d) (put-one p w l l₁ e₁)
+
+pub device-put : (t : DeviceTypeParts) (p w : ℕ) (l l₁ l₂ l₃ : List ℕ) → p + 24 ≤ length l → w ≡ plainWord 11 0 (t .name) (t .end)
+    → l₁ ≡ put p (big-endian 8 w) l → l₂ ≡ put (p + 8) (big-endian 8 (t .code)) l₁ → l₃ ≡ put (p + 16) (big-endian 8 (t .version)) l₂ → l₃ ≡ put p (catalogue-bytes layout-20 (device-parts t ∷ [])) l
+unfolding from-top packed width offset size further-word
+device-put t p w l l₁ l₂ l₃ h d e₁ e₂ e₃ =
+    rw (plain-bytes 11 0 [] (at (t .name) (t .end - t .name)) (value (t .code) ∷ value (t .version) ∷ []) 0 refl)
+    (put-next p (p + 16) (plainWord 11 0 (t .name) (t .end) ∷ t .code ∷ []) l l₂ l₃ (omega arith) (omega arith) (put-two p l l₁ l₂ (omega arith) d e₁ refl e₂) refl e₃)
+
+pub instance-put : (a : AttributeInstanceParts) (p g n w v : ℕ) (l l₁ l₂ : List ℕ) → p + 16 ≤ length l → n ≡ default-number (defaultOf (a .default)) → g ≡ a .handling * 32 + n * 4
+    → w ≡ plainWord 14 g (a .name) (a .end) → l₁ ≡ put p (big-endian 8 w) l → v ≡ further-word layout-20 (default-word (defaultOf (a .default))) → l₂ ≡ put (p + 8) (big-endian 8 v) l₁
+    → l₂ ≡ put p (catalogue-bytes layout-20 (instance-parts a ∷ [])) l
+unfolding from-top packed width offset size
+instance-put a p g n w v l l₁ l₂ h en eg d e₁ f e₂ =
+    let fl : List Bits = bits 2 (a .handling) ∷ bits 3 (default-number (defaultOf (a .default))) ∷ [] in
+    let z : g ≡ from-top 7 fl = omega (arith, en, eg) in
+    rw (plain-bytes 14 0 fl (at (a .name) (a .end - a .name)) (default-word (defaultOf (a .default)) ∷ []) g z) (put-two p l l₁ l₂ h d e₁ f e₂)
+
+pub endpoint-put : (p n w : ℕ) (l l₁ l₂ : List ℕ) → p + 16 ≤ length l → w ≡ plainWord 10 0 0 0 → l₁ ≡ put p (big-endian 8 w) l → l₂ ≡ put (p + 8) (big-endian 8 n) l₁ → l₂ ≡ put p (catalogue-bytes layout-20 (endpoint-first n ∷ [])) l
+unfolding from-top packed width offset size further-word
+endpoint-put p n w l l₁ l₂ h d e₁ e₂ = rw (plain-bytes 10 0 [] absent (value n ∷ []) 0 refl) (put-two p l l₁ l₂ h d e₁ refl e₂)
+
+pub number-small : (d : Option DefaultOf) → default-number d < 5
+unfolding default-number
+number-small none = omega arith
+number-small (some (number n)) = omega arith
+number-small (some (signed-number z)) = omega arith
+number-small (some (truth t)) = omega arith
+number-small (some (text s)) = omega arith
+
+-- two's complement
+pub complement-zero : (m : Bool) → twos-complement (signed m 0) ≡ 0
+unfolding twos-complement
+complement-zero true = refl
+complement-zero false = refl
+
+pub complement-negative : (v : ℕ) → 0 < v → twos-complement (signed true v) ≡ 18446744073709551615 - (v - 1)
+unfolding twos-complement
+complement-negative zero h = absurd (omega arith)
+complement-negative (suc v) h = omega arith
+
+pub complement-positive : (v : ℕ) → twos-complement (signed false v) ≡ v
+unfolding twos-complement
+complement-positive v = refl
+
+-- what a default's span fits
+pub span-fits : (v : DefaultValue) {s : SpanParts} → v ≡ Text s → SpanIn v text-limit → (s .start ≤ text-limit) × (s .length ≤ text-limit)
+span-fits v {s} e h = let k : s .start + s .length < text-limit = subst (λ (x : DefaultValue). SpanIn x text-limit) e h in (omega (arith, k), omega (arith, k))
+
+pub default-fits : (d : Default) {v : DefaultValue} → d ≡ Present v → DefaultIn d text-limit → SpanIn v text-limit
+default-fits d e h = subst (λ (x : Default). DefaultIn x text-limit) e h
+
+-- records by offsets are those of what was read
+module _ (b : ℕ) (u : List ℕ) where
+  pub name-parts-is : (k : ℕ) {o e c : ℕ} → NameIn b o e c → c ≤ b + length u → name-parts k o e ≡ plain k 0 [] (word-extent (wordBetween b u o e)) []
+  name-parts-is k {o} {e} h i = rw (extent-between b u o e (h .from) (h .up) (omega (arith, h .inside, i)))
+
+  pub device-parts-is : (t : DeviceTypeParts) {c : ℕ} → NameIn b (t .name) (t .end) c → c ≤ b + length u → device-parts t ∷ [] ≡ part-records (device (deviceTypeAt b u t))
+  unfolding part-records
+  device-parts-is t h i = rw (extent-between b u (t .name) (t .end) (h .from) (h .up) (omega (arith, h .inside, i)))
+
+  pub instance-parts-is : (a : AttributeInstanceParts) {c : ℕ} → InstanceIn b a c → c ≤ b + length u → instance-parts a ≡ instance-record (attribute-instance (attributeInstanceAt b u a))
+  unfolding instance-record
+  instance-parts-is a h i = rw (extent-between b u (a .name) (a .end) (h .named .from) (h .named .up) (omega (arith, h .named .inside, i)))
+
+pub name-in-limit : {b o e c : ℕ} → NameIn b o e c → c ≤ text-limit → NameIn 0 o e text-limit
+name-in-limit h i = record { from = omega arith; up = h .up; inside = omega (arith, h .inside, i) }
+
+pub instance-in-limit : {b : ℕ} (a : AttributeInstanceParts) {c : ℕ} → InstanceIn b a c → c ≤ text-limit → InstanceIn 0 a text-limit
+instance-in-limit a h i = record { small = h .small; named = name-in-limit (h .named) i; spanned = default-within (a .default) _ text-limit (h .spanned) i }
+
+-- where a closing brace stands no word and no blank does, and every try fails
+module _ (b : ℕ) (u : List ℕ) where
+  brace-keyword : (k : List ℕ) → keyword k b (125 ∷ u) ≡ fail b
+  unfolding isLetter within
+  brace-keyword k = sym (keyword-no-word k b (125 ∷ u) refl)
+
+  brace-name : (k j : List ℕ) → name-behind k j b (125 ∷ u) ≡ fail b
+  unfolding name-behind
+  brace-name k j = then-fail _ _ (brace-keyword k)
+
+  brace-named : (k j : List ℕ) → named-after k j b (125 ∷ u) ≡ fail b
+  unfolding named-after
+  brace-named k j = bind-fail _ _ (brace-name k j)
+
+  brace-blank : whitespace0 b (125 ∷ u) ≡ ok no-doc b (125 ∷ u)
+  unfolding whitespace0 one-blank keep isSpace within
+  brace-blank = iter-fail one-blank keep one-blank-consumes no-doc b (125 ∷ u) b (bind-fail _ _ (no-group b 125 u refl))
+
+  brace-attribute : attribute-instantiation b (125 ∷ u) ≡ fail b
+  unfolding attribute-instantiation attribute-handling-type
+  brace-attribute = bind-fail _ _ (or-both _ _ (then-fail _ _ (brace-keyword _)) (or-both _ _ (then-fail _ _ (brace-keyword _)) (then-fail _ _ (brace-keyword _))))
+
+pub instances-unclosing : Unclosing instance-tries
+unfolding instance-tries
+instances-unclosing q b u = none-found _ _ _ (sym (mapped-fail _ attribute-instance (brace-attribute b u))) (sym (mapped-fail _ command-instance (brace-named b u _ _))) (sym (mapped-fail _ event-instance (brace-named b u _ _))) q
+
+pub parts-unclosing : Unclosing part-tries
+unfolding part-tries device-type cluster-instantiation instantiation-head
+parts-unclosing q b u =
+    none-found _ _ _ (sym (mapped-fail _ device (bind-fail _ _ (brace-name b u _ _)))) (sym (mapped-fail _ binding (then-ok _ _ (brace-blank b u) ∙ brace-named b u _ _)))
+    (sym (mapped-fail _ instantiation (bind-fail _ _ (then-ok _ _ (brace-blank b u) ∙ bind-fail _ _ (brace-name b u _ _))))) q
+
+-- the first records of what was read
+pub instantiation-first-is : (b : ℕ) (u : List ℕ) {o e c : ℕ} (l : List InstanceOf) → NameIn b o e c → c ≤ b + length u → name-parts 13 o e ≡ instantiation-headed .first tt (wordBetween b u o e) l
+unfolding instantiation-headed
+instantiation-first-is b u l h i = name-parts-is b u 13 h i
+
+pub endpoint-first-is : (n : ℕ) (l : List Part) → endpoint-first n ≡ endpoint-headed .first tt n l
+unfolding endpoint-headed
+endpoint-first-is n l = refl

@@ -15,7 +15,8 @@ use Rattle.items.specs.clusters.{mapped}
 use Rattle.items.specs.records.{Record}
 use Rattle.items.specs.layout.{word-count}
 use Rattle.items.specs.endpoints.{Tried as TriedOf, Deep, DeviceType as DeviceTypeOf, device-type, Default as DefaultOf, number, signed-number, truth, text, default-attribute-value, attribute-handling-type, AttributeInstance as AttributeInstanceOf, attribute-instantiation}
-use Rattle.items.specs.answers.{ReadTo, NameIn, wordBetween}
+use Rattle.items.specs.answers.{ReadTo, NameIn, wordBetween, Room, Written}
+use Rattle.items.specs.declared.writing.Wrote.{Wrote}
 use Rattle.items.specs.declared.endpoints.Named.{Named}
 use Rattle.items.specs.declared.endpoints.Named.the-variants.{Name, NoName}
 use Rattle.items.specs.declared.endpoints.DeviceTypeParts.{DeviceTypeParts}
@@ -203,3 +204,11 @@ TriedTo one m r b u = WeighedTo (λ t. one (t .found)) (λ t. t .furthest) m r b
 
 abbrev pub DeepTo : {A : Type 0} → (List A → List Record) → Parser (Deep A) → Tried → ℕ → List ℕ → Type 0
 DeepTo records m r b u = WeighedTo (λ s. records (s .read)) (λ s. s .deepest) m r b u
+
+-- A try of the second pass, after some furthest place: what is found is the same whatever that is.
+pub record TryRoom {A : Type 0} (one : A → List Record) (f : ℕ → Parser (TriedOf A)) (b : ℕ) (u : List ℕ) (at n : ℕ) : Type 0 where
+  pub far : ℕ
+  pub room : Room (λ t. one (t .found)) (f far) b u at n
+
+pub record TryWritten {A : Type 0} (one : A → List Record) (f : ℕ → Parser (TriedOf A)) (b : ℕ) (u : List ℕ) (at : ℕ) (w : Wrote) (old new : List ℕ) : Type 0 where
+  pub written : (q : ℕ) → Written (λ t. one (t .found)) (f q) b u at w old new

@@ -1,0 +1,57 @@
+use borrow.Author.Needs.{needs}
+use Rattle.items.proofs.endpoints.put_attribute_instance.Statement.{statement}
+use Rattle.items.proofs.endpoints.put_attribute_instance.Tie as tie
+use denote.Ref.{now}
+use mathlib.Core.Path.{refl}
+use native.Mathlib.Omega.{arith}
+use Rattle.items.specs.answers.endpoints.{defaultOf}
+use Rattle.items.proofs.endpoints.Laws.{number-small, instance-put}
+
+mul-flags : tie.Need-mul-flags
+mul-flags c = omega (arith, c .before .before .pre .1 .small)
+
+default-number-requires : tie.Need-default-number-requires
+default-number-requires c κs = search needs
+
+mul-flags-2 : tie.Need-mul-flags-2
+mul-flags-2 c = omega (arith, number-small (defaultOf (c .before .before .before .args .a .default)), c .default-number .ensures, c .before .before .before .pre .1 .small)
+
+add-flags : tie.Need-add-flags
+add-flags c = omega (arith, number-small (defaultOf (c .before .before .before .args .a .default)), c .default-number .ensures, c .before .before .before .pre .1 .small)
+
+plain-word-requires : tie.Need-plain-word-requires
+plain-word-requires c κs = (omega (arith, number-small (defaultOf (c .before .before .before .before .args .a .default)), c .before .default-number .ensures, c .before .before .before .before .pre .1 .small), c .before .before .before .before .pre .1 .named)
+
+put-word-requires : tie.Need-put-word-requires
+put-word-requires c κs = search needs
+
+add-put-word : tie.Need-add-put-word
+add-put-word c = search needs
+
+default-word-requires : tie.Need-default-word-requires
+default-word-requires c κs = c .before .before .before .before .before .before .before .before .before .pre .1 .spanned
+
+put-word-requires-2 : tie.Need-put-word-requires-2
+put-word-requires-2 c κs = search needs
+
+same-length : tie.Need-same-length
+same-length c = search needs
+
+returns : tie.Need-returns
+returns c = instance-put (c .before .before .before .before .before .before .before .before .before .before .before .before .before .args .a) (c .before .before .before .before .before .before .before .before .before .before .before .before .before .args .at) _ _ _ _ (now (c .before .before .before .before .before .before .before .before .before .before .before .before .before .args .out)) _ _ (c .before .before .before .before .before .before .before .before .before .before .before .before .before .pre .0) (c .before .before .before .before .before .before .before .before .before .before .default-number .ensures) refl (c .before .before .before .before .before .before .before .before .plain-word .ensures) (c .before .before .before .before .before .before .before .put-word .ensures) (c .before .before .before .default-word .ensures) (c .before .before .put-word2 .ensures)
+
+pub put-attribute-instance-spec : {M : Type 1} → statement M
+put-attribute-instance-spec =
+    tie.close
+    (tie.spec
+    mul-flags
+    default-number-requires
+    mul-flags-2
+    add-flags
+    plain-word-requires
+    put-word-requires
+    add-put-word
+    default-word-requires
+    put-word-requires-2
+    same-length
+    returns)

@@ -1,0 +1,41 @@
+use borrow.Author.Needs.{needs}
+use Rattle.items.proofs.endpoints.value_number.Statement.{statement}
+use Rattle.items.proofs.endpoints.value_number.Tie as tie
+use mathlib.Core.Path.{sym, ap}
+use mathlib.Core.Option.{some}
+use Rattle.items.specs.records.{default-number}
+use Rattle.items.specs.answers.endpoints.{valueOf}
+use Rattle.items.specs.declared.endpoints.DefaultValue.{DefaultValue}
+
+enum-told : tie.Need-enum-told
+enum-told c = search needs
+
+enum-told-2 : tie.Need-enum-told-2
+enum-told-2 c = search needs
+
+enum-told-3 : tie.Need-enum-told-3
+enum-told-3 c = search needs
+
+enum-told-4 : tie.Need-enum-told-4
+enum-told-4 c = search needs
+
+returns : tie.Need-returns
+unfolding default-number
+returns c = sym (ap (λ (x : DefaultValue). default-number (some (valueOf x))) (c .enum-told .given .1))
+
+returns-2 : tie.Need-returns-2
+unfolding default-number
+returns-2 c = sym (ap (λ (x : DefaultValue). default-number (some (valueOf x))) (c .enum-told2 .given .1))
+
+returns-3 : tie.Need-returns-3
+unfolding default-number
+returns-3 c = sym (ap (λ (x : DefaultValue). default-number (some (valueOf x))) (c .enum-told3 .given .1))
+
+returns-4 : tie.Need-returns-4
+unfolding default-number
+returns-4 c = sym (ap (λ (x : DefaultValue). default-number (some (valueOf x))) (c .enum-told4 .given .1))
+
+pub value-number-spec : {M : Type 1} → statement M
+value-number-spec =
+    tie.close
+    (tie.spec enum-told enum-told-2 enum-told-3 enum-told-4 returns returns-2 returns-3 returns-4)

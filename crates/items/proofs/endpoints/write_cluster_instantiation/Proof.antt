@@ -1,0 +1,56 @@
+use borrow.Author.Needs.{needs}
+use Rattle.items.proofs.endpoints.write_cluster_instantiation.Statement.{statement}
+use Rattle.items.proofs.endpoints.write_cluster_instantiation.Tie as tie
+use mathlib.Core.Path.{refl, sym, ap}
+use native.Mathlib.Omega.{arith}
+use Rattle.lexing.proofs.Slicing.{rest-self}
+use Rattle.items.specs.answers.endpoints.{namedLost}
+use Rattle.items.proofs.Answers.{read-lost}
+use Rattle.items.proofs.Headed.{headed-found, headed-room, headed-written}
+use Rattle.items.proofs.writing.Laws.{written-same}
+use Rattle.items.proofs.endpoints.Laws.{named-in, named-took, instances-on, instantiation-head-on, instantiation-headed, instantiation-first-is, name-in-limit}
+
+instantiation-head-requires : tie.Need-instantiation-head-requires
+instantiation-head-requires c κs = search needs
+
+enum-known-head : tie.Need-enum-known-head
+enum-known-head c = search needs
+
+enum-told : tie.Need-enum-told
+enum-told c = search needs
+
+returns : tie.Need-returns
+returns c = absurd (headed-found instantiation-headed tt (c .before .before .before .before .before .pre .1) (c .enum-told .given .0 .0) (read-lost (c .before .before .instantiation-head .ensures) (c .enum-told .given .1) namedLost (sym (ap namedLost (c .enum-told .given .1))) refl))
+
+rest-at-requires : tie.Need-rest-at-requires
+rest-at-requires c κs = omega (arith, (named-took (c .before .before .before .instantiation-head .ensures) (c .before .head .given .1) instantiation-head-on (rest-self _ _)) .up, (named-took (c .before .before .before .instantiation-head .ensures) (c .before .head .given .1) instantiation-head-on (rest-self _ _)) .inside)
+
+add-braced-instances : tie.Need-add-braced-instances
+add-braced-instances c = let z = (headed-room instantiation-headed tt (c .before .before .before .before .before .before .before .before .pre .1) instances-on (named-took (c .before .before .before .before .before .instantiation-head .ensures) (c .before .before .before .head .given .1) instantiation-head-on (rest-self _ _)) (c .before .rest-at .ensures)) in omega (arith, z .fits)
+
+braced-instances-requires : tie.Need-braced-instances-requires
+braced-instances-requires c κs = (omega (arith, c .before .rest-at .ensures .size, c .before .before .before .before .before .before .before .before .pre .0), (headed-room instantiation-headed tt (c .before .before .before .before .before .before .before .before .pre .1) instances-on (named-took (c .before .before .before .before .before .instantiation-head .ensures) (c .before .before .before .head .given .1) instantiation-head-on (rest-self _ _)) (c .before .rest-at .ensures)))
+
+put-named-requires : tie.Need-put-named-requires
+put-named-requires c κs = let z = (headed-room instantiation-headed tt (c .before .before .before .before .before .before .before .before .before .before .before .before .pre .1) instances-on (named-took (c .before .before .before .before .before .before .before .before .before .instantiation-head .ensures) (c .before .before .before .before .before .before .before .head .given .1) instantiation-head-on (rest-self _ _)) (c .before .before .before .before .before .rest-at .ensures)) in let y = written-same z (c .before .before .before .braced-instances .ensures) refl in (omega (arith, z .fits, y), name-in-limit (named-in (c .before .before .before .before .before .before .before .before .before .instantiation-head .ensures) (c .before .before .before .before .before .before .before .head .given .1)) (omega (arith, (named-took (c .before .before .before .before .before .before .before .before .before .instantiation-head .ensures) (c .before .before .before .before .before .before .before .head .given .1) instantiation-head-on (rest-self _ _)) .inside, c .before .before .before .before .before .before .before .before .before .before .before .before .pre .0)))
+
+same-length : tie.Need-same-length
+same-length c = written-same (c .before .before .before .before .before .before .before .before .before .before .before .before .before .before .before .pre .1) (headed-written instantiation-headed tt (c .before .before .before .before .before .before .before .before .before .before .before .before .before .before .before .pre .1) instances-on (named-took (c .before .before .before .before .before .before .before .before .before .before .before .before .instantiation-head .ensures) (c .before .before .before .before .before .before .before .before .before .before .head .given .1) instantiation-head-on (rest-self _ _)) (c .before .before .before .before .before .before .before .before .rest-at .ensures) (c .before .before .before .before .before .before .braced-instances .ensures) refl (instantiation-first-is _ (c .before .before .before .before .before .before .before .before .before .before .before .before .before .before .before .args .part .now) _ (named-in (c .before .before .before .before .before .before .before .before .before .before .before .before .instantiation-head .ensures) (c .before .before .before .before .before .before .before .before .before .before .head .given .1)) ((named-took (c .before .before .before .before .before .before .before .before .before .before .before .before .instantiation-head .ensures) (c .before .before .before .before .before .before .before .before .before .before .head .given .1) instantiation-head-on (rest-self _ _)) .inside)) (c .before .before .put-named .ensures)) refl
+
+returns-2 : tie.Need-returns-2
+returns-2 c = (headed-written instantiation-headed tt (c .before .before .before .before .before .before .before .before .before .before .before .before .before .before .before .pre .1) instances-on (named-took (c .before .before .before .before .before .before .before .before .before .before .before .before .instantiation-head .ensures) (c .before .before .before .before .before .before .before .before .before .before .head .given .1) instantiation-head-on (rest-self _ _)) (c .before .before .before .before .before .before .before .before .rest-at .ensures) (c .before .before .before .before .before .before .braced-instances .ensures) refl (instantiation-first-is _ (c .before .before .before .before .before .before .before .before .before .before .before .before .before .before .before .args .part .now) _ (named-in (c .before .before .before .before .before .before .before .before .before .before .before .before .instantiation-head .ensures) (c .before .before .before .before .before .before .before .before .before .before .head .given .1)) ((named-took (c .before .before .before .before .before .before .before .before .before .before .before .before .instantiation-head .ensures) (c .before .before .before .before .before .before .before .before .before .before .head .given .1) instantiation-head-on (rest-self _ _)) .inside)) (c .before .before .put-named .ensures))
+
+pub write-cluster-instantiation-spec : {M : Type 1} → statement M
+write-cluster-instantiation-spec =
+    tie.close
+    (tie.spec
+    instantiation-head-requires
+    enum-known-head
+    enum-told
+    returns
+    rest-at-requires
+    add-braced-instances
+    braced-instances-requires
+    put-named-requires
+    same-length
+    returns-2)
