@@ -2,6 +2,7 @@
 pub mod entries
 pub mod structs
 pub mod choices
+pub mod clusters
 pub mod members
 pub mod attributes
 pub mod endpoints

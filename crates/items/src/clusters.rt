@@ -3,15 +3,29 @@ ghost use mathlib.Core.Path.{_≡_};
 ghost use mathlib.Core.List.{[], _∷_};
 ghost use Prim.Native.Nat.{_+_, _≤_};
 ghost use lib.ListN.{length};
-ghost use Rattle.lexing.specs.reply.{ok};
-ghost use Rattle.lexing.specs.words.{any-keyword};
+ghost use Rattle.lexing.specs.bytes.{ascii};
+ghost use Rattle.lexing.specs.reply.{ok, fail};
+ghost use Rattle.lexing.specs.words.{keyword, any-keyword};
+ghost use Rattle.lexing.specs.answers.{wordReply};
+ghost use Rattle.lexing.specs.declared.answers.Step.the-variants.{Next};
 ghost use Rattle.lexing.specs.blanks.{no-doc, whitespace0};
 ghost use Rattle.items.specs.layout.{text-limit};
-ghost use Rattle.items.specs.inner.clusters.{struct-words, attribute-words, command-words, event-words, found, OtherWord, KindTo, WordKindTo};
+ghost use Rattle.items.specs.inner.clusters.{struct-words, attribute-words, command-words, event-words, found, KindTo};
+ghost use Rattle.items.specs.clusters.{parse-revision};
+ghost use Rattle.items.specs.answers.clusters.{RevisionTo, MemberCountTo};
+use crate::counts::Count;
 use lexing::answers::Step;
+use lexing::answers::step_lost;
+use lexing::blanks::Gap;
+use lexing::blanks::gap_lost;
 use lexing::blanks::whitespace0;
+use lexing::blanks::whitespace1;
+use lexing::integers::Number;
+use lexing::integers::number_lost;
+use lexing::integers::positive_integer;
 use lexing::parts::rest_at;
 use lexing::words::keyword;
+use lexing::words::tag;
 
 // What a member is by its first word.
 pub enum MemberKind {
@@ -111,7 +125,8 @@ fn starts_event(part: &[u8], base: usize) -> bool
 fn word_kind(part: &[u8], base: usize) -> MemberKind
     requires { ⌜ base + length (now part) ≤ text-limit ⌝ }
     requires { ⌜ whitespace0 base (now part) ≡ ok no-doc base (now part) ⌝ }
-    ensures { λ r. ⌜ WordKindTo r base (now (part .entry)) ⌝ }
+    requires { ⌜ keyword (ascii "shared") base (now part) ≡ fail base ⌝ }
+    ensures { λ r. ⌜ KindTo (record { kind = r; floor = base }) base (now (part .entry)) ⌝ }
 {
     if starts_attribute(part, base) {
         return MemberKind::Attribute;
@@ -137,20 +152,13 @@ fn word_kind(part: &[u8], base: usize) -> MemberKind
     MemberKind::Unknown
 }
 
-// The same, where the first word can be `shared`: the word behind it decides.
-fn shared_kind(part: &[u8], base: usize) -> Candidate
+// The kind behind `shared`, which ends at c1: the word behind it decides.
+fn shared_kind(part: &[u8], base: usize, c1: usize) -> Candidate
     requires { ⌜ base + length (now part) ≤ text-limit ⌝ }
     requires { ⌜ whitespace0 base (now part) ≡ ok no-doc base (now part) ⌝ }
-    requires { ⌜ OtherWord base (now part) ⌝ }
+    requires { ⌜ wordReply (Next c1) base (now part) ≡ keyword (ascii "shared") base (now part) ⌝ }
     ensures { λ r. ⌜ KindTo r base (now (part .entry)) ⌝ }
 {
-    let word = keyword(part, base, b"shared");
-    let Step::Next(c1) = word else {
-        return Candidate {
-            kind: MemberKind::Unknown,
-            floor: base,
-        };
-    };
     let w = whitespace0(rest_at(part, base, c1), c1);
     let floor = w.next;
     if floor == c1 {
@@ -175,4 +183,56 @@ fn shared_kind(part: &[u8], base: usize) -> Candidate
         kind: MemberKind::Struct,
         floor,
     }
+}
+
+// What a member is, where no blank stands before it.
+fn member_kind(part: &[u8], base: usize) -> Candidate
+    requires { ⌜ base + length (now part) ≤ text-limit ⌝ }
+    requires { ⌜ whitespace0 base (now part) ≡ ok no-doc base (now part) ⌝ }
+    ensures { λ r. ⌜ KindTo r base (now (part .entry)) ⌝ }
+{
+    let word = keyword(part, base, b"shared");
+    let Step::Next(c1) = word else {
+        let kind = word_kind(part, base);
+        return Candidate { kind, floor: base };
+    };
+    shared_kind(part, base, c1)
+}
+
+pub fn parse_revision(part: &[u8], base: usize) -> Number
+    requires { ⌜ base + length (now part) ≤ text-limit ⌝ }
+    ensures { λ r. ⌜ RevisionTo r base (now (part .entry)) ⌝ }
+{
+    let key = keyword(part, base, b"revision");
+    let Step::Next(c1) = key else {
+        return Number::NoNumber(step_lost(key));
+    };
+    let gap = whitespace1(rest_at(part, base, c1), c1);
+    let Gap::Passed(w1) = gap else {
+        return Number::NoNumber(gap_lost(gap));
+    };
+    let c2 = w1.next;
+    let number = positive_integer(rest_at(part, base, c2), c2);
+    let Number::Value(n, c3) = number else {
+        return Number::NoNumber(number_lost(number));
+    };
+    let w2 = whitespace0(rest_at(part, base, c3), c3);
+    let c4 = w2.next;
+    let semicolon = tag(rest_at(part, base, c4), c4, b';');
+    let Step::Next(c5) = semicolon else {
+        return Number::NoNumber(step_lost(semicolon));
+    };
+    Number::Value(n, c5)
+}
+
+// A revision takes no words of its own.
+fn count_revision(part: &[u8], base: usize) -> Count
+    requires { ⌜ base + length (now part) ≤ text-limit ⌝ }
+    ensures { λ r. ⌜ MemberCountTo parse-revision r base (now (part .entry)) ⌝ }
+{
+    let r = parse_revision(part, base);
+    let Number::Value(_, c) = r else {
+        return Count::NoCount(number_lost(r));
+    };
+    Count::Words(0, c)
 }

@@ -23,10 +23,19 @@ use Rattle.lexing.proofs.FirstWord.{Starts, starts-of, Frees, free-set, StartsA
 use Rattle.lexing.proofs.words.Laws.{keyword-says}
 use Rattle.items.specs.entries.{shared-before, choice-head, choice-after-doc-maturity, parse-bitmap-after-doc-maturity, parse-enum-after-doc-maturity}
 use Rattle.items.specs.structs.{struct-head, parse-struct-after-doc-maturity}
-use Rattle.items.specs.clusters.{Member, member-tries}
-use Rattle.items.specs.inner.clusters.{OtherWord, revision-words, bitmap-words, enum-words, struct-words, attribute-words, command-words, event-words, found, raised, member-try, KindTo}
+use Rattle.items.specs.clusters.{Member, revision, parse-revision, member-tries}
+use Rattle.items.specs.records.{member-records}
+use Rattle.items.specs.layout.{word-count}
+use Rattle.items.specs.answers.clusters.{RevisionTo, MemberCountTo}
+use Rattle.lexing.specs.declared.integers.Number.{Number}
+use Rattle.lexing.specs.declared.integers.Number.the-variants.{Value}
+use Rattle.items.specs.declared.counts.Count.the-variants.{Words, NoCount}
+use Rattle.items.specs.inner.clusters.{revision-words, bitmap-words, enum-words, struct-words, attribute-words, command-words, event-words, found, raised, member-try, KindTo}
 use Rattle.items.specs.declared.clusters.MemberKind.{MemberKind}
 use Rattle.items.specs.declared.clusters.MemberKind.the-variants.{Revision, Bitmap, Enum, Struct, Attribute, Command, Event, Unknown}
+use Rattle.items.proofs.RecordWords.{word-count-none}
+use Rattle.items.proofs.counts.Laws.{read-counted, count-not}
+use Rattle.items.proofs.Locality.{parse-revision-consumes as revision-consumes}
 use Rattle.items.proofs.Tries.{bind-ok, bind-fail, then-ok, then-fail, opt-none, opt-some, mapped-fail, revision-elsewhere, choice-elsewhere, struct-elsewhere, attribute-elsewhere, command-elsewhere, event-elsewhere}
 
 -- a keyword is there or fails at its start
@@ -253,6 +262,16 @@ as-enum : (b : ℕ) (u : List ℕ) (d : Doc) (m : ℕ) {p : ℕ} → choice-afte
 unfolding member-try parse-enum-after-doc-maturity
 as-enum b u d m e = mapped-fail _ _ e
 
+-- no word that a member can start with, but for `shared`
+pub record OtherWord (b : ℕ) (u : List ℕ) : Type 0 where
+  pub revision : found (any-keyword revision-words b u) ≡ false
+  pub bitmap : found (any-keyword (ascii "bitmap" ∷ []) b u) ≡ false
+  pub enum : found (any-keyword (ascii "enum" ∷ []) b u) ≡ false
+  pub struct : found (any-keyword struct-words b u) ≡ false
+  pub attribute : found (any-keyword attribute-words b u) ≡ false
+  pub command : found (any-keyword command-words b u) ≡ false
+  pub event : found (any-keyword event-words b u) ≡ false
+
 -- the first word of each kind leaves its try
 module _ (b : ℕ) (u : List ℕ) (clear : whitespace0 b u ≡ ok no-doc b u) where
   pub at-revision : StartsAny revision-words u → KindTo (record { kind = Revision; floor = b }) b u
@@ -401,9 +420,9 @@ module _ (b : ℕ) (u : List ℕ) (clear : whitespace0 b u ≡ ok no-doc b u) wh
 pub keyword-absent : (k : List ℕ) (b : ℕ) (u : List ℕ) (a : Step) → wordReply a b u ≡ keyword k b u → (l : Lost) → a ≡ Not l → keyword k b u ≡ fail b
 keyword-absent k b u a h l e = frees-all (k ∷ []) b u (sym (starts-no k b u a h l e)) .0
 
-module _ (b : ℕ) (u : List ℕ) (clear : whitespace0 b u ≡ ok no-doc b u) (a : Step) (k : wordReply a b u ≡ keyword (ascii "shared") b u) (c : ℕ) (e : a ≡ Next c) {r : List ℕ} (q : Rest b u c r) (t : Blank) (w : BlankTo t c r) where
+module _ (b : ℕ) (u : List ℕ) (clear : whitespace0 b u ≡ ok no-doc b u) (c : ℕ) (k : wordReply (Next c) b u ≡ keyword (ascii "shared") b u) {r : List ℕ} (q : Rest b u c r) (t : Blank) (w : BlankTo t c r) where
   word-is : keyword (ascii "shared") b u ≡ ok (wordAt b u c) c (drop (c - b) u)
-  word-is = sym (told-next (wordAt b u) a c b u (keyword (ascii "shared") b u) e k)
+  word-is = sym k
 
   blank : Took whitespace0 b u c (docOf (t .doc)) (t .next)
   blank = blank-took q w
@@ -427,6 +446,9 @@ module _ (b : ℕ) (u : List ℕ) (clear : whitespace0 b u ≡ ok no-doc b u) (a
     pub kind-struct : Frees (t .next) (drop (t .next - b) u) (ascii "bitmap" ∷ []) → Frees (t .next) (drop (t .next - b) u) (ascii "enum" ∷ []) → KindTo (record { kind = Struct; floor = t .next }) b u
     kind-struct f f' = at-shared-struct b u clear word-is behind (blank .goes) up f f'
 
+pub keyword-read : (k : List ℕ) (b : ℕ) (u : List ℕ) (a : Step) (c : ℕ) → a ≡ Next c → wordReply a b u ≡ keyword k b u → wordReply (Next c) b u ≡ keyword k b u
+keyword-read k b u a c e h = told-next (wordAt b u) a c b u (keyword k b u) e h
+
 -- a test at a rest of the part
 module _ {b n : ℕ} {u r : List ℕ} (q : Rest b u n r) (k : List ℕ) {x : Bool} (h : x ≡ found (any-keyword (k ∷ []) n r)) where
   seen : x ≡ found (any-keyword (k ∷ []) n (drop (n - b) u))
@@ -437,3 +459,14 @@ module _ {b n : ℕ} {u r : List ℕ} (q : Rest b u n r) (k : List ℕ) {x : Boo
 
   pub rest-frees : x ≡ false → Frees n (drop (n - b) u) (k ∷ [])
   rest-frees e = frees-all (k ∷ []) n (drop (n - b) u) (sym seen ∙ e)
+
+-- a revision takes no words
+no-words : (p n : ℕ) → word-count (member-records (λ x. p) (revision n)) ≡ 0
+unfolding member-records
+no-words p n = word-count-none
+
+pub revision-counted : {a : Number} {b : ℕ} {u : List ℕ} {n c : ℕ} → RevisionTo a b u → a ≡ Value n c → MemberCountTo parse-revision (Words 0 c) b u
+revision-counted {n = n} h e = record { counts = λ p. read-counted (member-records (λ x. p)) revision-consumes h e refl (no-words p n) (omega arith) }
+
+pub revision-lost : (l : Lost) {b : ℕ} {u : List ℕ} → lostReply l ≡ parse-revision b u → MemberCountTo parse-revision (NoCount l) b u
+revision-lost l {b} {u} e = record { counts = λ p. count-not (member-records (λ x. p)) parse-revision b u l e }

@@ -5,7 +5,6 @@ use mathlib.Core.Bool.{Bool, true, false}
 use mathlib.Core.List.{List, [], _∷_}
 use Rattle.lexing.specs.bytes.{ascii}
 use Rattle.lexing.specs.reply.{Reply, ok, fail, stop, Parser}
-use Rattle.lexing.specs.words.{any-keyword}
 use Rattle.lexing.specs.blanks.{Doc}
 use Rattle.items.specs.entries.{parse-bitmap-after-doc-maturity, parse-enum-after-doc-maturity}
 use Rattle.items.specs.structs.{parse-struct-after-doc-maturity}
@@ -43,16 +42,6 @@ found (ok a c r) = true
 found (fail p) = false
 found (stop n p) = false
 
--- no word that a member can start with, but for `shared`
-pub record OtherWord (b : ℕ) (u : List ℕ) : Type 0 where
-  pub revision : found (any-keyword revision-words b u) ≡ false
-  pub bitmap : found (any-keyword (ascii "bitmap" ∷ []) b u) ≡ false
-  pub enum : found (any-keyword (ascii "enum" ∷ []) b u) ≡ false
-  pub struct : found (any-keyword struct-words b u) ≡ false
-  pub attribute : found (any-keyword attribute-words b u) ≡ false
-  pub command : found (any-keyword command-words b u) ≡ false
-  pub event : found (any-keyword event-words b u) ≡ false
-
 -- a reply that fails no earlier than at q
 abbrev pub raised : {A : Type 0} → ℕ → Reply A → Reply A
 raised q (ok a c r) = ok a c r
@@ -73,14 +62,3 @@ member-try Unknown d m = λ b u. fail b
 -- the tries of a member are that of its kind: the others fail, no further than at the floor
 pub record KindTo (r : Candidate) (b : ℕ) (u : List ℕ) : Type 0 where
   pub tries : (d : Doc) (m : ℕ) → member-tries d m b u ≡ raised (r .floor) (member-try (r .kind) d m b u)
-
--- the kind that a first word says, or none of the words
-abbrev pub WordKindTo : MemberKind → ℕ → List ℕ → Type 0
-WordKindTo Revision b u = KindTo (record { kind = Revision; floor = b }) b u
-WordKindTo Bitmap b u = KindTo (record { kind = Bitmap; floor = b }) b u
-WordKindTo Enum b u = KindTo (record { kind = Enum; floor = b }) b u
-WordKindTo Struct b u = KindTo (record { kind = Struct; floor = b }) b u
-WordKindTo Attribute b u = KindTo (record { kind = Attribute; floor = b }) b u
-WordKindTo Command b u = KindTo (record { kind = Command; floor = b }) b u
-WordKindTo Event b u = KindTo (record { kind = Event; floor = b }) b u
-WordKindTo Unknown b u = OtherWord b u

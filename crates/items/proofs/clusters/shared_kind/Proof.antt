@@ -1,34 +1,20 @@
 use borrow.Author.Needs.{needs}
 use Rattle.items.proofs.clusters.shared_kind.Statement.{statement}
 use Rattle.items.proofs.clusters.shared_kind.Tie as tie
+use mathlib.Core.Path.{refl}
 use native.Mathlib.Omega.{arith}
 use Rattle.lexing.specs.bytes.{ascii}
 use Rattle.lexing.proofs.Slicing.{rest-self, keyword-took, blank-took}
-use Rattle.items.proofs.clusters.Laws.{at-other, keyword-absent, kind-alone, kind-bitmap, kind-enum, kind-struct, rest-starts, rest-frees}
-
-slice-aggregate-keyword : tie.Need-slice-aggregate-keyword
-slice-aggregate-keyword c = search needs
-
-keyword-requires : tie.Need-keyword-requires
-keyword-requires c κs = search needs
-
-enum-known-word : tie.Need-enum-known-word
-enum-known-word c = search needs
-
-enum-told : tie.Need-enum-told
-enum-told c = search needs
-
-returns : tie.Need-returns
-returns c = at-other _ _ (c .before .before .before .before .before .pre .1 .0) (c .before .before .before .before .before .pre .1 .1) (keyword-absent _ _ _ _ (c .before .before .keyword .ensures) _ (c .enum-told .given .1))
+use Rattle.items.proofs.clusters.Laws.{kind-alone, kind-bitmap, kind-enum, kind-struct, rest-starts, rest-frees}
 
 rest-at-requires : tie.Need-rest-at-requires
-rest-at-requires c κs = omega (arith, (keyword-took (rest-self _ _) (c .before .word .given .1) (ascii "shared") (c .before .before .before .keyword .ensures)) .up, (keyword-took (rest-self _ _) (c .before .word .given .1) (ascii "shared") (c .before .before .before .keyword .ensures)) .inside)
+rest-at-requires c κs = omega (arith, (keyword-took (rest-self _ _) refl (ascii "shared") (c .before .pre .1 .1)) .up, (keyword-took (rest-self _ _) refl (ascii "shared") (c .before .pre .1 .1)) .inside)
 
 whitespace0-requires : tie.Need-whitespace0-requires
-whitespace0-requires c κs = omega (arith, c .rest-at .ensures .size, c .before .before .before .before .before .before .before .pre .0)
+whitespace0-requires c κs = omega (arith, c .rest-at .ensures .size, c .before .before .pre .0)
 
-returns-2 : tie.Need-returns-2
-returns-2 c = kind-alone _ _ (c .before .before .before .before .before .before .before .before .before .pre .1 .0) _ (c .before .before .before .before .before .before .keyword .ensures) _ (c .before .before .before .before .word .given .1) (c .before .before .rest-at .ensures) _ (c .before .whitespace0 .ensures) (c .if1 .taken)
+returns : tie.Need-returns
+returns c = kind-alone _ _ (c .before .before .before .before .pre .1 .0) _ (c .before .before .before .before .pre .1 .1) (c .before .before .rest-at .ensures) _ (c .before .whitespace0 .ensures) (c .if1 .taken)
 
 rest-at-requires-2 : tie.Need-rest-at-requires-2
 rest-at-requires-2 c κs = omega (arith, (blank-took (c .before .before .rest-at .ensures) (c .before .whitespace0 .ensures)) .up, (blank-took (c .before .before .rest-at .ensures) (c .before .whitespace0 .ensures)) .inside, c .before .before .rest-at .ensures .from)
@@ -37,10 +23,10 @@ slice-aggregate-starts : tie.Need-slice-aggregate-starts
 slice-aggregate-starts c = search needs
 
 starts-requires : tie.Need-starts-requires
-starts-requires c κs = omega (arith, c .before .rest-at2 .ensures .size, c .before .before .before .before .before .before .before .before .before .before .before .pre .0)
+starts-requires c κs = omega (arith, c .before .rest-at2 .ensures .size, c .before .before .before .before .before .before .pre .0)
 
-returns-3 : tie.Need-returns-3
-returns-3 c = kind-bitmap _ _ (c .before .before .before .before .before .before .before .before .before .before .before .before .before .pre .1 .0) _ (c .before .before .before .before .before .before .before .before .before .before .keyword .ensures) _ (c .before .before .before .before .before .before .before .before .word .given .1) (c .before .before .before .before .before .before .rest-at .ensures) _ (c .before .before .before .before .before .whitespace0 .ensures) (c .before .before .before .before .if1 .left) (rest-starts (c .before .before .before .rest-at2 .ensures) (ascii "bitmap") (c .before .starts .ensures) (c .if2 .taken))
+returns-2 : tie.Need-returns-2
+returns-2 c = kind-bitmap _ _ (c .before .before .before .before .before .before .before .before .pre .1 .0) _ (c .before .before .before .before .before .before .before .before .pre .1 .1) (c .before .before .before .before .before .before .rest-at .ensures) _ (c .before .before .before .before .before .whitespace0 .ensures) (c .before .before .before .before .if1 .left) (rest-starts (c .before .before .before .rest-at2 .ensures) (ascii "bitmap") (c .before .starts .ensures) (c .if2 .taken))
 
 rest-at-requires-3 : tie.Need-rest-at-requires-3
 rest-at-requires-3 c κs = omega (arith, (blank-took (c .before .before .before .before .before .before .rest-at .ensures) (c .before .before .before .before .before .whitespace0 .ensures)) .up, (blank-took (c .before .before .before .before .before .before .rest-at .ensures) (c .before .before .before .before .before .whitespace0 .ensures)) .inside, c .before .before .before .before .before .before .rest-at .ensures .from)
@@ -49,32 +35,27 @@ slice-aggregate-starts-2 : tie.Need-slice-aggregate-starts-2
 slice-aggregate-starts-2 c = search needs
 
 starts-requires-2 : tie.Need-starts-requires-2
-starts-requires-2 c κs = omega (arith, c .before .rest-at3 .ensures .size, c .before .before .before .before .before .before .before .before .before .before .before .before .before .before .before .pre .0)
+starts-requires-2 c κs = omega (arith, c .before .rest-at3 .ensures .size, c .before .before .before .before .before .before .before .before .before .before .pre .0)
+
+returns-3 : tie.Need-returns-3
+returns-3 c = kind-enum _ _ (c .before .before .before .before .before .before .before .before .before .before .before .before .pre .1 .0) _ (c .before .before .before .before .before .before .before .before .before .before .before .before .pre .1 .1) (c .before .before .before .before .before .before .before .before .before .before .rest-at .ensures) _ (c .before .before .before .before .before .before .before .before .before .whitespace0 .ensures) (c .before .before .before .before .before .before .before .before .if1 .left) (rest-starts (c .before .before .before .rest-at3 .ensures) (ascii "enum") (c .before .starts2 .ensures) (c .if3 .taken))
 
 returns-4 : tie.Need-returns-4
-returns-4 c = kind-enum _ _ (c .before .before .before .before .before .before .before .before .before .before .before .before .before .before .before .before .before .pre .1 .0) _ (c .before .before .before .before .before .before .before .before .before .before .before .before .before .before .keyword .ensures) _ (c .before .before .before .before .before .before .before .before .before .before .before .before .word .given .1) (c .before .before .before .before .before .before .before .before .before .before .rest-at .ensures) _ (c .before .before .before .before .before .before .before .before .before .whitespace0 .ensures) (c .before .before .before .before .before .before .before .before .if1 .left) (rest-starts (c .before .before .before .rest-at3 .ensures) (ascii "enum") (c .before .starts2 .ensures) (c .if3 .taken))
-
-returns-5 : tie.Need-returns-5
-returns-5 c = kind-struct _ _ (c .before .before .before .before .before .before .before .before .before .before .before .before .before .before .before .before .before .pre .1 .0) _ (c .before .before .before .before .before .before .before .before .before .before .before .before .before .before .keyword .ensures) _ (c .before .before .before .before .before .before .before .before .before .before .before .before .word .given .1) (c .before .before .before .before .before .before .before .before .before .before .rest-at .ensures) _ (c .before .before .before .before .before .before .before .before .before .whitespace0 .ensures) (c .before .before .before .before .before .before .before .before .if1 .left) (rest-frees (c .before .before .before .before .before .before .before .rest-at2 .ensures) (ascii "bitmap") (c .before .before .before .before .before .starts .ensures) (c .before .before .before .before .if2 .left)) (rest-frees (c .before .before .before .rest-at3 .ensures) (ascii "enum") (c .before .starts2 .ensures) (c .if3 .left))
+returns-4 c = kind-struct _ _ (c .before .before .before .before .before .before .before .before .before .before .before .before .pre .1 .0) _ (c .before .before .before .before .before .before .before .before .before .before .before .before .pre .1 .1) (c .before .before .before .before .before .before .before .before .before .before .rest-at .ensures) _ (c .before .before .before .before .before .before .before .before .before .whitespace0 .ensures) (c .before .before .before .before .before .before .before .before .if1 .left) (rest-frees (c .before .before .before .before .before .before .before .rest-at2 .ensures) (ascii "bitmap") (c .before .before .before .before .before .starts .ensures) (c .before .before .before .before .if2 .left)) (rest-frees (c .before .before .before .rest-at3 .ensures) (ascii "enum") (c .before .starts2 .ensures) (c .if3 .left))
 
 pub shared-kind-spec : {M : Type 1} → statement M
 shared-kind-spec =
     tie.close
     (tie.spec
-    slice-aggregate-keyword
-    keyword-requires
-    enum-known-word
-    enum-told
-    returns
     rest-at-requires
     whitespace0-requires
-    returns-2
+    returns
     rest-at-requires-2
     slice-aggregate-starts
     starts-requires
-    returns-3
+    returns-2
     rest-at-requires-3
     slice-aggregate-starts-2
     starts-requires-2
-    returns-4
-    returns-5)
+    returns-3
+    returns-4)
