@@ -85,3 +85,12 @@ mapped-after {m = m} {k = k} g w (got v c) {b = b} {u = u} t q h =
     mapped-ok g (m >> k) b u (s .value) c (drop (c - b) u) (s .is) (begin (m >> k) b u (on k t (sym (s .step .goes))))
 mapped-after {m = m} {k = k} g w (lost l) {b = b} {n = n} {u = u} {r = r} t q h =
     mapped-not g (m >> k) b u l (begin (m >> k) b u (on k t (lost-as g k n r l h ∙ ap (k n) (q .same))))
+
+-- two changes are one
+through-twice : {A B C : Type 0} (f : A → B) (g : B → C) (x : Reply A) → through g (through f x) ≡ through (λ a. g (f a)) x
+through-twice f g (ok a c r) = refl
+through-twice f g (fail p) = refl
+through-twice f g (stop n p) = refl
+
+pub mapped-twice : {A B C : Type 0} (m : Parser A) (f : A → B) (g : B → C) (b : ℕ) (u : List ℕ) → mapped m (λ a. g (f a)) b u ≡ mapped (mapped m f) g b u
+mapped-twice m f g b u = mapped-is (λ a. g (f a)) m b u ∙ (sym (through-twice f g (m b u)) ∙ (ap (through g) (sym (mapped-is f m b u)) ∙ sym (mapped-is g (mapped m f) b u)))

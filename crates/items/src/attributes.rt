@@ -7,11 +7,12 @@ ghost use Rattle.lexing.specs.answers.{docOf, tagReply};
 ghost use Rattle.items.specs.layout.{text-limit, layout-20, catalogue-bytes};
 ghost use Rattle.items.specs.buffers.{put};
 ghost use Rattle.items.specs.records.{attribute-records};
-ghost use Rattle.items.specs.answers.{FrontFits, Room, Written};
+ghost use Rattle.items.specs.answers.{CountTo, FrontFits, Room, Written};
 ghost use Rattle.lexing.specs.reply.{many0};
 ghost use Rattle.items.specs.members.{access-entry, comma, separated-list0, access-list, parse-attribute-after-doc-maturity};
 ghost use Rattle.items.specs.answers.attributes.{PrivilegesTo, privilegesLost, attributeLost, AttributeBetween, AttributeTo};
 ghost use Rattle.items.specs.inner.attributes.{operationBy, operationLost, OperationTo, grantBy, accessLost, AccessTo, separated-entry, grantsWith, grantsSmall, listLost, listEnd, ListTo, no-grants, optionalList, attributeFront, attribute-parts};
+use crate::counts::Count;
 use crate::members::Level;
 use crate::members::access_privilege;
 use crate::members::level_lost;
@@ -443,4 +444,16 @@ pub fn write_attribute(
         next: c,
         to: at + 48,
     }
+}
+
+// The first pass over an attribute: two words, and the four of its field.
+pub fn count_attribute(part: &[u8], base: usize, doc: DocSpan, maturity: u8) -> Count
+    requires { ⌜ base + length (now part) ≤ text-limit ⌝ }
+    ensures { λ r. ⌜ CountTo attribute-records (parse-attribute-after-doc-maturity (docOf doc) maturity) r base (now (part .entry)) ⌝ }
+{
+    let r = parse_attribute_after_doc_maturity(part, base, doc, maturity);
+    let AttributeRead::Attribute(_, c) = r else {
+        return Count::NoCount(attribute_lost(r));
+    };
+    Count::Words(6, c)
 }

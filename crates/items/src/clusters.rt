@@ -6,16 +6,25 @@ ghost use lib.ListN.{length};
 ghost use Rattle.lexing.specs.bytes.{ascii};
 ghost use Rattle.lexing.specs.reply.{ok, fail};
 ghost use Rattle.lexing.specs.words.{keyword, any-keyword};
-ghost use Rattle.lexing.specs.answers.{wordReply};
+ghost use Rattle.lexing.specs.answers.{wordReply, docOf};
 ghost use Rattle.lexing.specs.declared.answers.Step.the-variants.{Next};
 ghost use Rattle.lexing.specs.blanks.{no-doc, whitespace0};
 ghost use Rattle.items.specs.layout.{text-limit};
-ghost use Rattle.items.specs.inner.clusters.{struct-words, attribute-words, command-words, event-words, found, KindTo};
-ghost use Rattle.items.specs.clusters.{parse-revision};
+ghost use Rattle.items.specs.inner.clusters.{struct-words, attribute-words, command-words, event-words, found, KindTo, member-try, countRaised};
+ghost use Rattle.items.specs.clusters.{parse-revision, member-tries, parse-cluster-member};
 ghost use Rattle.items.specs.answers.clusters.{RevisionTo, MemberCountTo};
+use crate::attributes::count_attribute;
+use crate::choices::choice_after_doc_maturity;
 use crate::counts::Count;
+use crate::endpoints::further;
+use crate::maturity::api_maturity;
+use crate::members::count_command;
+use crate::members::parse_event_after_doc_maturity;
+use crate::structs::parse_struct_after_doc_maturity;
+use lexing::answers::Lost;
 use lexing::answers::Step;
 use lexing::answers::step_lost;
+use lexing::blanks::DocSpan;
 use lexing::blanks::Gap;
 use lexing::blanks::gap_lost;
 use lexing::blanks::whitespace0;
@@ -235,4 +244,58 @@ fn count_revision(part: &[u8], base: usize) -> Count
         return Count::NoCount(number_lost(r));
     };
     Count::Words(0, c)
+}
+
+// The first pass over a member of a kind.
+fn count_member(part: &[u8], base: usize, kind: MemberKind, doc: DocSpan, maturity: u8) -> Count
+    requires { ⌜ base + length (now part) ≤ text-limit ⌝ }
+    ensures { λ r. ⌜ MemberCountTo (member-try kind (docOf doc) maturity) r base (now (part .entry)) ⌝ }
+{
+    match kind {
+        MemberKind::Revision => count_revision(part, base),
+        MemberKind::Bitmap => choice_after_doc_maturity(part, base, b"bitmap"),
+        MemberKind::Enum => choice_after_doc_maturity(part, base, b"enum"),
+        MemberKind::Struct => parse_struct_after_doc_maturity(part, base),
+        MemberKind::Attribute => count_attribute(part, base, doc, maturity),
+        MemberKind::Command => count_command(part, base, doc, maturity),
+        MemberKind::Event => parse_event_after_doc_maturity(part, base),
+        MemberKind::Unknown => Count::NoCount(Lost::Fail(base)),
+    }
+}
+
+// A count that is lost no earlier than at a place.
+fn raise(r: Count, floor: usize) -> Count
+    ensures { λ x. ⌜ x ≡ countRaised r floor ⌝ }
+{
+    let Count::NoCount(l) = r else {
+        return r;
+    };
+    Count::NoCount(further(l, floor))
+}
+
+// The one try that a member's first word leaves.
+fn member_tries(part: &[u8], base: usize, doc: DocSpan, maturity: u8) -> Count
+    requires { ⌜ base + length (now part) ≤ text-limit ⌝ }
+    requires { ⌜ whitespace0 base (now part) ≡ ok no-doc base (now part) ⌝ }
+    ensures { λ r. ⌜ MemberCountTo (member-tries (docOf doc) maturity) r base (now (part .entry)) ⌝ }
+{
+    let k = member_kind(part, base);
+    let kind = k.kind;
+    let r = count_member(part, base, kind, doc, maturity);
+    raise(r, k.floor)
+}
+
+// The first pass over a member: its doc comment and its maturity are read once.
+pub fn parse_cluster_member(part: &[u8], base: usize) -> Count
+    requires { ⌜ base + length (now part) ≤ text-limit ⌝ }
+    ensures { λ r. ⌜ MemberCountTo parse-cluster-member r base (now (part .entry)) ⌝ }
+{
+    let w1 = whitespace0(part, base);
+    let c1 = w1.next;
+    let m = api_maturity(rest_at(part, base, c1), c1);
+    let c2 = m.next;
+    let w2 = whitespace0(rest_at(part, base, c2), c2);
+    let c3 = w2.next;
+    let doc = w1.doc;
+    member_tries(rest_at(part, base, c3), c3, doc, m.level)
 }

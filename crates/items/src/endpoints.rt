@@ -445,7 +445,7 @@ fn furthest(p: usize, q: usize) -> usize
 }
 
 // What is lost, its place no nearer than the furthest so far.
-fn further(l: Lost, q: usize) -> Lost
+pub fn further(l: Lost, q: usize) -> Lost
     ensures { λ x. ⌜ x ≡ furtherLost l q ⌝ }
 {
     match l {

@@ -9,7 +9,7 @@ ghost use Rattle.items.specs.layout.{text-limit, layout-20, further-word
 ghost use Rattle.items.specs.buffers.{put};
 ghost use Rattle.items.specs.records.{spanned, event-records};
 ghost use Rattle.items.specs.members.{access-privilege, event-priority, access-to, invoke-access, parse-event-after-doc-maturity, parse-command-after-doc-maturity};
-ghost use Rattle.items.specs.answers.{FrontFits, Room, Written};
+ghost use Rattle.items.specs.answers.{CountTo, FrontFits, Room, Written};
 ghost use Rattle.items.specs.answers.members.{levelLost, LevelTo, levelOr, eventQualitiesLost, EventQualitiesTo, eventHeadLost, EventHeadTo, EventCountTo, commandHeadLost, CommandHeadTo, commandTypesLost, CommandTypesTo, commandLost, EventHeadBetween, CommandBetween, CommandTo, command-records};
 ghost use Rattle.items.specs.inner.members.{extentIf, commandFront, command-parts, event-first};
 use crate::counts::Count;
@@ -608,4 +608,16 @@ pub fn write_event(part: &[u8], base: usize, front: FrontParts, out: &mut [u8], 
     let w = write_struct_fields(rest_at(part, base, c), c, out, at + 24);
     put_event(out, at, front, h);
     w
+}
+
+// The first pass over a command: five words.
+pub fn count_command(part: &[u8], base: usize, doc: DocSpan, maturity: u8) -> Count
+    requires { ⌜ base + length (now part) ≤ text-limit ⌝ }
+    ensures { λ r. ⌜ CountTo command-records (parse-command-after-doc-maturity (docOf doc) maturity) r base (now (part .entry)) ⌝ }
+{
+    let r = parse_command_after_doc_maturity(part, base, doc, maturity);
+    let CommandRead::Command(_, c) = r else {
+        return Count::NoCount(command_lost(r));
+    };
+    Count::Words(5, c)
 }

@@ -17,25 +17,34 @@ use Rattle.lexing.specs.declared.answers.Lost.{Lost}
 use Rattle.lexing.specs.declared.answers.Lost.the-variants.{Fail, Stop}
 use Rattle.lexing.specs.declared.answers.Step.{Step}
 use Rattle.lexing.specs.declared.answers.Step.the-variants.{Next, Not}
-use Rattle.lexing.proofs.Slicing.{Took, told-next, told-not, blank-took}
+use Rattle.lexing.proofs.Slicing.{Took, walks, told-next, told-not, blank-took}
+use Rattle.lexing.proofs.Onward.{Onward}
 use Rattle.lexing.proofs.blanks.Laws.{gap-none, gap-some}
 use Rattle.lexing.proofs.FirstWord.{Starts, starts-of, Frees, free-set, StartsAny, starts-free, blank-clear}
 use Rattle.lexing.proofs.words.Laws.{keyword-says}
 use Rattle.items.specs.entries.{shared-before, choice-head, choice-after-doc-maturity, parse-bitmap-after-doc-maturity, parse-enum-after-doc-maturity}
 use Rattle.items.specs.structs.{struct-head, parse-struct-after-doc-maturity}
-use Rattle.items.specs.clusters.{Member, revision, parse-revision, member-tries}
-use Rattle.items.specs.records.{member-records}
+use Rattle.items.specs.members.{parse-attribute-after-doc-maturity, parse-command-after-doc-maturity}
+use Rattle.items.specs.clusters.{Member, revision, bitmap, enum, struct, attribute, command, event, parse-revision, member-tries}
+use Rattle.items.specs.records.{Record, attribute-records, member-records}
 use Rattle.items.specs.layout.{word-count}
+use Rattle.items.specs.answers.{CountTo}
+use Rattle.items.specs.answers.choices.{ChoiceCountTo}
+use Rattle.items.specs.answers.structs.{StructCountTo}
+use Rattle.items.specs.answers.members.{command-records, EventCountTo}
 use Rattle.items.specs.answers.clusters.{RevisionTo, MemberCountTo}
+use Rattle.items.specs.declared.counts.Count.{Count}
+use Rattle.items.specs.declared.clusters.Candidate.{Candidate}
 use Rattle.lexing.specs.declared.integers.Number.{Number}
 use Rattle.lexing.specs.declared.integers.Number.the-variants.{Value}
 use Rattle.items.specs.declared.counts.Count.the-variants.{Words, NoCount}
-use Rattle.items.specs.inner.clusters.{revision-words, bitmap-words, enum-words, struct-words, attribute-words, command-words, event-words, found, raised, member-try, KindTo}
+use Rattle.items.specs.inner.endpoints.{furtherLost}
+use Rattle.items.specs.inner.clusters.{countRaised, revision-words, bitmap-words, enum-words, struct-words, attribute-words, command-words, event-words, found, raised, member-try, KindTo}
 use Rattle.items.specs.declared.clusters.MemberKind.{MemberKind}
 use Rattle.items.specs.declared.clusters.MemberKind.the-variants.{Revision, Bitmap, Enum, Struct, Attribute, Command, Event, Unknown}
 use Rattle.items.proofs.RecordWords.{word-count-none}
-use Rattle.items.proofs.counts.Laws.{read-counted, count-not}
-use Rattle.items.proofs.Locality.{parse-revision-consumes as revision-consumes}
+use Rattle.items.proofs.counts.Laws.{read-counted, count-is, count-not, count-lost, count-mapped, count-value}
+use Rattle.items.proofs.Locality.{parse-revision-consumes as revision-consumes, member-tries-inside}
 use Rattle.items.proofs.Tries.{bind-ok, bind-fail, then-ok, then-fail, opt-none, opt-some, mapped-fail, revision-elsewhere, choice-elsewhere, struct-elsewhere, attribute-elsewhere, command-elsewhere, event-elsewhere}
 
 -- a keyword is there or fails at its start
@@ -470,3 +479,73 @@ revision-counted {n = n} h e = record { counts = λ p. read-counted (member-reco
 
 pub revision-lost : (l : Lost) {b : ℕ} {u : List ℕ} → lostReply l ≡ parse-revision b u → MemberCountTo parse-revision (NoCount l) b u
 revision-lost l {b} {u} e = record { counts = λ p. count-not (member-records (λ x. p)) parse-revision b u l e }
+
+-- the first pass over a member of a kind
+module _ (d : Doc) (m : ℕ) (b : ℕ) (u : List ℕ) where
+  abbrev CountsKind : MemberKind → Count → Type 0
+  CountsKind k r = MemberCountTo (member-try k d m) r b u
+
+  pub kind-counts : {k x : MemberKind} {r : Count} → k ≡ x → CountsKind x r → CountsKind k r
+  kind-counts {r = r} e h = subst (λ (y : MemberKind). CountsKind y r) (sym e) h
+
+  module _ {r : Count} where
+    pub counts-revision : MemberCountTo parse-revision r b u → CountsKind Revision r
+    unfolding member-try
+    counts-revision h = h
+
+    pub counts-bitmap : ChoiceCountTo (ascii "bitmap") r b u → CountsKind Bitmap r
+    unfolding member-try parse-bitmap-after-doc-maturity member-records
+    counts-bitmap h = record { counts = λ p. count-mapped (member-records (λ x. p)) bitmap (h .counts (record { kind = 3; place = p; doc = d; maturity = m })) }
+
+    pub counts-enum : ChoiceCountTo (ascii "enum") r b u → CountsKind Enum r
+    unfolding member-try parse-enum-after-doc-maturity member-records
+    counts-enum h = record { counts = λ p. count-mapped (member-records (λ x. p)) enum (h .counts (record { kind = 2; place = p; doc = d; maturity = m })) }
+
+    pub counts-struct : StructCountTo r b u → CountsKind Struct r
+    unfolding member-try member-records
+    counts-struct h = record { counts = λ p. count-mapped (member-records (λ x. p)) struct (h .counts (record { kind = 5; place = p; doc = d; maturity = m })) }
+
+    pub counts-attribute : CountTo attribute-records (parse-attribute-after-doc-maturity d m) r b u → CountsKind Attribute r
+    unfolding member-try member-records
+    counts-attribute h = record { counts = λ p. count-mapped (member-records (λ x. p)) attribute h }
+
+    pub counts-command : CountTo command-records (parse-command-after-doc-maturity d m) r b u → CountsKind Command r
+    unfolding member-try member-records
+    counts-command h = record { counts = λ p. count-mapped (member-records (λ x. p)) command h }
+
+    pub counts-event : EventCountTo r b u → CountsKind Event r
+    unfolding member-try member-records
+    counts-event h = record { counts = λ p. count-mapped (member-records (λ x. p)) event (h .counts (record { kind = 9; place = p; doc = d; maturity = m })) }
+
+  pub counts-unknown : CountsKind Unknown (NoCount (Fail b))
+  unfolding member-try
+  counts-unknown = record { counts = λ p. count-not (member-records (λ x. p)) (member-try Unknown d m) b u (Fail b) refl }
+
+-- a count that is raised
+count-raised : {A : Type 0} (f : A → List Record) (m k : Parser A) (q : ℕ) (r : Count) (b : ℕ) (u : List ℕ) → CountTo f m r b u → k b u ≡ raised q (m b u) → CountTo f k (countRaised r q) b u
+count-raised f m k q (Words n c) b u h e =
+    let s = count-value f m b u n c h in
+    count-is f k b u (s .value) n c (s .words) (h .few) (sym (e ∙ ap (raised q) (sym (s .is))))
+count-raised f m k q (NoCount (Fail p)) b u h e =
+    let z : max p q ≡ max q p = omega arith in
+    count-not f k b u (Fail (max p q)) (ap fail z ∙ sym (e ∙ ap (raised q) (sym (count-lost (Fail p) refl b u h))))
+count-raised f m k q (NoCount (Stop n p)) b u h e = count-not f k b u (Stop n p) (sym (e ∙ ap (raised q) (sym (count-lost (Stop n p) refl b u h))))
+
+pub member-counted : (d : Doc) (m : ℕ) (b : ℕ) (u : List ℕ) (k : Candidate) (r x : Count) → KindTo k b u → MemberCountTo (member-try (k .kind) d m) r b u → x ≡ countRaised r (k .floor) → MemberCountTo (member-tries d m) x b u
+member-counted d m b u k r x h g e = record {
+  counts = λ p. subst (λ (y : Count). CountTo (member-records (λ z. p)) (member-tries d m) y b u) (sym e) (count-raised (member-records (λ z. p)) (member-try (k .kind) d m) (member-tries d m) (k .floor) r b u (g .counts p) (h .tries d m));
+}
+
+-- the answers of the raised count
+pub raise-words : (r : Count) (q n c : ℕ) → r ≡ Words n c → r ≡ countRaised r q
+raise-words r q n c e = subst (λ (x : Count). x ≡ countRaised x q) (sym e) refl
+
+pub raise-lost : (r : Count) (q : ℕ) (l x : Lost) → r ≡ NoCount l → x ≡ furtherLost l q → NoCount x ≡ countRaised r q
+raise-lost r q l x e f = ap NoCount f ∙ sym (ap (λ (y : Count). countRaised y q) e)
+
+-- no blank stands where blanks were read
+pub rest-clear : {b n c : ℕ} {u v : List ℕ} {d : Doc} → Took whitespace0 b u n d c → Rest b u c v → whitespace0 c v ≡ ok no-doc c v
+rest-clear {b} {n} {c} {u} {v} {d} t q = subst (λ (x : List ℕ). whitespace0 c x ≡ ok no-doc c x) (sym (q .same)) (blank-clear n (drop (n - b) u) d c (drop (c - b) u) (t .goes))
+
+pub member-tries-on : (d : Doc) (m : ℕ) → Onward (member-tries d m)
+member-tries-on d m = walks (member-tries-inside d m .on-chain)

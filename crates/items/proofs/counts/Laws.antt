@@ -10,15 +10,16 @@ use Rattle.lexing.specs.declared.answers.Lost.{Lost}
 use Rattle.lexing.specs.declared.answers.Lost.the-variants.{Fail, Stop}
 use Rattle.lexing.proofs.Onward.{Onward}
 use Rattle.lexing.proofs.Locality.{Consumes}
-use Rattle.lexing.proofs.Slicing.{Took}
+use Rattle.lexing.proofs.Slicing.{Took, took}
 use Rattle.lexing.proofs.Repetition.{ManyAt, manyEnd, many0-start, many0-step, many0-ends}
+use Rattle.items.specs.clusters.{mapped}
 use Rattle.items.specs.records.{Record}
 use Rattle.items.specs.layout.{word-count}
 use Rattle.items.specs.answers.{ReadTo, counted, countLost, countEnd, CountTo}
 use Rattle.items.specs.declared.counts.Count.{Count}
 use Rattle.items.specs.declared.counts.Count.the-variants.{Words, NoCount}
 use Rattle.items.proofs.Answers.{reads-as}
-use Rattle.items.proofs.Mapped.{TookAs, took-as, lost-as, mapped-ok, mapped-not}
+use Rattle.items.proofs.Mapped.{mapped-twice, value-as, TookAs, took-as, lost-as, mapped-ok, mapped-not}
 use Rattle.items.proofs.RecordWords.{Elementwise, word-count-none, word-count-more}
 
 -- a count as a step of a sequence: the value, its words, the step, and how few they are
@@ -99,3 +100,26 @@ ended f m b c u l (Stop k p) q e = count-not f (many0 m) b u (Stop k p) (sym e)
 pub counting-ends : {A : Type 0} {f : List A → List Record} {m : Parser A} (w : Consumes m) {b c n : ℕ} {u r : List ℕ} {t : Count} (x : Lost) → Counting f m b u c n → Rest b u c r → lostReply x ≡ m c r → t ≡ countEnd x n c → CountTo f (many0 m) t b u
 counting-ends {A} {f} {m} w {b} {c} {n} {u} {r} {t} x i q e d =
     rw (d, ← i .words) (ended f m b c u (i .seen) x (omega (arith, i .words, i .few)) (many0-ends w x (i .run) q e))
+
+-- the count of what a function makes of a value
+pub count-mapped : {A B : Type 0} (records : B → List Record) (g : A → B) {m : Parser A} {r : Count} {b : ℕ} {u : List ℕ} → CountTo (λ a. records (g a)) m r b u → CountTo records (mapped m g) r b u
+unfolding counted
+count-mapped records g {m} {b = b} {u = u} h = record { reads = h .reads ∙ mapped-twice m g (λ x. word-count (records x)) b u; few = h .few }
+
+-- the value behind a count on the part itself
+pub record Behind {A : Type 0} (f : A → List Record) (m : Parser A) (b : ℕ) (u : List ℕ) (n c : ℕ) : Type 0 where
+  pub value : A
+  pub words : word-count (f value) ≡ n
+  pub is : ok value c (drop (c - b) u) ≡ m b u
+
+pub count-value : {A : Type 0} (f : A → List Record) (m : Parser A) (b : ℕ) (u : List ℕ) (n c : ℕ) → CountTo f m (Words n c) b u → Behind f m b u n c
+unfolding counted
+count-value f m b u n c h = let s = value-as (λ x. word-count (f x)) m b u n c (drop (c - b) u) (h .reads) in record { value = s .0; words = s .1 .0; is = s .1 .1 }
+
+-- a count that ends a sequence
+pub count-behind : {A : Type 0} (f : A → List Record) (m k : Parser A) → Onward k → (r : Count) {b n : ℕ} {u v : List ℕ} → Rest b u n v → k n (drop (n - b) u) ≡ m b u → CountTo f k r n v → CountTo f m r b u
+count-behind f m k w (Words i c) {b} {n} {u} {v} q e h =
+    let s = count-value f k n v i c h in
+    let t = took w q (s .is) in
+    count-is f m b u (s .value) i c (s .words) (omega (arith, h .few, q .from, t .up)) (sym (t .goes) ∙ e)
+count-behind f m k w (NoCount l) {b} {n} {u} {v} q e h = count-not f m b u l (count-lost l refl n v h ∙ (ap (k n) (q .same) ∙ e))

@@ -13,6 +13,9 @@ use Rattle.items.specs.clusters.{Member, bitmap, enum, struct, attribute
 use Rattle.items.specs.declared.clusters.MemberKind.{MemberKind}
 use Rattle.items.specs.declared.clusters.MemberKind.the-variants.{Revision, Bitmap, Enum, Struct, Attribute, Command, Event, Unknown}
 use Rattle.items.specs.declared.clusters.Candidate.{Candidate}
+use Rattle.items.specs.declared.counts.Count.{Count}
+use Rattle.items.specs.declared.counts.Count.the-variants.{Words, NoCount}
+use Rattle.items.specs.inner.endpoints.{furtherLost}
 
 -- the words that a member can start with, by its kind; `shared` can start a bitmap, an enum and a struct
 abbrev pub revision-words : List (List ℕ)
@@ -62,3 +65,8 @@ member-try Unknown d m = λ b u. fail b
 -- the tries of a member are that of its kind: the others fail, no further than at the floor
 pub record KindTo (r : Candidate) (b : ℕ) (u : List ℕ) : Type 0 where
   pub tries : (d : Doc) (m : ℕ) → member-tries d m b u ≡ raised (r .floor) (member-try (r .kind) d m b u)
+
+-- a count that fails no earlier than at q
+abbrev pub countRaised : Count → ℕ → Count
+countRaised (Words n c) q = Words n c
+countRaised (NoCount l) q = NoCount (furtherLost l q)

@@ -1,0 +1,110 @@
+use borrow.Author.Needs.{needs}
+use Rattle.items.proofs.clusters.count_member.Statement.{statement}
+use Rattle.items.proofs.clusters.count_member.Tie as tie
+use Rattle.lexing.specs.answers.{docOf}
+use Rattle.items.proofs.clusters.Laws.{kind-counts, counts-revision, counts-bitmap, counts-enum, counts-struct, counts-attribute, counts-command, counts-event, counts-unknown}
+
+enum-told : tie.Need-enum-told
+enum-told c = search needs
+
+count-revision-requires : tie.Need-count-revision-requires
+count-revision-requires c κs = search needs
+
+enum-told-2 : tie.Need-enum-told-2
+enum-told-2 c = search needs
+
+slice-aggregate-choice-after-doc-maturity : tie.Need-slice-aggregate-choice-after-doc-maturity
+slice-aggregate-choice-after-doc-maturity c = search needs
+
+choice-after-doc-maturity-requires : tie.Need-choice-after-doc-maturity-requires
+choice-after-doc-maturity-requires c κs = search needs
+
+enum-told-3 : tie.Need-enum-told-3
+enum-told-3 c = search needs
+
+slice-aggregate-choice-after-doc-maturity-2 : tie.Need-slice-aggregate-choice-after-doc-maturity-2
+slice-aggregate-choice-after-doc-maturity-2 c = search needs
+
+choice-after-doc-maturity-requires-2 : tie.Need-choice-after-doc-maturity-requires-2
+choice-after-doc-maturity-requires-2 c κs = search needs
+
+enum-told-4 : tie.Need-enum-told-4
+enum-told-4 c = search needs
+
+parse-struct-after-doc-maturity-requires : tie.Need-parse-struct-after-doc-maturity-requires
+parse-struct-after-doc-maturity-requires c κs = search needs
+
+enum-told-5 : tie.Need-enum-told-5
+enum-told-5 c = search needs
+
+count-attribute-requires : tie.Need-count-attribute-requires
+count-attribute-requires c κs = search needs
+
+enum-told-6 : tie.Need-enum-told-6
+enum-told-6 c = search needs
+
+count-command-requires : tie.Need-count-command-requires
+count-command-requires c κs = search needs
+
+enum-told-7 : tie.Need-enum-told-7
+enum-told-7 c = search needs
+
+parse-event-after-doc-maturity-requires : tie.Need-parse-event-after-doc-maturity-requires
+parse-event-after-doc-maturity-requires c κs = search needs
+
+enum-told-8 : tie.Need-enum-told-8
+enum-told-8 c = search needs
+
+returns : tie.Need-returns
+returns c = kind-counts (docOf (c .before .before .before .before .args .doc)) (c .before .before .before .before .args .maturity) _ _ (c .before .enum-told .given .1) (counts-revision (docOf (c .before .before .before .before .args .doc)) (c .before .before .before .before .args .maturity) _ _ (c .count-revision .ensures))
+
+returns-2 : tie.Need-returns-2
+returns-2 c = kind-counts (docOf (c .before .before .before .before .before .args .doc)) (c .before .before .before .before .before .args .maturity) _ _ (c .before .before .enum-told2 .given .1) (counts-bitmap (docOf (c .before .before .before .before .before .args .doc)) (c .before .before .before .before .before .args .maturity) _ _ (c .choice-after-doc-maturity .ensures))
+
+returns-3 : tie.Need-returns-3
+returns-3 c = kind-counts (docOf (c .before .before .before .before .before .args .doc)) (c .before .before .before .before .before .args .maturity) _ _ (c .before .before .enum-told3 .given .1) (counts-enum (docOf (c .before .before .before .before .before .args .doc)) (c .before .before .before .before .before .args .maturity) _ _ (c .choice-after-doc-maturity2 .ensures))
+
+returns-4 : tie.Need-returns-4
+returns-4 c = kind-counts (docOf (c .before .before .before .before .args .doc)) (c .before .before .before .before .args .maturity) _ _ (c .before .enum-told4 .given .1) (counts-struct (docOf (c .before .before .before .before .args .doc)) (c .before .before .before .before .args .maturity) _ _ (c .parse-struct-after-doc-maturity .ensures))
+
+returns-5 : tie.Need-returns-5
+returns-5 c = kind-counts (docOf (c .before .before .before .before .args .doc)) (c .before .before .before .before .args .maturity) _ _ (c .before .enum-told5 .given .1) (counts-attribute (docOf (c .before .before .before .before .args .doc)) (c .before .before .before .before .args .maturity) _ _ (c .count-attribute .ensures))
+
+returns-6 : tie.Need-returns-6
+returns-6 c = kind-counts (docOf (c .before .before .before .before .args .doc)) (c .before .before .before .before .args .maturity) _ _ (c .before .enum-told6 .given .1) (counts-command (docOf (c .before .before .before .before .args .doc)) (c .before .before .before .before .args .maturity) _ _ (c .count-command .ensures))
+
+returns-7 : tie.Need-returns-7
+returns-7 c = kind-counts (docOf (c .before .before .before .before .args .doc)) (c .before .before .before .before .args .maturity) _ _ (c .before .enum-told7 .given .1) (counts-event (docOf (c .before .before .before .before .args .doc)) (c .before .before .before .before .args .maturity) _ _ (c .parse-event-after-doc-maturity .ensures))
+
+returns-8 : tie.Need-returns-8
+returns-8 c = kind-counts (docOf (c .before .before .before .args .doc)) (c .before .before .before .args .maturity) _ _ (c .enum-told8 .given .1) (counts-unknown (docOf (c .before .before .before .args .doc)) (c .before .before .before .args .maturity) _ _)
+
+pub count-member-spec : {M : Type 1} → statement M
+count-member-spec =
+    tie.close
+    (tie.spec
+    enum-told
+    count-revision-requires
+    enum-told-2
+    slice-aggregate-choice-after-doc-maturity
+    choice-after-doc-maturity-requires
+    enum-told-3
+    slice-aggregate-choice-after-doc-maturity-2
+    choice-after-doc-maturity-requires-2
+    enum-told-4
+    parse-struct-after-doc-maturity-requires
+    enum-told-5
+    count-attribute-requires
+    enum-told-6
+    count-command-requires
+    enum-told-7
+    parse-event-after-doc-maturity-requires
+    enum-told-8
+    returns
+    returns-2
+    returns-3
+    returns-4
+    returns-5
+    returns-6
+    returns-7
+    returns-8)
