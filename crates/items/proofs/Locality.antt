@@ -21,7 +21,7 @@ use Rattle.lexing.proofs.TokenLocality.{parse-id-chain, parse-id-keeps, parse-i
 use Rattle.items.specs.entries.{enclosed, where-missing, braces, api-maturity, constant-annotation, blank-annotation, annotations-in-brackets, constant-annotations-list, constant-entry, blank-entry, constant-entries, constant-entries-list, shared-before, choice-head, choice-after-doc-maturity, parse-enum-after-doc-maturity, parse-bitmap-after-doc-maturity}
 use Rattle.items.specs.structs.{max-length, list-marker, parse-field, parse-struct-field, closed-field, fields-run, struct-fields, response-code, struct-kind, struct-type-of, struct-head, parse-struct-after-doc-maturity}
 use Rattle.items.specs.members.{access-privilege, event-priority, access-to, event-qualities, event-head, parse-event-after-doc-maturity, command-head, command-types, parse-command-after-doc-maturity, Access, access-entry, comma, separated-list0, access-list, Privileges, granted-by, default-privileges, listed, attribute-access, parse-attribute-after-doc-maturity}
-use Rattle.items.specs.clusters.{mapped, parse-revision, member-tries, parse-cluster-member, cluster-members, side, cluster-head, parse-cluster}
+use Rattle.items.specs.clusters.{mapped, parse-revision, member-tries, parse-cluster-member, cluster-members, side, cluster-head, cluster-after-doc-maturity, parse-cluster}
 use Rattle.items.specs.endpoints.{Tried, Deep, intercept, deep-step, deeper, deep-run, deep-place, deep-braces, name-behind, device-version, device-type, value-tries, default-attribute-value, attribute-handling-type, attribute-instantiation, named-after, instance-tries, instantiation-head, cluster-instantiation, part-tries, endpoint-head, endpoint}
 use Rattle.items.specs.items.{with-doc-maturity, item}
 
@@ -510,23 +510,31 @@ side-local = search (local-rules, keeps-rules) depth 8
 
 pub cluster-head-keeps : KeepsCut cluster-head
 unfolding cluster-head
-cluster-head-keeps = search (keeps-rules, api-maturity-keeps, side-keeps) depth 24
+cluster-head-keeps = search (keeps-rules, side-keeps) depth 24
 
 pub cluster-head-local : Local cluster-head
 unfolding cluster-head
-cluster-head-local = search (local-rules, keeps-rules, api-maturity-local, api-maturity-keeps, side-local, side-keeps) depth 24
+cluster-head-local = search (local-rules, keeps-rules, side-local, side-keeps) depth 24
 
 pub cluster-head-consumes : Consumes cluster-head
 unfolding cluster-head
-cluster-head-consumes = search (consumes-rules, chain-rules, punct-local, api-maturity-local, side-local) depth 24
+cluster-head-consumes = search (consumes-rules, chain-rules, punct-local, side-local) depth 24
+
+pub cluster-after-doc-maturity-local : (d : Doc) (m : ℕ) → Local (cluster-after-doc-maturity d m)
+unfolding cluster-after-doc-maturity cluster-members
+cluster-after-doc-maturity-local d m = search (local-rules, keeps-rules, cluster-head-local, cluster-head-keeps, braces-local, inside-many0, parse-cluster-member-inside, parse-cluster-member-consumes, local-last, blind-ret) depth 16
+
+pub cluster-after-doc-maturity-consumes : (d : Doc) (m : ℕ) → Consumes (cluster-after-doc-maturity d m)
+unfolding cluster-after-doc-maturity cluster-members
+cluster-after-doc-maturity-consumes d m = search (consumes-rules, cluster-head-consumes, chain-rules, chain-inside, parse-cluster-member-inside) depth 16
 
 pub parse-cluster-local : Local parse-cluster
-unfolding parse-cluster cluster-members
-parse-cluster-local = search (local-rules, keeps-rules, cluster-head-local, cluster-head-keeps, braces-local, inside-many0, parse-cluster-member-inside, parse-cluster-member-consumes, local-last, blind-ret) depth 16
+unfolding parse-cluster
+parse-cluster-local = search (local-rules, keeps-rules, api-maturity-local, api-maturity-keeps, cluster-after-doc-maturity-local) depth 16
 
 pub parse-cluster-consumes : Consumes parse-cluster
-unfolding parse-cluster cluster-members
-parse-cluster-consumes = search (consumes-rules, cluster-head-consumes, chain-rules, chain-inside, parse-cluster-member-inside) depth 16
+unfolding parse-cluster
+parse-cluster-consumes = search (consumes-rules, chain-rules, api-maturity-local, cluster-after-doc-maturity-consumes) depth 16
 
 -- endpoints: loops that keep the furthest place
 module _ {A : Type 0} {m : Parser A} {k : ℕ → Parser (Tried A)} where

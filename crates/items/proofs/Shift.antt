@@ -13,7 +13,7 @@ use Rattle.lexing.proofs.Shift.{shiftWord, shiftDoc, shiftOption, still, shiftS
 use Rattle.items.specs.entries.{present, enclosed, where-missing, braces, api-maturity, Annotation, constant-annotation, blank-annotation, annotations-in-brackets, constant-annotations-list, Entry, constant-entry, blank-entry, constant-entries, constant-entries-list, Choice, shared-before, ChoiceHead, choice-head, choice-after-doc-maturity, parse-enum-after-doc-maturity, parse-bitmap-after-doc-maturity}
 use Rattle.items.specs.structs.{Field, max-length, list-marker, parse-field, StructField, parse-struct-field, closed-field, fields-run, struct-fields, Struct, response-code, struct-kind, struct-type-of, StructHead, struct-head, parse-struct-after-doc-maturity}
 use Rattle.items.specs.members.{access-privilege, event-priority, Event, access-to, event-qualities, EventHead, event-head, parse-event-after-doc-maturity, Command, CommandHead, command-head, CommandTypes, command-types, parse-command-after-doc-maturity, Access, access-entry, comma, separated-list0, access-list, Privileges, granted-by, default-privileges, listed, attribute-access, Attribute, parse-attribute-after-doc-maturity}
-use Rattle.items.specs.clusters.{Member, revision, bitmap, enum, struct, attribute, command, event, mapped, parse-revision, member-tries, parse-cluster-member, cluster-members, Cluster, side, ClusterHead, cluster-head, parse-cluster}
+use Rattle.items.specs.clusters.{Member, revision, bitmap, enum, struct, attribute, command, event, mapped, parse-revision, member-tries, parse-cluster-member, cluster-members, Cluster, side, ClusterHead, cluster-head, cluster-after-doc-maturity, parse-cluster}
 use Rattle.items.specs.endpoints.{Tried, Deep, intercept, deep-step, deeper, deep-run, deep-place, deep-braces, DeviceType, name-behind, device-version, device-type, Default, number, signed-number, truth, text, value-tries, default-attribute-value, attribute-handling-type, AttributeInstance, attribute-instantiation, named-after, Instance, attribute-instance, command-instance, event-instance, instance-tries, Instantiation, instantiation-head, cluster-instantiation, Part, device, binding, instantiation, part-tries, Endpoint, endpoint-head, endpoint}
 use Rattle.items.specs.items.{Item, cluster-item, endpoint-item, enum-item, bitmap-item, struct-item, blank-item, with-doc-maturity, item}
 
@@ -105,7 +105,7 @@ shiftMember d (command c) = command (shiftCommand d c)
 shiftMember d (event e) = event (shiftEvent d e)
 
 unfoldable pub shiftClusterHead : ℕ → ClusterHead → ClusterHead
-shiftClusterHead d h = record { head-doc = shiftDoc d (h .head-doc); head-maturity = h .head-maturity; id = shiftWord d (h .id); number = h .number }
+shiftClusterHead d h = record { id = shiftWord d (h .id); number = h .number }
 
 unfoldable pub shiftCluster : ℕ → Cluster → Cluster
 shiftCluster d c = record { doc = shiftDoc d (c .doc); maturity = c .maturity; name = shiftWord d (c .name); code = c .code; members = map (shiftMember d) (c .members) }
@@ -451,13 +451,15 @@ module _ (d : ℕ) where
 
   pub shift-cluster-head : Shifts d (shiftClusterHead d) cluster-head cluster-head
   unfolding cluster-head shiftClusterHead still
-  shift-cluster-head =
-      ws0 ▸ λ c' c ec. shift-api-maturity ▸ λ m' m em. ws0 ▹ shift-opt d shift-side ▹ key _ ▹ ws1 ▹ name ▸ λ n' n en. ws0 ▹ mark _ ▹ ws0 ▹
-      int ▸ λ i' i ei. shift-ret d _ _ (rw (ec, em, en, ei))
+  shift-cluster-head = shift-opt d shift-side ▹ key _ ▹ ws1 ▹ name ▸ λ n' n en. ws0 ▹ mark _ ▹ ws0 ▹ int ▸ λ k' k ek. ws0 ▹ shift-ret d _ _ (rw (en, ek))
+
+  pub shift-cluster-after-doc-maturity : ShiftsAfter d (shiftCluster d) cluster-after-doc-maturity
+  unfolding cluster-after-doc-maturity shiftCluster shiftClusterHead
+  shift-cluster-after-doc-maturity c' c m' m ec em = shift-cluster-head ▸ λ h' h eh. shift-braces shift-cluster-members ▸ λ l' l el. shift-ret d _ _ (rw (ec, em, eh, el))
 
   pub shift-parse-cluster : Shifts d (shiftCluster d) parse-cluster parse-cluster
-  unfolding parse-cluster shiftCluster shiftClusterHead
-  shift-parse-cluster = shift-cluster-head ▸ λ h' h eh. ws0 ▹ shift-braces shift-cluster-members ▸ λ l' l el. shift-ret d _ _ (rw (eh, el))
+  unfolding parse-cluster still
+  shift-parse-cluster = ws0 ▸ λ c' c ec. shift-api-maturity ▸ λ m' m em. ws0 ▹ shift-cluster-after-doc-maturity c' c m' m ec em
 
   -- tries between braces, with the furthest place
   pub shift-intercept : {A : Type 0} {f : A → A} {m' m : Parser A} {k' k : ℕ → Parser (Tried A)} (q' q : ℕ) → q' ≡ d + q → Shifts d f m' m → ShiftsTries d f k' k → Shifts d (shiftTried d f) (intercept q' m' k') (intercept q m k)

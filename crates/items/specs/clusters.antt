@@ -69,18 +69,13 @@ side = do
   whitespace1
   ret w
 
--- up to the braces
+-- from the side up to the braces
 pub record ClusterHead : Type 0 where
-  pub head-doc : Doc
-  pub head-maturity : ℕ
   pub id : Word
   pub number : ℕ
 
 unfoldable pub cluster-head : Parser ClusterHead
 cluster-head = do
-  d ← whitespace0
-  m ← api-maturity
-  whitespace0
   opt side
   keyword (ascii "cluster")
   whitespace1
@@ -89,11 +84,18 @@ cluster-head = do
   tag (byte "=")
   whitespace0
   c ← positive-integer
-  ret (record { head-doc = d; head-maturity = m; id = n; number = c })
+  whitespace0
+  ret (record { id = n; number = c })
+
+unfoldable pub cluster-after-doc-maturity : Doc → ℕ → Parser Cluster
+cluster-after-doc-maturity d m = do
+  h ← cluster-head
+  ms ← braces cluster-members
+  ret (record { doc = d; maturity = m; name = h .id; code = h .number; members = ms })
 
 unfoldable pub parse-cluster : Parser Cluster
 parse-cluster = do
-  h ← cluster-head
+  d ← whitespace0
+  m ← api-maturity
   whitespace0
-  ms ← braces cluster-members
-  ret (record { doc = h .head-doc; maturity = h .head-maturity; name = h .id; code = h .number; members = ms })
+  cluster-after-doc-maturity d m
