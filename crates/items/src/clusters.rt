@@ -11,11 +11,14 @@ ghost use Rattle.lexing.specs.declared.answers.Step.the-variants.{Next};
 ghost use Rattle.lexing.specs.blanks.{no-doc, whitespace0};
 ghost use Rattle.items.specs.layout.{text-limit};
 ghost use Rattle.items.specs.inner.clusters.{struct-words, attribute-words, command-words, event-words, found, KindTo, member-try, countRaised};
-ghost use Rattle.items.specs.clusters.{parse-revision, member-tries, parse-cluster-member};
-ghost use Rattle.items.specs.answers.clusters.{RevisionTo, MemberCountTo};
+ghost use Rattle.items.specs.entries.{braces};
+ghost use Rattle.items.specs.clusters.{parse-revision, member-tries, parse-cluster-member, cluster-members};
+ghost use Rattle.items.specs.answers.clusters.{RevisionTo, MemberCountTo, MembersCountTo};
 use crate::attributes::count_attribute;
 use crate::choices::choice_after_doc_maturity;
 use crate::counts::Count;
+use crate::counts::count_end;
+use crate::counts::count_lost;
 use crate::endpoints::further;
 use crate::maturity::api_maturity;
 use crate::members::count_command;
@@ -298,4 +301,43 @@ pub fn parse_cluster_member(part: &[u8], base: usize) -> Count
     let c3 = w2.next;
     let doc = w1.doc;
     member_tries(rest_at(part, base, c3), c3, doc, m.level)
+}
+
+// The first pass over members.
+fn cluster_members(part: &[u8], base: usize) -> Count
+    requires { ⌜ base + length (now part) ≤ text-limit ⌝ }
+    ensures { λ r. ⌜ MembersCountTo cluster-members r base (now (part .entry)) ⌝ }
+{
+    let mut c = base;
+    let mut n = 0;
+    loop {
+        let r = parse_cluster_member(rest_at(part, base, c), c);
+        let Count::Words(k, next) = r else {
+            return count_end(count_lost(r), n, c);
+        };
+        c = next;
+        n += k;
+    }
+}
+
+// The first pass over the members between braces.
+fn braced_members(part: &[u8], base: usize) -> Count
+    requires { ⌜ base + length (now part) ≤ text-limit ⌝ }
+    ensures { λ r. ⌜ MembersCountTo (braces cluster-members) r base (now (part .entry)) ⌝ }
+{
+    let brace = tag(part, base, b'{');
+    let Step::Next(c1) = brace else {
+        return Count::NoCount(step_lost(brace));
+    };
+    let run = cluster_members(rest_at(part, base, c1), c1);
+    let Count::Words(n, c2) = run else {
+        return run;
+    };
+    let w = whitespace0(rest_at(part, base, c2), c2);
+    let c3 = w.next;
+    let close = tag(rest_at(part, base, c3), c3, b'}');
+    let Step::Next(c4) = close else {
+        return Count::NoCount(step_lost(close));
+    };
+    Count::Words(n, c4)
 }

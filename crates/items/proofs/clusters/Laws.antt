@@ -3,7 +3,7 @@ use mathlib.Core.Path.{_≡_, refl, sym, ap, _∙_, subst}
 use mathlib.Core.Logic.{_⊎_, inl, inr}
 use mathlib.Core.Bool.{Bool, true, false, true≢false, false≢true}
 use mathlib.Core.List.{List, [], _∷_}
-use Prim.Native.Nat.{ℕ, _+_, _-_, _≤_, max}
+use Prim.Native.Nat.{ℕ, _+_, _-_, _*_, _≤_, _<_, max}
 use native.Mathlib.Omega.{arith}
 use lib.ListN.{length, drop}
 use Rattle.lexing.specs.bytes.{ascii}
@@ -19,20 +19,21 @@ use Rattle.lexing.specs.declared.answers.Step.{Step}
 use Rattle.lexing.specs.declared.answers.Step.the-variants.{Next, Not}
 use Rattle.lexing.proofs.Slicing.{Took, walks, told-next, told-not, blank-took}
 use Rattle.lexing.proofs.Onward.{Onward}
+use Rattle.lexing.proofs.Locality.{chain-many0}
 use Rattle.lexing.proofs.blanks.Laws.{gap-none, gap-some}
 use Rattle.lexing.proofs.FirstWord.{Starts, starts-of, Frees, free-set, StartsAny, starts-free, blank-clear}
 use Rattle.lexing.proofs.words.Laws.{keyword-says}
 use Rattle.items.specs.entries.{shared-before, choice-head, choice-after-doc-maturity, parse-bitmap-after-doc-maturity, parse-enum-after-doc-maturity}
 use Rattle.items.specs.structs.{struct-head, parse-struct-after-doc-maturity}
 use Rattle.items.specs.members.{parse-attribute-after-doc-maturity, parse-command-after-doc-maturity}
-use Rattle.items.specs.clusters.{Member, revision, bitmap, enum, struct, attribute, command, event, parse-revision, member-tries}
-use Rattle.items.specs.records.{Record, attribute-records, member-records}
+use Rattle.items.specs.clusters.{Member, revision, bitmap, enum, struct, attribute, command, event, parse-revision, member-tries, parse-cluster-member, cluster-members}
+use Rattle.items.specs.records.{Record, each, attribute-records, member-records}
 use Rattle.items.specs.layout.{word-count}
-use Rattle.items.specs.answers.{CountTo}
+use Rattle.items.specs.answers.{CountTo, countLost, countEnd}
 use Rattle.items.specs.answers.choices.{ChoiceCountTo}
 use Rattle.items.specs.answers.structs.{StructCountTo}
 use Rattle.items.specs.answers.members.{command-records, EventCountTo}
-use Rattle.items.specs.answers.clusters.{RevisionTo, MemberCountTo}
+use Rattle.items.specs.answers.clusters.{RevisionTo, MemberCountTo, MembersCountTo}
 use Rattle.items.specs.declared.counts.Count.{Count}
 use Rattle.items.specs.declared.clusters.Candidate.{Candidate}
 use Rattle.lexing.specs.declared.integers.Number.{Number}
@@ -42,9 +43,9 @@ use Rattle.items.specs.inner.endpoints.{furtherLost}
 use Rattle.items.specs.inner.clusters.{countRaised, revision-words, bitmap-words, enum-words, struct-words, attribute-words, command-words, event-words, found, raised, member-try, KindTo}
 use Rattle.items.specs.declared.clusters.MemberKind.{MemberKind}
 use Rattle.items.specs.declared.clusters.MemberKind.the-variants.{Revision, Bitmap, Enum, Struct, Attribute, Command, Event, Unknown}
-use Rattle.items.proofs.RecordWords.{word-count-none}
-use Rattle.items.proofs.counts.Laws.{read-counted, count-is, count-not, count-lost, count-mapped, count-value}
-use Rattle.items.proofs.Locality.{parse-revision-consumes as revision-consumes, member-tries-inside}
+use Rattle.items.proofs.RecordWords.{word-count-none, each-elementwise}
+use Rattle.items.proofs.counts.Laws.{Counting, counting-start, counting-more, counting-ends, count-took, count-none, read-counted, count-is, count-not, count-lost, count-mapped, count-value}
+use Rattle.items.proofs.Locality.{parse-revision-consumes as revision-consumes, member-tries-inside, parse-cluster-member-inside, parse-cluster-member-consumes}
 use Rattle.items.proofs.Tries.{bind-ok, bind-fail, then-ok, then-fail, opt-none, opt-some, mapped-fail, revision-elsewhere, choice-elsewhere, struct-elsewhere, attribute-elsewhere, command-elsewhere, event-elsewhere}
 
 -- a keyword is there or fails at its start
@@ -549,3 +550,34 @@ rest-clear {b} {n} {c} {u} {v} {d} t q = subst (λ (x : List ℕ). whitespace0 c
 
 pub member-tries-on : (d : Doc) (m : ℕ) → Onward (member-tries d m)
 member-tries-on d m = walks (member-tries-inside d m .on-chain)
+
+-- The first pass over members, whatever the place of types.
+pub parse-member-on : Onward parse-cluster-member
+parse-member-on = walks (parse-cluster-member-inside .on-chain)
+
+pub members-on : Onward cluster-members
+unfolding cluster-members
+members-on = walks (chain-many0 (parse-cluster-member-inside .on-chain))
+
+pub record MembersAt (b : ℕ) (u : List ℕ) (c n : ℕ) : Type 0 where
+  pub at : (p : ℕ) → Counting (each (member-records (λ x. p))) parse-cluster-member b u c n
+
+pub members-start : (b : ℕ) (u : List ℕ) → MembersAt b u b 0
+members-start b u = record { at = λ p. counting-start (each-elementwise (member-records (λ x. p))) parse-cluster-member b u }
+
+module _ {b : ℕ} {u : List ℕ} {c n : ℕ} (i : MembersAt b u c n) {r : List ℕ} (q : Rest b u c r) {a : Count} (h : MemberCountTo parse-cluster-member a c r) where
+  module _ {k d : ℕ} (e : a ≡ Words k d) where
+    turn : (p : ℕ) → Counting (each (member-records (λ x. p))) parse-cluster-member b u d (n + k) × (c < d)
+    turn p =
+        let s = count-took parse-member-on q e (h .counts p) in
+        counting-more (each-elementwise (member-records (λ x. p))) parse-cluster-member parse-cluster-member-consumes (s .value) (i .at p) (s .step) (s .words) (λ z. s .few)
+
+    pub members-more : MembersAt b u d (n + k)
+    members-more = record { at = λ p. turn p .0 }
+
+    pub members-on-turn : (c < d) × ((d ≤ b + length u) × (k ≤ 8 * (d - c)))
+    members-on-turn = let t = turn 0 in (t .1, (t .0 .run .inside, count-took parse-member-on q e (h .counts 0) .few))
+
+  pub members-end : (l l' : Lost) → a ≡ NoCount l → l' ≡ countLost a → {x : Count} → x ≡ countEnd l' n c → MembersCountTo cluster-members x b u
+  unfolding cluster-members
+  members-end l l' e d z = record { counts = λ p. counting-ends parse-cluster-member-consumes l' (i .at p) q (count-none d e c r (h .counts p)) z }
