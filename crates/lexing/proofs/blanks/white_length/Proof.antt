@@ -1,10 +1,10 @@
 use borrow.Author.Needs.{needs}
 use Rattle.lexing.proofs.blanks.white_length.Statement.{statement}
 use Rattle.lexing.proofs.blanks.white_length.Tie as tie
+use borrow.Author.Tests.{not-true, not-false}
 use mathlib.Core.Path.{sym, _∙_}
 use Prim.Native.Nat.{_-_}
 use lib.ListN.{length}
-use borrow.Author.Tests.{not-true, not-false}
 use Rattle.lexing.specs.bytes.{isSpace}
 use Rattle.lexing.proofs.Scans.{RunAt, runs-start, runs-more, runs-stop, runs-out}
 

@@ -1,11 +1,11 @@
 use borrow.Author.Needs.{needs}
 use Rattle.lexing.proofs.integers.after_sign.Statement.{statement}
 use Rattle.lexing.proofs.integers.after_sign.Tie as tie
+use borrow.Author.Tests.{not-true, not-false}
 use mathlib.Core.Path.{sym, _∙_, ap}
 use mathlib.Core.Bool.{false}
 use native.Mathlib.Omega.{arith}
 use denote.Ref.{now}
-use borrow.Author.Tests.{not-true, not-false}
 use Rattle.lexing.specs.bytes.{isDigit}
 use Rattle.lexing.proofs.integers.Laws.{digits-inside, sign-alone, signed-over, signed-beyond, signed-value}
 

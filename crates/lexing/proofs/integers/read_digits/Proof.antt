@@ -1,11 +1,11 @@
 use borrow.Author.Needs.{needs}
 use Rattle.lexing.proofs.integers.read_digits.Statement.{statement}
 use Rattle.lexing.proofs.integers.read_digits.Tie as tie
+use borrow.Author.Tests.{not-true, not-false}
 use mathlib.Core.Path.{sym, _∙_}
 use native.Mathlib.Omega.{arith}
 use Prim.Native.Nat.{_-_}
 use lib.ListN.{length}
-use borrow.Author.Tests.{not-true, not-false}
 use Rattle.lexing.proofs.integers.Laws.{DigitsAt, digits-start, digits-stop, digits-more, digits-over, digits-out, with-room, without-room}
 
 abbrev Inv-loop : tie.InvT-loop

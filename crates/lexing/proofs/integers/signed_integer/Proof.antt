@@ -3,8 +3,8 @@ use Rattle.lexing.proofs.integers.signed_integer.Statement.{statement}
 use Rattle.lexing.proofs.integers.signed_integer.Tie as tie
 use mathlib.Core.Path.{sym, _∙_}
 use mathlib.Core.Bool.{true, false}
-use Rattle.lexing.proofs.integers.Laws.{sign-inside, signed-at, signed-no}
 use denote.Ref.{now}
+use Rattle.lexing.proofs.integers.Laws.{sign-inside, signed-at, signed-no}
 
 peek-requires : tie.Need-peek-requires
 peek-requires c κs = search needs

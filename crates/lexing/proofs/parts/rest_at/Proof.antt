@@ -1,8 +1,8 @@
 use borrow.Author.Needs.{needs}
 use Rattle.lexing.proofs.parts.rest_at.Statement.{statement}
 use Rattle.lexing.proofs.parts.rest_at.Tie as tie
-use Rattle.lexing.proofs.Slicing.{rest-of}
 use denote.Ref.{now}
+use Rattle.lexing.proofs.Slicing.{rest-of}
 
 sub-n : tie.Need-sub-n
 sub-n c = search needs

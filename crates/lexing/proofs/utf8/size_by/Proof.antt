@@ -1,9 +1,9 @@
 use borrow.Author.Needs.{needs}
 use Rattle.lexing.proofs.utf8.size_by.Statement.{statement}
 use Rattle.lexing.proofs.utf8.size_by.Tie as tie
+use borrow.Author.Tests.{not-true, not-false}
 use mathlib.Core.Path.{sym, _∙_}
 use Prim.Native.Nat.{_-_}
-use borrow.Author.Tests.{not-true, not-false}
 use denote.Ref.{now}
 use Rattle.lexing.proofs.utf8.Laws.{Tails, size-cut, second-in, second-out, tail-in, tail-out, tails-end}
 

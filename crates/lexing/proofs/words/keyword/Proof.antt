@@ -1,12 +1,12 @@
 use borrow.Author.Needs.{needs}
 use Rattle.lexing.proofs.words.keyword.Statement.{statement}
 use Rattle.lexing.proofs.words.keyword.Tie as tie
+use borrow.Author.Tests.{not-true, not-false}
 use mathlib.Core.Path.{sym, _∙_, ap}
 use mathlib.Core.Bool.{false≢true}
 use native.Mathlib.Omega.{arith}
 use Prim.Native.Nat.{_-_}
 use lib.ListN.{length}
-use borrow.Author.Tests.{not-true, not-false}
 use Rattle.lexing.specs.bytes.{isLetter, isWord, lower}
 use Rattle.lexing.proofs.words.Laws.{KeyAt, keyword-no-word, key-start, key-differs, key-more, key-longer, key-is}
 
