@@ -1,20 +1,20 @@
 -- Which tries a first word leaves: where another keyword stands, a declaration is not there and fails at its start.
-use mathlib.Core.Path.{_≡_, refl, sym, ap, _∙_}
-use mathlib.Core.Option.{Option, none, some}
-use mathlib.Core.List.{List, [], _∷_}
-use Prim.Native.Nat.{ℕ, max}
-use native.Mathlib.Omega.{arith}
+use mathlib.Core.Path.{_≡_, _∙_}
+use mathlib.Core.Option.{none, some}
+use mathlib.Core.List.{List}
+use Prim.Native.Nat.{ℕ}
 use Rattle.lexing.specs.bytes.{ascii}
-use Rattle.lexing.specs.reply.{Reply, ok, fail, stop, Parser, ret, _>>=_, _>>_, opt, _or_, further}
-use Rattle.lexing.specs.words.{Word, keyword, any-keyword}
+use Rattle.lexing.specs.reply.{ok, fail, Parser, ret, _>>=_, _>>_, opt}
+use Rattle.lexing.specs.words.{keyword}
 use Rattle.lexing.specs.blanks.{Doc, no-doc, whitespace0}
-use Rattle.lexing.specs.word_sets.{sets, set-of, set-flags}
+use Rattle.lexing.specs.word_sets.{sets, set-of}
 use Rattle.lexing.proofs.FirstWord.{Frees, free-keywords, free-set}
 use Rattle.items.specs.entries.{shared-before, choice-head, choice-after-doc-maturity}
 use Rattle.items.specs.structs.{struct-head, parse-struct-after-doc-maturity}
 use Rattle.items.specs.members.{event-priority, event-qualities, event-head, parse-event-after-doc-maturity, command-head, parse-command-after-doc-maturity, parse-attribute-after-doc-maturity}
 use Rattle.items.specs.clusters.{mapped, parse-revision}
 use Rattle.items.specs.inner.clusters.{revision-words, struct-words, attribute-words, command-words, event-words}
+use Rattle.items.proofs.Choice.{or-both}
 
 -- sequences whose first step is known
 pub bind-fail : {A B : Type 0} (m : Parser A) (k : A → Parser B) {b p : ℕ} {u : List ℕ} → m b u ≡ fail p → (m >>= k) b u ≡ fail p
@@ -40,10 +40,6 @@ opt-none m e = rw (e, opt)
 pub opt-some : {A : Type 0} (m : Parser A) {b c : ℕ} {u r : List ℕ} {a : A} → m b u ≡ ok a c r → opt m b u ≡ ok (some a) c r
 unfolding opt
 opt-some m e = rw (e, opt)
-
-pub or-both : {A : Type 0} (m k : Parser A) {b p : ℕ} {u : List ℕ} → m b u ≡ fail p → k b u ≡ fail p → (m or k) b u ≡ fail p
-unfolding _or_ further
-or-both m k {p = p} e f = let z : max p p ≡ p = omega arith in rw (e, _or_) (rw f (rw z))
 
 pub mapped-fail : {A B : Type 0} (m : Parser A) (f : A → B) {b p : ℕ} {u : List ℕ} → m b u ≡ fail p → mapped m f b u ≡ fail p
 unfolding mapped

@@ -1,0 +1,126 @@
+-- Choices: what `_or_` gives where it is known of all tries, or of all but one, that they fail.
+use mathlib.Core.Path.{_≡_, refl, sym, ap, _∙_}
+use mathlib.Core.Logic.{_⊎_, inl, inr}
+use mathlib.Core.Bool.{Bool, true, false}
+use mathlib.Core.List.{List, [], _∷_}
+use Prim.Native.Nat.{ℕ, _≤_, max}
+use native.Mathlib.Omega.{arith}
+use Rattle.lexing.specs.reply.{Reply, ok, fail, stop, Parser, _or_, further}
+
+-- a try that fails leaves the next, whose place is then no nearer
+pub or-fail : {A : Type 0} (m k : Parser A) {b p : ℕ} {u : List ℕ} → m b u ≡ fail p → (m or k) b u ≡ further p (k b u)
+unfolding _or_
+or-fail m k e = rw (e, _or_)
+
+pub or-stop : {A : Type 0} (m k : Parser A) (b : ℕ) (u : List ℕ) (n p : ℕ) → stop n p ≡ m b u → stop n p ≡ (m or k) b u
+unfolding _or_
+or-stop m k b u n p e = rw (sym e, _or_)
+
+pub or-lost : {A : Type 0} (m k : Parser A) {b p q : ℕ} {u : List ℕ} → m b u ≡ fail p → k b u ≡ fail q → (m or k) b u ≡ fail (max p q)
+unfolding further
+or-lost m k {p = p} e f = or-fail m k e ∙ ap (further p) f
+
+pub or-both : {A : Type 0} (m k : Parser A) {b p : ℕ} {u : List ℕ} → m b u ≡ fail p → k b u ≡ fail p → (m or k) b u ≡ fail p
+or-both m k {p = p} e f = let z : max p p ≡ p = omega arith in or-lost m k e f ∙ ap fail z
+
+-- a try that fails at the start adds no place
+abbrev pub Past : {A : Type 0} → ℕ → Reply A → Type 0
+Past b (ok a c r) = Unit {0}
+Past b (fail p) = b ≤ p
+Past b (stop n p) = Unit {0}
+
+past-start : {A : Type 0} (b : ℕ) (X : Reply A) → Past b X → X ≡ further b X
+unfolding further
+past-start b (ok a c r) p = refl
+past-start b (fail q) p = let z : q ≡ max b q = omega arith in ap fail z
+past-start b (stop n q) p = refl
+
+pub or-past : {A : Type 0} (m k : Parser A) (b : ℕ) (u : List ℕ) (X : Reply A) → fail b ≡ m b u → Past b X → X ≡ k b u → X ≡ (m or k) b u
+or-past m k b u X d p e = past-start b X p ∙ (ap (further b) e ∙ sym (or-fail m k (sym d)))
+
+-- Tries one after the other, each of which is the one that is kept or fails at a place.
+pub data End : Type 0 where
+  kept : End
+  lost : ℕ → End
+
+abbrev pub ends : {A : Type 0} → Reply A → End → Reply A
+ends X kept = X
+ends X (lost p) = fail p
+
+pub data Tries {A : Type 0} (b : ℕ) (u : List ℕ) (X : Reply A) : Parser A → List End → Type 0 where
+  last : {m : Parser A} {e : End} → m b u ≡ ends X e → Tries b u X m (e ∷ [])
+  more : (m : Parser A) {k : Parser A} {e : End} {es : List End} → m b u ≡ ends X e → Tries b u X k es → Tries b u X (m or k) (e ∷ es)
+
+-- the furthest place of those that fail, and whether one is kept
+abbrev furthest : List End → ℕ
+furthest [] = 0
+furthest (kept ∷ es) = furthest es
+furthest (lost p ∷ es) = max p (furthest es)
+
+abbrev pub keeps : List End → Bool
+keeps [] = false
+keeps (kept ∷ es) = true
+keeps (lost p ∷ es) = keeps es
+
+-- what they leave: the one that is kept, its place no nearer than theirs
+abbrev pub left : {A : Type 0} → Bool → ℕ → Reply A → Reply A
+left true n X = further n X
+left false n X = fail n
+
+further-none : {A : Type 0} (X : Reply A) → X ≡ further 0 X
+unfolding further
+further-none (ok a c r) = refl
+further-none (fail p) = let z : p ≡ max 0 p = omega arith in ap fail z
+further-none (stop n p) = refl
+
+further-twice : {A : Type 0} (p n : ℕ) (X : Reply A) → further p (further n X) ≡ further (max p n) X
+unfolding further
+further-twice p n (ok a c r) = refl
+further-twice p n (fail q) = let z : max p (max n q) ≡ max (max p n) q = omega arith in ap fail z
+further-twice p n (stop i q) = refl
+
+past-lost : {A : Type 0} (t : Bool) (p n : ℕ) (X : Reply A) → further p (left t n X) ≡ left t (max p n) X
+unfolding further
+past-lost true p n X = further-twice p n X
+past-lost false p n X = refl
+
+before-rest : {A : Type 0} (m k : Parser A) (b : ℕ) (u : List ℕ) (t : Bool) (n : ℕ) (X : Reply A) → m b u ≡ X → k b u ≡ left t n X → (m or k) b u ≡ further n X
+unfolding _or_ further
+before-rest m k b u t n (ok a c r) e f = rw (e, _or_)
+before-rest m k b u true n (fail p) e f = let z : max p (max n p) ≡ max n p = omega arith in or-lost m k e f ∙ ap fail z
+before-rest m k b u false n (fail p) e f = let z : max p n ≡ max n p = omega arith in or-lost m k e f ∙ ap fail z
+before-rest m k b u t n (stop i p) e f = rw (e, _or_)
+
+left-by : {A : Type 0} {b : ℕ} {u : List ℕ} {X : Reply A} {m : Parser A} {es : List End} → Tries b u X m es → m b u ≡ left (keeps es) (furthest es) X
+left-by {X = X} (last {e = kept} h) = h ∙ further-none X
+left-by (last {e = lost p} h) = let z : p ≡ max p 0 = omega arith in h ∙ ap fail z
+left-by {b = b} {u = u} {X = X} (more m {k = k} {e = kept} {es = es} h t) = before-rest m k b u (keeps es) (furthest es) X h (left-by t)
+left-by {X = X} (more m {k = k} {e = lost p} {es = es} h t) = or-fail m k h ∙ (ap (further p) (left-by t) ∙ past-lost (keeps es) p (furthest es) X)
+
+-- those that fail do so no further than at n, and one of them there
+abbrev pub Within : ℕ → End → Type 0
+Within n kept = Unit {0}
+Within n (lost p) = p ≤ n
+
+abbrev pub AllWithin : ℕ → List End → Type 0
+AllWithin n [] = Unit {0}
+AllWithin n (e ∷ es) = Within n e × AllWithin n es
+
+abbrev pub Reaches : ℕ → List End → Type 0
+Reaches n [] = ⊥
+Reaches n (kept ∷ es) = Reaches n es
+Reaches n (lost p ∷ es) = (p ≡ n) ⊎ Reaches n es
+
+at-most : (n : ℕ) (es : List End) → AllWithin n es → furthest es ≤ n
+at-most n [] w = omega arith
+at-most n (kept ∷ es) w = at-most n es (w .1)
+at-most n (lost p ∷ es) w = omega (arith, w .0, at-most n es (w .1))
+
+at-least : (n : ℕ) (es : List End) → Reaches n es → n ≤ furthest es
+at-least n [] r = absurd r
+at-least n (kept ∷ es) r = at-least n es r
+at-least n (lost p ∷ es) (inl e) = omega (arith, e)
+at-least n (lost p ∷ es) (inr r) = omega (arith, at-least n es r)
+
+pub choice : {A : Type 0} {b : ℕ} {u : List ℕ} {X : Reply A} {m : Parser A} {es : List End} (n : ℕ) → Tries b u X m es → AllWithin n es → Reaches n es → m b u ≡ left (keeps es) n X
+choice {X = X} {es = es} n t w r = let z : furthest es ≡ n = omega (arith, at-most n es w, at-least n es r) in left-by t ∙ ap (λ (q : ℕ). left (keeps es) q X) z
