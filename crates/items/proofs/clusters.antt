@@ -1,2 +1,3 @@
--- Laws of the readers of enums and bitmaps.
+-- Laws of the readers of clusters.
 pub mod Laws
+pub mod Whole

@@ -12,8 +12,9 @@ ghost use Rattle.lexing.specs.blanks.{no-doc, whitespace0};
 ghost use Rattle.items.specs.layout.{text-limit};
 ghost use Rattle.items.specs.inner.clusters.{struct-words, attribute-words, command-words, event-words, found, KindTo, member-try, countRaised};
 ghost use Rattle.items.specs.entries.{braces};
-ghost use Rattle.items.specs.clusters.{parse-revision, member-tries, parse-cluster-member, cluster-members};
-ghost use Rattle.items.specs.answers.clusters.{RevisionTo, MemberCountTo, MembersCountTo};
+ghost use Rattle.items.specs.clusters.{parse-revision, member-tries, parse-cluster-member, cluster-members, side};
+ghost use Rattle.items.specs.answers.{Skips};
+ghost use Rattle.items.specs.answers.clusters.{RevisionTo, MemberCountTo, MembersCountTo, clusterHeadLost, ClusterHeadTo, ClusterCountTo};
 use crate::attributes::count_attribute;
 use crate::choices::choice_after_doc_maturity;
 use crate::counts::Count;
@@ -23,6 +24,7 @@ use crate::endpoints::further;
 use crate::maturity::api_maturity;
 use crate::members::count_command;
 use crate::members::parse_event_after_doc_maturity;
+use crate::optional::optional;
 use crate::structs::parse_struct_after_doc_maturity;
 use lexing::answers::Lost;
 use lexing::answers::Step;
@@ -37,6 +39,7 @@ use lexing::integers::number_lost;
 use lexing::integers::positive_integer;
 use lexing::parts::rest_at;
 use lexing::words::keyword;
+use lexing::words::parse_id;
 use lexing::words::tag;
 
 // What a member is by its first word.
@@ -55,6 +58,18 @@ pub enum MemberKind {
 pub struct Candidate {
     pub kind: MemberKind,
     pub floor: usize,
+}
+
+// Up to the braces: the offsets of its name and behind it, and its code.
+pub struct ClusterHeadParts {
+    pub name: usize,
+    pub end: usize,
+    pub code: u64,
+}
+
+pub enum ClusterHeadRead {
+    ClusterHead(ClusterHeadParts, usize),
+    NoClusterHead(Lost),
 }
 
 // Whether a keyword is the first word.
@@ -340,4 +355,100 @@ fn braced_members(part: &[u8], base: usize) -> Count
         return Count::NoCount(step_lost(close));
     };
     Count::Words(n, c4)
+}
+
+// One keyword or, where it is not there, another.
+fn either(part: &[u8], base: usize, first: &[u8], second: &[u8]) -> Step
+    requires { ⌜ base + length (now part) ≤ text-limit ⌝ }
+    ensures { λ r. ⌜ wordReply r base (now (part .entry)) ≡ any-keyword (now (first .entry) ∷ now (second .entry) ∷ []) base (now (part .entry)) ⌝ }
+{
+    let word = keyword(part, base, first);
+    if let Step::Next(_) = word {
+        return word;
+    }
+    keyword(part, base, second)
+}
+
+fn side(part: &[u8], base: usize) -> Step
+    requires { ⌜ base + length (now part) ≤ text-limit ⌝ }
+    ensures { λ r. ⌜ Skips side r base (now (part .entry)) ⌝ }
+{
+    let word = either(part, base, b"client", b"server");
+    let Step::Next(c1) = word else {
+        return Step::Not(step_lost(word));
+    };
+    let gap = whitespace1(rest_at(part, base, c1), c1);
+    let Gap::Passed(w) = gap else {
+        return Step::Not(gap_lost(gap));
+    };
+    Step::Next(w.next)
+}
+
+pub fn cluster_head(part: &[u8], base: usize) -> ClusterHeadRead
+    requires { ⌜ base + length (now part) ≤ text-limit ⌝ }
+    ensures { λ r. ⌜ ClusterHeadTo r base (now (part .entry)) ⌝ }
+{
+    let o = optional(side(part, base), base);
+    let Step::Next(c1) = o else {
+        return ClusterHeadRead::NoClusterHead(step_lost(o));
+    };
+    let word = keyword(rest_at(part, base, c1), c1, b"cluster");
+    let Step::Next(c2) = word else {
+        return ClusterHeadRead::NoClusterHead(step_lost(word));
+    };
+    let gap = whitespace1(rest_at(part, base, c2), c2);
+    let Gap::Passed(w1) = gap else {
+        return ClusterHeadRead::NoClusterHead(gap_lost(gap));
+    };
+    let c3 = w1.next;
+    let id = parse_id(rest_at(part, base, c3), c3);
+    let Step::Next(c4) = id else {
+        return ClusterHeadRead::NoClusterHead(step_lost(id));
+    };
+    let w2 = whitespace0(rest_at(part, base, c4), c4);
+    let c5 = w2.next;
+    let equals = tag(rest_at(part, base, c5), c5, b'=');
+    let Step::Next(c6) = equals else {
+        return ClusterHeadRead::NoClusterHead(step_lost(equals));
+    };
+    let w3 = whitespace0(rest_at(part, base, c6), c6);
+    let c7 = w3.next;
+    let number = positive_integer(rest_at(part, base, c7), c7);
+    let Number::Value(code, c8) = number else {
+        return ClusterHeadRead::NoClusterHead(number_lost(number));
+    };
+    let w4 = whitespace0(rest_at(part, base, c8), c8);
+    ClusterHeadRead::ClusterHead(
+        ClusterHeadParts {
+            name: c3,
+            end: c4,
+            code,
+        },
+        w4.next,
+    )
+}
+
+pub fn cluster_head_lost(r: ClusterHeadRead) -> Lost
+    ensures { λ x. ⌜ x ≡ clusterHeadLost r ⌝ }
+{
+    match r {
+        ClusterHeadRead::ClusterHead(_, c) => Lost::Fail(c),
+        ClusterHeadRead::NoClusterHead(l) => l,
+    }
+}
+
+// The first pass over a cluster: four words, and those of its members.
+pub fn cluster_after_doc_maturity(part: &[u8], base: usize) -> Count
+    requires { ⌜ base + length (now part) ≤ text-limit ⌝ }
+    ensures { λ r. ⌜ ClusterCountTo r base (now (part .entry)) ⌝ }
+{
+    let head = cluster_head(part, base);
+    let ClusterHeadRead::ClusterHead(_, c1) = head else {
+        return Count::NoCount(cluster_head_lost(head));
+    };
+    let run = braced_members(rest_at(part, base, c1), c1);
+    let Count::Words(n, c2) = run else {
+        return run;
+    };
+    Count::Words(n + 4, c2)
 }
