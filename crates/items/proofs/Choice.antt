@@ -3,9 +3,10 @@ use mathlib.Core.Path.{_≡_, refl, sym, ap, _∙_}
 use mathlib.Core.Logic.{_⊎_, inl, inr}
 use mathlib.Core.Bool.{Bool, true, false}
 use mathlib.Core.List.{List, [], _∷_}
-use Prim.Native.Nat.{ℕ, _≤_, max}
+use Prim.Native.Nat.{ℕ, _+_, _≤_, max}
 use native.Mathlib.Omega.{arith}
 use Rattle.lexing.specs.reply.{Reply, ok, fail, stop, Parser, _or_, further}
+use Rattle.lexing.proofs.Shift.{shiftReply, Shifts}
 
 -- a try that fails leaves the next, whose place is then no nearer
 pub or-fail : {A : Type 0} (m k : Parser A) {b p : ℕ} {u : List ℕ} → m b u ≡ fail p → (m or k) b u ≡ further p (k b u)
@@ -29,7 +30,7 @@ Past b (ok a c r) = Unit {0}
 Past b (fail p) = b ≤ p
 Past b (stop n p) = Unit {0}
 
-past-start : {A : Type 0} (b : ℕ) (X : Reply A) → Past b X → X ≡ further b X
+pub past-start : {A : Type 0} (b : ℕ) (X : Reply A) → Past b X → X ≡ further b X
 unfolding further
 past-start b (ok a c r) p = refl
 past-start b (fail q) p = let z : q ≡ max b q = omega arith in ap fail z
@@ -124,3 +125,80 @@ at-least n (lost p ∷ es) (inr r) = omega (arith, at-least n es r)
 
 pub choice : {A : Type 0} {b : ℕ} {u : List ℕ} {X : Reply A} {m : Parser A} {es : List End} (n : ℕ) → Tries b u X m es → AllWithin n es → Reaches n es → m b u ≡ left (keeps es) n X
 choice {X = X} {es = es} n t w r = let z : furthest es ≡ n = omega (arith, at-most n es w, at-least n es r) in left-by t ∙ ap (λ (q : ℕ). left (keeps es) q X) z
+
+-- Choices of the same replies, and choices put together.
+abbrev joined : {A : Type 0} → Reply A → Reply A → Reply A
+joined (ok a c r) y = ok a c r
+joined (fail p) y = further p y
+joined (stop n p) y = stop n p
+
+or-is : {A : Type 0} (m k : Parser A) (b : ℕ) (u : List ℕ) → (m or k) b u ≡ joined (m b u) (k b u)
+unfolding _or_
+or-is {A} m k b u = go (m b u) refl
+  where
+    go : (x : Reply A) → m b u ≡ x → (m or k) b u ≡ joined (m b u) (k b u)
+    go (ok a c r) e = rw (e, _or_)
+    go (fail p) e = rw (e, _or_)
+    go (stop n p) e = rw (e, _or_)
+
+pub or-same : {A : Type 0} (m k m' k' : Parser A) {b b' : ℕ} {u u' : List ℕ} → m b u ≡ m' b' u' → k b u ≡ k' b' u' → (m or k) b u ≡ (m' or k') b' u'
+or-same m k m' k' {b} {b'} {u} {u'} e f = or-is m k b u ∙ (ap (λ x. joined x (k b u)) e ∙ (ap (joined (m' b' u')) f ∙ sym (or-is m' k' b' u')))
+
+joined-assoc : {A : Type 0} (x y z : Reply A) → joined x (joined y z) ≡ joined (joined x y) z
+unfolding further
+joined-assoc (ok a c r) y z = refl
+joined-assoc (fail p) (ok a c r) z = refl
+joined-assoc (fail p) (fail q) z = further-twice p q z
+joined-assoc (fail p) (stop n q) z = refl
+joined-assoc (stop n p) y z = refl
+
+pub or-assoc : {A : Type 0} (m k j : Parser A) (b : ℕ) (u : List ℕ) → (m or (k or j)) b u ≡ ((m or k) or j) b u
+or-assoc m k j b u =
+    or-is m (k or j) b u ∙ (ap (joined (m b u)) (or-is k j b u) ∙ (joined-assoc (m b u) (k b u) (j b u) ∙ (ap (λ x. joined x (j b u)) (sym (or-is m k b u)) ∙ sym (or-is (m or k) j b u))))
+
+-- a last try that fails
+pub or-keep : {A : Type 0} (m k : Parser A) {b n : ℕ} {u : List ℕ} → k b u ≡ fail n → (m or k) b u ≡ further n (m b u)
+or-keep m k {b} {n} {u} e = before-rest m k b u false n (m b u) refl e
+
+-- One of the tries fails no nearer than at b, and so do all.
+past-further : {A : Type 0} (b p : ℕ) (X : Reply A) → b ≤ p → Past b (further p X)
+unfolding further
+past-further b p (ok a c r) h = tt
+past-further b p (fail q) h = omega arith
+past-further b p (stop n q) h = tt
+
+further-past : {A : Type 0} (b p : ℕ) (X : Reply A) → Past b X → Past b (further p X)
+unfolding further
+further-past b p (ok a c r) h = tt
+further-past b p (fail q) h = omega arith
+further-past b p (stop n q) h = tt
+
+module _ {A : Type 0} (m k : Parser A) (b : ℕ) (u : List ℕ) where
+  pub past-first : Past b (m b u) → Past b ((m or k) b u)
+  past-first h = rw (or-is m k b u) (go (m b u) h)
+    where
+      go : (x : Reply A) → Past b x → Past b (joined x (k b u))
+      go (ok a c r) h = tt
+      go (fail p) h = past-further b p (k b u) h
+      go (stop n p) h = tt
+
+  pub past-rest : Past b (k b u) → Past b ((m or k) b u)
+  past-rest h = rw (or-is m k b u) (go (m b u))
+    where
+      go : (x : Reply A) → Past b (joined x (k b u))
+      go (ok a c r) = tt
+      go (fail p) = further-past b p (k b u) h
+      go (stop n p) = tt
+
+-- a parser that moves with its base fails no nearer than there
+past-moved : {A : Type 0} (b : ℕ) (f : A → A) (X : Reply A) → Past b (shiftReply b f X)
+unfolding shiftReply
+past-moved b f (ok a c r) = tt
+past-moved b f (fail p) = omega arith
+past-moved b f (stop n p) = tt
+
+pub moving-past : {A : Type 0} {f : ℕ → A → A} {m : Parser A} → ((d : ℕ) → Shifts d (f d) m m) → (b : ℕ) (u : List ℕ) → Past b (m b u)
+moving-past {f = f} {m = m} w b u =
+    let z : b + 0 ≡ b = omega arith in
+    let h : Past b (m (b + 0) u) = rw (w b .shifts 0 u) (past-moved b (f b) (m 0 u)) in
+    rw z at h

@@ -198,12 +198,12 @@ one-kind j k e = sym (kind-numbered j) ∙ (ap (kind-at kinds) (eqb-true (kind-n
 abbrev pub kind-ends : Candidate → ℕ → MemberKind → End
 kind-ends r b k = cond (same-kind k (r .kind)) kept (lost (fails-at (r .floor) b k))
 
-pub kind-tried : {r : Candidate} {b : ℕ} {u : List ℕ} → KindTo r b u → (k : MemberKind) (d : Doc) (m : ℕ) → member-try k d m b u ≡ ends (member-try (r .kind) d m b u) (kind-ends r b k)
-kind-tried {r} {b} {u} h k d m = go (same-kind k (r .kind)) refl
+pub kind-tried : {A : Type 0} (t : MemberKind → Reply A) (r : Candidate) (b : ℕ) → ((k : MemberKind) → same-kind k (r .kind) ≡ false → t k ≡ fail (fails-at (r .floor) b k)) → (k : MemberKind) → t k ≡ ends (t (r .kind)) (kind-ends r b k)
+kind-tried t r b h k = go (same-kind k (r .kind)) refl
   where
-    go : (t : Bool) → same-kind k (r .kind) ≡ t → member-try k d m b u ≡ ends (member-try (r .kind) d m b u) (cond t kept (lost (fails-at (r .floor) b k)))
-    go true e = ap (λ (j : MemberKind). member-try j d m b u) (one-kind k (r .kind) e)
-    go false e = h .others k e d m
+    go : (x : Bool) → same-kind k (r .kind) ≡ x → t k ≡ ends (t (r .kind)) (cond x kept (lost (fails-at (r .floor) b k)))
+    go true e = ap t (one-kind k (r .kind) e)
+    go false e = h k e
 
 pub kind-within : {r : Candidate} {b : ℕ} {u : List ℕ} → KindTo r b u → (k : MemberKind) → Within (r .floor) (kind-ends r b k)
 kind-within {r} {b} h k = go (same-kind k (r .kind))
@@ -257,7 +257,7 @@ member-left {r} {b} {u} h d m =
     w k = kind-within h k
 
     t : (k : MemberKind) → member-try k d m b u ≡ ends (member-try (r .kind) d m b u) (kind-ends r b k)
-    t k = kind-tried h k d m
+    t k = kind-tried (λ k. member-try k d m b u) r b (λ k e. h .others k e d m) k
 
     tries : Tries b u (member-try (r .kind) d m b u) (member-tries d m) (member-ends r b)
     tries = more _ (t Revision) (more _ (t Bitmap) (more _ (t Enum) (more _ (t Struct) (more _ (t Attribute) (more _ (t Command) (last (t Event)))))))
