@@ -1,28 +1,78 @@
 -- What stands between braces: one law for each way through.
 use mathlib.Core.Path.{_≡_, refl, sym, ap, _∙_}
-use mathlib.Core.List.{List}
+use mathlib.Core.Bool.{Bool, true, false}
+use mathlib.Core.List.{List, [], _∷_}
 use Prim.Native.Nat.{ℕ, _+_, _-_, _≤_}
 use native.Mathlib.Omega.{arith}
+use lib.Dec.{eqb}
 use lib.ListN.{length, drop}
-use Rattle.lexing.specs.reply.{Reply, ok, fail, stop, Parser, ret, _>>=_, _>>_, catch, failAt}
-use Rattle.lexing.specs.words.{tag}
-use Rattle.lexing.specs.blanks.{Doc, whitespace0}
+use borrow.Author.Tests.{eqb-true}
+use Rattle.lexing.specs.bytes.{isLetter, isSpace, within}
+use Rattle.lexing.specs.reply.{Reply, ok, fail, stop, Parser, ret, _>>=_, _>>_, catch, failAt, keep}
+use Rattle.lexing.specs.words.{keyword, tag}
+use Rattle.lexing.specs.blanks.{Doc, no-doc, one-blank, whitespace0}
 use Rattle.lexing.specs.answers.{Rest, lostReply}
 use Rattle.lexing.specs.declared.answers.Lost.{Lost}
 use Rattle.lexing.specs.declared.answers.Lost.the-variants.{Fail, Stop}
-use Rattle.lexing.proofs.Runs.{suf-length}
-use Rattle.lexing.proofs.Onward.{Onward}
-use Rattle.lexing.proofs.Slicing.{Took, begin, go, on, lose, fall, done, rest-self, rest-from, suf-drop}
+use Rattle.lexing.proofs.Runs.{Suf, suf-trans, suf-length}
+use Rattle.lexing.proofs.Chain.{MovesTo, to-suf}
+use Rattle.lexing.proofs.Onward.{Ends, Onward}
+use Rattle.lexing.proofs.Repetition.{iter-fail}
+use Rattle.lexing.proofs.TokenLocality.{no-group, one-blank-consumes}
+use Rattle.lexing.proofs.words.Laws.{keyword-no-word}
+use Rattle.lexing.proofs.Slicing.{Took, took, begin, go, on, lose, fall, done, rest-self, rest-from, suf-drop}
 use Rattle.items.specs.entries.{enclosed, where-missing, braces}
 use Rattle.items.specs.records.{Record}
 use Rattle.items.specs.answers.{Room, Written}
 use Rattle.items.specs.declared.writing.Wrote.{Wrote}
+use Rattle.items.proofs.Locality.{close-moves}
+use Rattle.items.proofs.Tries.{bind-fail}
 use Rattle.items.proofs.writing.Laws.{no-room, written-took}
 
 -- what is lost, where a failure is caught
 abbrev pub caught : {A : Type 0} → (ℕ → Parser A) → Lost → Parser A
 caught h (Fail p) b u = h p b u
 caught h (Stop n p) b u = stop n p
+
+-- an accepted reply is none that is lost
+pub lost-not : {A : Type 0} {a : A} {c : ℕ} {r : List ℕ} {m : Reply A} → ok a c r ≡ m → (l : Lost) → lostReply l ≡ m → ⊥
+lost-not h (Fail p) e = let z = h ∙ sym e in let y : _≡_ {A = ℕ} 0 1 = cc in omega arith
+lost-not h (Stop n p) e = let z = h ∙ sym e in let y : _≡_ {A = ℕ} 0 1 = cc in omega arith
+
+-- where a closing brace stands
+pub brace-first : (b : ℕ) (u : List ℕ) {c : ℕ} {r : List ℕ} → ok tt c r ≡ tag 125 b u → (v : List ℕ) × (u ≡ 125 ∷ v)
+unfolding tag
+brace-first b [] e = absurd (lost-not e (Fail b) refl)
+brace-first b (x ∷ u) {c} {r} e = go (eqb x 125) refl
+  where
+    go : (t : Bool) → eqb x 125 ≡ t → (v : List ℕ) × (x ∷ u ≡ 125 ∷ v)
+    go true z = (u, ap (λ (y : ℕ). y ∷ u) (eqb-true x 125 z))
+    go false z = absurd (lost-not (rw (z, tag) at e) (Fail b) refl)
+
+-- neither a keyword nor a blank stands there
+module _ (b : ℕ) (u : List ℕ) where
+  pub brace-keyword : (k : List ℕ) → keyword k b (125 ∷ u) ≡ fail b
+  unfolding isLetter within
+  brace-keyword k = sym (keyword-no-word k b (125 ∷ u) refl)
+
+  pub brace-blank : whitespace0 b (125 ∷ u) ≡ ok no-doc b (125 ∷ u)
+  unfolding whitespace0 one-blank keep isSpace within
+  brace-blank = iter-fail one-blank keep one-blank-consumes no-doc b (125 ∷ u) b (bind-fail _ _ (no-group b 125 u refl))
+
+-- one step behind another goes onward
+pub onward-bind : {A B : Type 0} {m : Parser A} {k : A → Parser B} → Onward m → ((a : A) → Onward (k a)) → Onward (m >>= k)
+unfolding _>>=_
+onward-bind {A} {B} {m} {k} w v = record { onward = λ b u. go b u (m b u) refl (w .onward b u) }
+  where
+    further : (b c : ℕ) (u r : List ℕ) → Suf r u → c + length r ≡ b + length u → (y : Reply B) → Ends c r y → Ends b u y
+    further b c u r s e (ok a c' r') p = (suf-trans (p .0) s, p .1 ∙ e)
+    further b c u r s e (fail q) p = tt
+    further b c u r s e (stop n q) p = tt
+
+    go : (b : ℕ) (u : List ℕ) (x : Reply A) → m b u ≡ x → Ends b u x → Ends b u ((m >>= k) b u)
+    go b u (ok a c r) e p = rw (e, _>>=_) (further b c u r (p .0) (p .1) (k a c r) (v a .onward c r))
+    go b u (fail q) e p = rw (e, _>>=_) tt
+    go b u (stop n q) e p = rw (e, _>>=_) tt
 
 -- the closing brace
 module _ {b n : ℕ} {u : List ℕ} {d : Doc} {c : ℕ} (t : Took whitespace0 b u n d c) where
@@ -42,7 +92,7 @@ module _ {b n : ℕ} {u : List ℕ} {d : Doc} {c : ℕ} (t : Took whitespace0 b 
       let q : stop i p ≡ (whitespace0 >> tag 125) n (drop (n - b) u) = on (tag 125) t (e ∙ ap (tag 125 c) (z .same)) in
       rw (sym q, catch) refl
 
-  close-lost : {S : Type 0} (x : S) (l : Lost) {r : List ℕ} → Rest b u c r → lostReply l ≡ tag 125 c r → lostReply l ≡ catch (whitespace0 >> tag 125) (λ p. failAt (where-missing x p)) n (drop (n - b) u)
+  pub close-lost : {S : Type 0} (x : S) (l : Lost) {r : List ℕ} → Rest b u c r → lostReply l ≡ tag 125 c r → lostReply l ≡ catch (whitespace0 >> tag 125) (λ p. failAt (where-missing x p)) n (drop (n - b) u)
   unfolding failAt where-missing
   close-lost x (Fail p) z e = close-caught (λ p. failAt (where-missing x p)) (Fail p) z e
   close-lost x (Stop i p) z e = close-caught (λ p. failAt (where-missing x p)) (Stop i p) z e
@@ -112,6 +162,26 @@ follows k t e = rw (t .goes, _>>_, _>>=_) at e
 pub follows-with : {A B : Type 0} {m : Parser A} (k : A → Parser B) {X : Reply B} {b : ℕ} {u : List ℕ} {n : ℕ} {a : A} {c : ℕ} → Took m b u n a c → X ≡ (m >>= k) n (drop (n - b) u) → X ≡ k a c (drop (c - b) u)
 unfolding _>>=_
 follows-with k t e = rw (t .goes, _>>=_) at e
+
+pub leaves : {A : Type 0} (b : ℕ) (u : List ℕ) (x : Reply A) → MovesTo 1 0 b u x → Ends b u x
+leaves b u (ok a c r) p = (to-suf (p .0), p .1)
+leaves b u (fail p) q = tt
+leaves b u (stop n p) q = tt
+
+pub close-on : {S : Type 0} (x : S) → Onward (catch (whitespace0 >> tag 125) (λ p. failAt (where-missing x p)))
+close-on x = record { onward = λ b u. leaves b u (catch (whitespace0 >> tag 125) (λ p. failAt (where-missing x p)) b u) (close-moves where-missing x 0 b u) }
+
+-- behind the opening brace
+module _ {A : Type 0} {m : Parser A} (w : Onward m) {b : ℕ} {u : List ℕ} {c : ℕ} (t : Took (tag 123) b u b tt c) {r : List ℕ} (q : Rest b u c r) where
+  pub opened-room : {records : A → List Record} {p n : ℕ} → Room records (tag 123 >> m) b u p n → Room records m c r p n
+  opened-room room =
+      let y : ok (room .value) (room .next) (drop (room .next - b) u) ≡ (tag 123 >> m) b (drop (b - b) u) = room .is ∙ ap ((tag 123 >> m) b) (rest-self b u .same) in
+      let x = follows m t y in
+      let s = rest-is w c (room .next) (drop (c - b) u) (drop (room .next - b) u) (room .value) (sym x) in
+      record { value = room .value; next = room .next; is = rw (q .same) (rw (← s) x); fits = room .fits }
+
+  pub opened-is : {a : A} {d : ℕ} → ok a d (drop (d - c) r) ≡ m c r → ok a d (drop (d - b) u) ≡ (tag 123 >> m) b u
+  opened-is e = begin (tag 123 >> m) b u (on m t (sym (took w q e .goes)))
 
 -- the second pass between braces
 module _ {A : Type 0} {records : A → List Record} (m : Parser A) {b : ℕ} {u : List ℕ} {p n : ℕ} (room : Room records (braces m) b u p n) where

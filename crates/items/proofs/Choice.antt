@@ -74,6 +74,17 @@ further-none (ok a c r) = refl
 further-none (fail p) = let z : p ≡ max 0 p = omega arith in ap fail z
 further-none (stop n p) = refl
 
+-- a value has no place
+pub further-ok : {A : Type 0} (q : ℕ) (X : Reply A) {v : A} {c : ℕ} {r : List ℕ} → ok v c r ≡ further q X → ok v c r ≡ X
+unfolding further
+further-ok q (ok v c r) e = e
+further-ok q (fail p) e = let z : _≡_ {A = ℕ} 0 1 = cc in absurd (omega arith)
+further-ok q (stop n p) e = let z : _≡_ {A = ℕ} 0 1 = cc in absurd (omega arith)
+
+pub ok-further : {A : Type 0} (q : ℕ) {X : Reply A} {v : A} {c : ℕ} {r : List ℕ} → ok v c r ≡ X → ok v c r ≡ further q X
+unfolding further
+ok-further q e = ap (further q) e
+
 further-twice : {A : Type 0} (p n : ℕ) (X : Reply A) → further p (further n X) ≡ further (max p n) X
 unfolding further
 further-twice p n (ok a c r) = refl

@@ -1,7 +1,7 @@
 // Clusters: their members, each by the kind that its first word says.
 ghost use mathlib.Core.Path.{_≡_};
 ghost use mathlib.Core.List.{[], _∷_};
-ghost use Prim.Native.Nat.{_+_, _≤_};
+ghost use Prim.Native.Nat.{_+_, _≤_, _<_};
 ghost use lib.ListN.{length};
 ghost use Rattle.lexing.specs.bytes.{ascii};
 ghost use Rattle.lexing.specs.reply.{ok, fail};
@@ -9,14 +9,18 @@ ghost use Rattle.lexing.specs.words.{keyword, any-keyword};
 ghost use Rattle.lexing.specs.answers.{wordReply, docOf};
 ghost use Rattle.lexing.specs.declared.answers.Step.the-variants.{Next};
 ghost use Rattle.lexing.specs.blanks.{no-doc, whitespace0};
-ghost use Rattle.items.specs.layout.{text-limit};
-ghost use Rattle.items.specs.inner.clusters.{struct-words, attribute-words, command-words, event-words, found, KindTo, member-try, countRaised};
+ghost use Rattle.items.specs.layout.{text-limit, layout-20, catalogue-bytes};
+ghost use Rattle.items.specs.buffers.{put};
+ghost use Rattle.items.specs.records.{each};
+ghost use Rattle.items.specs.inner.clusters.{struct-words, attribute-words, command-words, event-words, found, KindTo, member-try, countRaised, member-behind, members-rest, unhoisted, MemberWritten, MembersWritten, cluster-first};
 ghost use Rattle.items.specs.entries.{braces};
-ghost use Rattle.items.specs.clusters.{parse-revision, member-tries, parse-cluster-member, cluster-members, side};
-ghost use Rattle.items.specs.answers.{Skips};
-ghost use Rattle.items.specs.answers.clusters.{RevisionTo, MemberCountTo, MembersCountTo, clusterHeadLost, ClusterHeadTo, ClusterCountTo};
+ghost use Rattle.items.specs.clusters.{parse-revision, member-tries, parse-cluster-member, cluster-members, side, cluster-after-doc-maturity};
+ghost use Rattle.items.specs.answers.{Skips, NameIn, DocFits, FrontFits, Room, Written};
+ghost use Rattle.items.specs.answers.clusters.{RevisionTo, MemberCountTo, MembersCountTo, clusterHeadLost, ClusterHeadTo, unhoisted-records, ClusterCountTo};
 use crate::attributes::count_attribute;
+use crate::attributes::write_attribute;
 use crate::choices::choice_after_doc_maturity;
+use crate::choices::write_choice;
 use crate::counts::Count;
 use crate::counts::count_end;
 use crate::counts::count_lost;
@@ -24,8 +28,17 @@ use crate::endpoints::further;
 use crate::maturity::api_maturity;
 use crate::members::count_command;
 use crate::members::parse_event_after_doc_maturity;
+use crate::members::write_command;
+use crate::members::write_event;
 use crate::optional::optional;
 use crate::structs::parse_struct_after_doc_maturity;
+use crate::structs::write_struct;
+use crate::writing::First;
+use crate::writing::FrontParts;
+use crate::writing::Wrote;
+use crate::writing::doc_bit;
+use crate::writing::put_documented;
+use crate::writing::put_word;
 use lexing::answers::Lost;
 use lexing::answers::Step;
 use lexing::answers::step_lost;
@@ -70,6 +83,13 @@ pub struct ClusterHeadParts {
 pub enum ClusterHeadRead {
     ClusterHead(ClusterHeadParts, usize),
     NoClusterHead(Lost),
+}
+
+// Where reading and writing stand, and the last revision so far.
+pub struct MembersWrote {
+    pub next: usize,
+    pub to: usize,
+    pub revision: u64,
 }
 
 // Whether a keyword is the first word.
@@ -451,4 +471,196 @@ pub fn cluster_after_doc_maturity(part: &[u8], base: usize) -> Count
         return run;
     };
     Count::Words(n + 4, c2)
+}
+
+// What a member other than a revision leaves: the last revision as it was.
+fn kept(w: Wrote, revision: u64) -> MembersWrote
+    ensures { λ r. ⌜ r ≡ record { next = w .next; to = w .to; revision = revision } ⌝ }
+{
+    MembersWrote {
+        next: w.next,
+        to: w.to,
+        revision,
+    }
+}
+
+// The second pass over a member of a kind; a revision has no records, and takes the place of the last one.
+fn write_kind(
+    part: &[u8],
+    base: usize,
+    kind: MemberKind,
+    doc: DocSpan,
+    maturity: u8,
+    last: u64,
+    out: &mut [u8],
+    at: usize,
+) -> MembersWrote
+    requires { ⌜ base + length (now part) ≤ text-limit ⌝ }
+    requires { ⌜ DocFits doc ⌝ }
+    requires { ⌜ maturity < 4 ⌝ }
+    requires { ⌜ Room unhoisted (member-try kind (docOf doc) maturity) base (now part) at (length (now out)) ⌝ }
+    ensures { λ r. ⌜ MemberWritten last (member-try kind (docOf doc) maturity) base (now (part .entry)) at r (now (out .entry)) (now (out .exit)) ⌝ }
+{
+    let nothing = MembersWrote {
+        next: base,
+        to: at,
+        revision: last,
+    };
+    // Only an enum and a bitmap take their record's kind from it.
+    let front = FrontParts {
+        kind: 0,
+        place: 0,
+        doc,
+        maturity,
+    };
+    match kind {
+        MemberKind::Revision => {
+            let r = parse_revision(part, base);
+            let Number::Value(revision, next) = r else {
+                return nothing;
+            };
+            MembersWrote {
+                next,
+                to: at,
+                revision,
+            }
+        }
+        MemberKind::Bitmap => {
+            let front = FrontParts {
+                kind: 3,
+                place: 0,
+                doc,
+                maturity,
+            };
+            kept(write_choice(part, base, b"bitmap", front, out, at), last)
+        }
+        MemberKind::Enum => {
+            let front = FrontParts {
+                kind: 2,
+                place: 0,
+                doc,
+                maturity,
+            };
+            kept(write_choice(part, base, b"enum", front, out, at), last)
+        }
+        MemberKind::Struct => kept(write_struct(part, base, front, out, at), last),
+        MemberKind::Attribute => kept(write_attribute(part, base, front, out, at), last),
+        MemberKind::Command => kept(write_command(part, base, front, out, at), last),
+        MemberKind::Event => kept(write_event(part, base, front, out, at), last),
+        MemberKind::Unknown => nothing,
+    }
+}
+
+// The second pass over a member behind the blanks before it, which hold its doc comment.
+fn write_member(
+    part: &[u8],
+    base: usize,
+    doc: DocSpan,
+    last: u64,
+    out: &mut [u8],
+    at: usize,
+) -> MembersWrote
+    requires { ⌜ base + length (now part) ≤ text-limit ⌝ }
+    requires { ⌜ DocFits doc ⌝ }
+    requires { ⌜ Room unhoisted (member-behind (docOf doc)) base (now part) at (length (now out)) ⌝ }
+    ensures { λ r. ⌜ MemberWritten last (member-behind (docOf doc)) base (now (part .entry)) at r (now (out .entry)) (now (out .exit)) ⌝ }
+{
+    let m = api_maturity(part, base);
+    let c1 = m.next;
+    let w = whitespace0(rest_at(part, base, c1), c1);
+    let c2 = w.next;
+    let rest = rest_at(part, base, c2);
+    let k = member_kind(rest, c2);
+    let kind = k.kind;
+    write_kind(rest, c2, kind, doc, m.level, last, out, at)
+}
+
+// The second pass over members and the closing brace behind them.
+fn write_members(part: &[u8], base: usize, out: &mut [u8], at: usize) -> MembersWrote
+    requires { ⌜ base + length (now part) ≤ text-limit ⌝ }
+    requires { ⌜ Room (each unhoisted) members-rest base (now part) at (length (now out)) ⌝ }
+    ensures { λ r. ⌜ MembersWritten members-rest base (now (part .entry)) at r (now (out .entry)) (now (out .exit)) ⌝ }
+{
+    let mut c = base;
+    let mut to = at;
+    let mut revision = 0;
+    loop {
+        let w = whitespace0(rest_at(part, base, c), c);
+        let start = w.next;
+        let close = tag(rest_at(part, base, start), start, b'}');
+        if let Step::Next(next) = close {
+            return MembersWrote { next, to, revision };
+        }
+        let doc = w.doc;
+        let wrote = write_member(rest_at(part, base, start), start, doc, revision, out, to);
+        c = wrote.next;
+        to = wrote.to;
+        revision = wrote.revision;
+    }
+}
+
+// The second pass over members between braces.
+fn write_braced(part: &[u8], base: usize, out: &mut [u8], at: usize) -> MembersWrote
+    requires { ⌜ base + length (now part) ≤ text-limit ⌝ }
+    requires { ⌜ Room (each unhoisted) (braces cluster-members) base (now part) at (length (now out)) ⌝ }
+    ensures { λ r. ⌜ MembersWritten (braces cluster-members) base (now (part .entry)) at r (now (out .entry)) (now (out .exit)) ⌝ }
+{
+    let brace = tag(part, base, b'{');
+    let Step::Next(c) = brace else {
+        return MembersWrote {
+            next: base,
+            to: at,
+            revision: 0,
+        };
+    };
+    write_members(rest_at(part, base, c), c, out, at)
+}
+
+// The first record of a cluster.
+fn put_cluster(out: &mut [u8], at: usize, front: FrontParts, head: ClusterHeadParts, revision: u64)
+    requires { ⌜ at + 32 ≤ length (now out) ⌝ }
+    requires { ⌜ FrontFits front ⌝ }
+    requires { ⌜ NameIn 0 (head .name) (head .end) text-limit ⌝ }
+    ensures { λ _. ⌜ now (out .exit) ≡ put at (catalogue-bytes layout-20 (cluster-first front head revision ∷ [])) (now (out .entry)) ⌝ }
+{
+    let doc = front.doc;
+    let first = First {
+        kind: 1,
+        place: 0,
+        maturity: front.maturity,
+        documented: doc_bit(doc),
+        flags: 0,
+        name: head.name,
+        size: head.end - head.name,
+        privilege: 0,
+        further: 0,
+    };
+    put_documented(out, at, first, doc);
+    put_word(out, at + 16, head.code);
+    put_word(out, at + 24, revision);
+}
+
+// The second pass over a cluster: its members first, since they tell the last revision.
+pub fn write_cluster(
+    part: &[u8],
+    base: usize,
+    front: FrontParts,
+    out: &mut [u8],
+    at: usize,
+) -> Wrote
+    requires { ⌜ base + length (now part) ≤ text-limit ⌝ }
+    requires { ⌜ FrontFits front ⌝ }
+    requires { ⌜ Room unhoisted-records (cluster-after-doc-maturity (docOf (front .doc)) (front .maturity)) base (now part) at (length (now out)) ⌝ }
+    ensures { λ r. ⌜ Written unhoisted-records (cluster-after-doc-maturity (docOf (front .doc)) (front .maturity)) base (now (part .entry)) at r (now (out .entry)) (now (out .exit)) ⌝ }
+{
+    let head = cluster_head(part, base);
+    let ClusterHeadRead::ClusterHead(h, c) = head else {
+        return Wrote { next: base, to: at };
+    };
+    let wrote = write_braced(rest_at(part, base, c), c, out, at + 32);
+    put_cluster(out, at, front, h, wrote.revision);
+    Wrote {
+        next: wrote.next,
+        to: wrote.to,
+    }
 }

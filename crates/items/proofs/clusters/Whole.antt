@@ -1,30 +1,58 @@
 -- Whole clusters: a side, the head, and both passes over the members between braces.
 use mathlib.Core.Path.{_≡_, refl, sym, ap, _∙_, subst}
-use mathlib.Core.List.{List, [], _∷_}
+use mathlib.Core.Bool.{false}
+use mathlib.Core.List.{List, [], _∷_, _++_}
 use Prim.Native.Nat.{ℕ, _+_, _-_, _*_, _≤_, _<_, max}
 use native.Mathlib.Omega.{arith}
 use lib.ListN.{length, drop}
 use Rattle.lexing.specs.bytes.{ascii}
-use Rattle.lexing.specs.reply.{Reply, ok, fail, stop, Parser, _or_, further, opt}
-use Rattle.lexing.specs.words.{Word, keyword, any-keyword}
-use Rattle.lexing.specs.answers.{Rest, wordAt, wordReply, lostReply}
+use Rattle.lexing.specs.reply.{Reply, ok, fail, stop, Parser, ret, _>>=_, _>>_, catch, failAt, _or_, further, opt, many0}
+use Rattle.lexing.specs.words.{Word, keyword, any-keyword, tag}
+use Rattle.lexing.specs.blanks.{Doc, no-doc, whitespace0}
+use Rattle.lexing.specs.answers.{Rest, Answer, reply, wordAt, wordReply, lostReply, docOf}
 use Rattle.lexing.specs.declared.answers.Lost.{Lost}
+use Rattle.lexing.specs.declared.answers.Lost.the-variants.{Fail, Stop}
 use Rattle.lexing.specs.declared.answers.Step.{Step}
 use Rattle.lexing.specs.declared.answers.Step.the-variants.{Next, Not}
+use Rattle.lexing.specs.declared.integers.Number.{Number}
+use Rattle.lexing.specs.declared.integers.Number.the-variants.{Value}
 use Rattle.lexing.proofs.Onward.{Onward}
-use Rattle.lexing.proofs.Locality.{chain-opt, chain-many0}
-use Rattle.lexing.proofs.TokenLocality.{any-keyword-chain}
+use Rattle.lexing.proofs.Locality.{chain-ret, chain-bind, chain-then, chain-opt, chain-many0}
+use Rattle.lexing.proofs.TokenLocality.{any-keyword-chain, whitespace0-chain}
+use Rattle.lexing.proofs.FirstWord.{Frees, free-keywords}
+use Rattle.lexing.proofs.Repetition.{many0-step, many0-ends}
 use Rattle.lexing.proofs.words.Laws.{keyword-says}
-use Rattle.lexing.proofs.Slicing.{Took, took, walks, told-next, or-here}
-use Rattle.items.specs.clusters.{Member, cluster-members, side, cluster-head, cluster-after-doc-maturity}
-use Rattle.items.specs.entries.{braces}
-use Rattle.items.specs.records.{value, each, word-extent, documented, member-records, last-revision, cluster-records}
-use Rattle.items.specs.layout.{layout-20, record-words, catalogue-words, word-count}
-use Rattle.items.specs.answers.{Front, wordBetween, NameIn}
-use Rattle.items.specs.answers.clusters.{clusterHeadAt, unhoisted-records}
+use Rattle.lexing.proofs.Slicing.{Took, took, walks, told-next, or-here, begin, go, on, done, fall, rest-self, rest-from}
+use Rattle.items.specs.entries.{enclosed, where-missing, braces, api-maturity, choice-after-doc-maturity, parse-enum-after-doc-maturity, parse-bitmap-after-doc-maturity}
+use Rattle.items.specs.structs.{parse-struct-after-doc-maturity}
+use Rattle.items.specs.members.{parse-event-after-doc-maturity, parse-command-after-doc-maturity, parse-attribute-after-doc-maturity}
+use Rattle.items.specs.clusters.{Member, revision, bitmap, enum, struct, attribute, command, event, mapped, parse-revision, member-tries, parse-cluster-member, cluster-members, side, cluster-head, cluster-after-doc-maturity}
+use Rattle.items.specs.records.{Record, at, value, each, word-extent, documented, choice-records, struct-records, attribute-records, event-records, member-records, last-revision, cluster-records}
+use Rattle.items.specs.layout.{packed, width, from-top, offset, size, layout-20, record-words, big-endian, words-bytes, further-word, catalogue-words, catalogue-bytes, word-count, text-limit}
+use Rattle.items.specs.buffers.{put}
+use Rattle.items.specs.answers.{Front, frontOf, wordBetween, NameIn, Room, Written, first-of, docWord, docBit}
+use Rattle.items.specs.answers.members.{command-records}
+use Rattle.items.specs.answers.clusters.{RevisionTo, clusterHeadAt, unhoisted-records}
+use Rattle.items.specs.inner.clusters.{found, revision-words, struct-words, attribute-words, command-words, event-words, member-try, KindTo, member-behind, members-rest, unhoisted, wroteTo, MemberWritten, MembersWritten, cluster-first}
+use Rattle.items.specs.declared.writing.FrontParts.{FrontParts}
+use Rattle.items.specs.declared.writing.Wrote.{Wrote}
+use Rattle.items.specs.declared.clusters.MemberKind.{MemberKind}
+use Rattle.items.specs.declared.clusters.MemberKind.the-variants.{Revision, Bitmap, Enum, Struct, Attribute, Command, Event, Unknown}
+use Rattle.items.specs.declared.clusters.Candidate.{Candidate}
+use Rattle.items.specs.declared.clusters.ClusterHeadParts.{ClusterHeadParts}
+use Rattle.items.specs.declared.clusters.MembersWrote.{MembersWrote}
+use Rattle.items.proofs.Answers.{read-took}
+use Rattle.items.proofs.Mapped.{mapped-ok}
 use Rattle.items.proofs.Headed.{Headed}
-use Rattle.items.proofs.Locality.{braces-chain, parse-cluster-member-inside, side-local, cluster-head-local}
-use Rattle.items.proofs.clusters.Laws.{keyword-absent}
+use Rattle.items.proofs.Choice.{further-ok, ok-further}
+use Rattle.items.proofs.Tries.{maturity-words, bind-ok, then-ok, maturity-elsewhere}
+use Rattle.items.proofs.Braces.{Step as Taken, lost-not, brace-first, brace-keyword, brace-blank, rest-is, taken, then-value, follows, follows-with, close-took, close-lost, close-on, onward-bind, opened-room, opened-is}
+use Rattle.items.proofs.RecordWords.{Elementwise, each-elementwise, word-count-none, catalogue-bytes-none}
+use Rattle.items.proofs.Locality.{braces-chain, api-maturity-local, parse-revision-local, member-tries-inside, parse-cluster-member-inside, parse-cluster-member-consumes, side-local, cluster-head-local}
+use Rattle.items.proofs.WordBetween.{extent-between}
+use Rattle.items.proofs.writing.Laws.{put-nothing, put-next, documented-bytes, no-room, written-took, Writing, writing-start, writing-start-seen, writing-same, writing-fits, writing-more, writing-more-seen}
+use Rattle.items.proofs.endpoints.Placed.{mapped-room}
+use Rattle.items.proofs.clusters.Laws.{keyword-absent, OtherWord, at-other, member-left, member-tries-on, members-on, parse-member-on}
 
 -- one of two keywords
 module _ (k j : List ℕ) (b : ℕ) (u : List ℕ) where
@@ -56,6 +84,9 @@ module _ (k j : List ℕ) (b : ℕ) (u : List ℕ) where
 pub side-on : Onward (opt side)
 side-on = walks (chain-opt (side-local .on-chain))
 
+revision-on : Onward parse-revision
+revision-on = walks (parse-revision-local .on-chain)
+
 pub cluster-head-on : Onward cluster-head
 cluster-head-on = walks (cluster-head-local .on-chain)
 
@@ -73,3 +104,260 @@ cluster-headed = record {
   hands = λ i h l. refl;
   size = λ i h l. refl;
 }
+
+-- The second pass.
+
+-- a kind of member that has records: its reader, and the records that are handed out
+pub record Recorded {B : Type 0} (k : MemberKind) (d : Doc) (m : ℕ) (p : Parser B) (f : B → List Record) : Type 0 where
+  pub make : B → Member
+  pub reads : member-try k d m ≡ mapped p make
+  pub hands : (x : B) → unhoisted (make x) ≡ f x
+  pub keeps : (z : ℕ) (x : B) → last-revision z (make x ∷ []) ≡ z
+
+module _ (d : Doc) (m : ℕ) where
+  pub bitmaps : Recorded Bitmap d m (choice-after-doc-maturity (ascii "bitmap") d m) (choice-records 3 0)
+  unfolding member-try parse-bitmap-after-doc-maturity member-records last-revision
+  bitmaps = record { make = bitmap; reads = refl; hands = λ x. refl; keeps = λ z x. refl }
+
+  pub enums : Recorded Enum d m (choice-after-doc-maturity (ascii "enum") d m) (choice-records 2 0)
+  unfolding member-try parse-enum-after-doc-maturity member-records last-revision
+  enums = record { make = enum; reads = refl; hands = λ x. refl; keeps = λ z x. refl }
+
+  pub structs : Recorded Struct d m (parse-struct-after-doc-maturity d m) (struct-records 0)
+  unfolding member-try member-records last-revision
+  structs = record { make = struct; reads = refl; hands = λ x. refl; keeps = λ z x. refl }
+
+  pub attributes : Recorded Attribute d m (parse-attribute-after-doc-maturity d m) attribute-records
+  unfolding member-try member-records last-revision
+  attributes = record { make = attribute; reads = refl; hands = λ x. refl; keeps = λ z x. refl }
+
+  pub commands : Recorded Command d m (parse-command-after-doc-maturity d m) command-records
+  unfolding member-try member-records last-revision
+  commands = record { make = command; reads = refl; hands = λ x. refl; keeps = λ z x. refl }
+
+  pub events : Recorded Event d m (parse-event-after-doc-maturity d m) event-records
+  unfolding member-try member-records last-revision
+  events = record { make = event; reads = refl; hands = λ x. refl; keeps = λ z x. refl }
+
+module _ {B : Type 0} {k : MemberKind} {d : Doc} {m : ℕ} {p : Parser B} {f : B → List Record} (i : Recorded k d m p f) {x : MemberKind} (e : x ≡ k) (b : ℕ) (u : List ℕ) where
+  try-is : member-try x d m b u ≡ mapped p (i .make) b u
+  try-is = ap (λ (y : MemberKind). member-try y d m b u) e ∙ ap (λ (q : Parser Member). q b u) (i .reads)
+
+  pub kind-room : {at n : ℕ} → Room unhoisted (member-try x d m) b u at n → Room f p b u at n
+  kind-room {at} {n} room =
+      let whole : Room unhoisted (mapped p (i .make)) b u at n = record { value = room .value; next = room .next; is = room .is ∙ try-is; fits = room .fits } in
+      let s = mapped-room (i .make) {one = unhoisted} whole in
+      record { value = s .value; next = s .next; is = s .is; fits = rw (← i .hands (s .value)) (s .fits) }
+
+  pub kind-written : (z : ℕ) {at : ℕ} {w : Wrote} {r : MembersWrote} {old new : List ℕ} → Written f p b u at w old new → r ≡ record { next = w .next; to = w .to; revision = z } → MemberWritten z (member-try x d m) b u at r old new
+  kind-written z {at} {w} {r} {old} {new} h y =
+      let s : MemberWritten z (member-try x d m) b u at (record { next = w .next; to = w .to; revision = z }) old new = record {
+        written = record {
+          value = i .make (h .value);
+          is = mapped-ok (i .make) p b u (h .value) (w .next) (drop (w .next - b) u) refl (h .is) ∙ sym try-is;
+          place = rw (i .hands (h .value)) (h .place);
+          bytes = rw (i .hands (h .value)) (h .bytes);
+        };
+        latest = sym (i .keeps z (h .value));
+      } in
+      subst (λ (o : MembersWrote). MemberWritten z (member-try x d m) b u at o old new) (sym y) s
+
+-- a revision: no records, and it is the last one now
+module _ (d : Doc) (m : ℕ) {x : MemberKind} (e : x ≡ Revision) (b : ℕ) (u : List ℕ) where
+  revision-is : member-try x d m b u ≡ parse-revision b u
+  unfolding member-try
+  revision-is = ap (λ (y : MemberKind). member-try y d m b u) e
+
+  pub revision-written : (z : ℕ) {a : Number} {n c at : ℕ} {old : List ℕ} → RevisionTo a b u → a ≡ Value n c → MemberWritten z (member-try x d m) b u at (record { next = c; to = at; revision = n }) old old
+  unfolding member-records last-revision
+  revision-written z {a} {n} {c} {at} {old} h y =
+      let t = read-took h y revision-on (rest-self b u) refl in
+      record {
+        written = record { value = revision n; is = begin parse-revision b u (sym (t .goes)) ∙ sym revision-is; place = omega (arith, word-count-none); bytes = sym (rw (catalogue-bytes-none layout-20) (put-nothing at old)) };
+        latest = refl;
+      }
+
+  pub revision-found : {at n : ℕ} → Room unhoisted (member-try x d m) b u at n → (l : Lost) → lostReply l ≡ parse-revision b u → ⊥
+  revision-found room l h = no-room room l (h ∙ sym revision-is)
+
+-- no member at all
+pub unknown-found : (d : Doc) (m : ℕ) {x : MemberKind} → x ≡ Unknown → (b : ℕ) (u : List ℕ) {at n : ℕ} → Room unhoisted (member-try x d m) b u at n → ⊥
+unfolding member-try
+unknown-found d m {x} e b u room = no-room room (Fail b) (sym (ap (λ (y : MemberKind). member-try y d m b u) e))
+
+-- the tries of a member by that of its kind
+module _ {k : Candidate} {b : ℕ} {u : List ℕ} (h : KindTo k b u) (d : Doc) (m : ℕ) where
+  pub left-room : {at n : ℕ} → Room unhoisted (member-tries d m) b u at n → Room unhoisted (member-try (k .kind) d m) b u at n
+  left-room room = record { value = room .value; next = room .next; is = further-ok (k .floor) (member-try (k .kind) d m b u) (room .is ∙ member-left h d m); fits = room .fits }
+
+  left-is : {v : Member} {c : ℕ} {r : List ℕ} → ok v c r ≡ member-try (k .kind) d m b u → ok v c r ≡ member-tries d m b u
+  left-is e = ok-further (k .floor) e ∙ sym (member-left h d m)
+
+-- a member behind the blanks before it
+module _ (d : Doc) {b : ℕ} {u : List ℕ} {m c₁ : ℕ} (t₁ : Took api-maturity b u b m c₁) {e : Doc} {c₂ : ℕ} (t₂ : Took whitespace0 b u c₁ e c₂) {r : List ℕ} (q : Rest b u c₂ r) where
+  pub behind-room : {at n : ℕ} → Room unhoisted (member-behind d) b u at n → Room unhoisted (member-tries d m) c₂ r at n
+  unfolding member-behind
+  behind-room room =
+      let y : ok (room .value) (room .next) (drop (room .next - b) u) ≡ member-behind d b (drop (b - b) u) = room .is ∙ ap (member-behind d b) (rest-self b u .same) in
+      let x = follows (member-tries d m) t₂ (follows-with (λ m. whitespace0 >> member-tries d m) t₁ y) in
+      let s = rest-is (member-tries-on d m) c₂ (room .next) (drop (c₂ - b) u) (drop (room .next - b) u) (room .value) (sym x) in
+      record { value = room .value; next = room .next; is = rw (q .same) (rw (← s) x); fits = room .fits }
+
+  pub behind-written : {k : Candidate} → KindTo k c₂ r → {z at : ℕ} {w : MembersWrote} {old new : List ℕ} → MemberWritten z (member-try (k .kind) d m) c₂ r at w old new → MemberWritten z (member-behind d) b u at w old new
+  unfolding member-behind
+  behind-written {k} h {z} {at} {w} g =
+      let o = g .written in
+      let t = took (member-tries-on d m) q (left-is h d m (o .is)) in
+      record { written = record { value = o .value; is = begin (member-behind d) b u (go _ t₁ (on _ t₂ (sym (t .goes)))); place = o .place; bytes = o .bytes }; latest = g .latest }
+
+member-behind-on : (d : Doc) → Onward (member-behind d)
+unfolding member-behind
+member-behind-on d = walks (chain-bind (api-maturity-local .on-chain) (λ m. chain-then whitespace0-chain (member-tries-inside d m .on-chain)))
+
+-- where a closing brace stands there is no member
+module _ (b : ℕ) (u : List ℕ) where
+  brace-frees : (js : List (List ℕ)) → Frees b (125 ∷ u) js
+  brace-frees [] = tt
+  brace-frees (j ∷ js) = (brace-keyword b u j, brace-frees js)
+
+  brace-starts : (js : List (List ℕ)) → found (any-keyword js b (125 ∷ u)) ≡ false
+  brace-starts js = ap found (free-keywords b (125 ∷ u) js (brace-frees js))
+
+  brace-tries : (d : Doc) (m : ℕ) → member-tries d m b (125 ∷ u) ≡ fail b
+  unfolding member-try further
+  brace-tries d m =
+      let other : OtherWord b (125 ∷ u) = record { revision = brace-starts _; bitmap = brace-starts _; enum = brace-starts _; struct = brace-starts _; attribute = brace-starts _; command = brace-starts _; event = brace-starts _ } in
+      let z : max b b ≡ b = omega arith in
+      member-left (at-other b (125 ∷ u) (brace-blank b u) other (brace-keyword b u (ascii "shared"))) d m ∙ ap fail z
+
+  brace-maturity : api-maturity b (125 ∷ u) ≡ ok 0 b (125 ∷ u)
+  brace-maturity = maturity-elsewhere b (125 ∷ u) (brace-frees maturity-words)
+
+  brace-member : (d : Doc) → member-behind d b (125 ∷ u) ≡ fail b
+  unfolding member-behind
+  brace-member d = bind-ok _ _ brace-maturity ∙ (then-ok _ _ (brace-blank b u) ∙ brace-tries d 0)
+
+-- A loop that writes members: their records stand in the buffer, and the last revision so far is known.
+pub record MembersPlacing (b : ℕ) (u : List ℕ) (c at : ℕ) (old new : List ℕ) (to z : ℕ) : Type 0 where
+  pub writing : Writing (each unhoisted) parse-cluster-member b u c at old new to
+  pub latest : z ≡ last-revision 0 (writing .seen)
+
+latest-more : (z : ℕ) (l : List Member) (a : Member) → last-revision z (l ++ (a ∷ [])) ≡ last-revision (last-revision z l) (a ∷ [])
+unfolding last-revision
+latest-more z [] a = refl
+latest-more z (revision n ∷ l) a = latest-more n l a
+latest-more z (bitmap x ∷ l) a = latest-more z l a
+latest-more z (enum x ∷ l) a = latest-more z l a
+latest-more z (struct x ∷ l) a = latest-more z l a
+latest-more z (attribute x ∷ l) a = latest-more z l a
+latest-more z (command x ∷ l) a = latest-more z l a
+latest-more z (event x ∷ l) a = latest-more z l a
+
+module _ (b : ℕ) (u : List ℕ) (at : ℕ) (old : List ℕ) (room : Room (each unhoisted) members-rest b u at (length old)) where
+  abbrev close : List Member → Parser (List Member)
+  close l = catch (whitespace0 >> tag 125) (λ p. failAt (where-missing l p)) >> ret l
+
+  -- the whole text, taken apart: the members, and the closing brace behind them
+  whole : Taken (many0 parse-cluster-member) close (room .value) (room .next) (drop (room .next - b) u) b u
+  unfolding members-rest cluster-members
+  whole = taken cluster-members close members-on (room .value) (room .next) (drop (room .next - b) u) b u (room .is)
+
+  whole-is : room .value ≡ whole .value
+  whole-is = then-value (catch (whitespace0 >> tag 125) (λ p. failAt (where-missing (whole .value) p))) (whole .value) (room .value) (room .next) (drop (room .next - b) u) (whole .next) (drop (whole .next - b) u) (whole .then)
+
+  all : Room (each unhoisted) (many0 parse-cluster-member) b u at (length old)
+  all = record { value = whole .value; next = whole .next; is = whole .is; fits = rw (← whole-is) (room .fits) }
+
+  abbrev one : Elementwise (each unhoisted) unhoisted
+  one = each-elementwise unhoisted
+
+  pub placing-start : MembersPlacing b u b at old old at 0
+  unfolding last-revision
+  placing-start = record { writing = writing-start one parse-cluster-member b u at old all; latest = sym (ap (last-revision 0) (writing-start-seen one parse-cluster-member b u at old all)) }
+
+  module _ {c : ℕ} {new : List ℕ} {to z : ℕ} (i : MembersPlacing b u c at old new to z) where
+    pub placing-same : length new ≡ length old
+    placing-same = writing-same one parse-cluster-member b u at old all (i .writing)
+
+    here : Rest b u c (drop (c - b) u)
+    here = rest-from b c u (i .writing .run .from) (i .writing .run .inside)
+
+    module _ {d : Doc} {s : ℕ} (t : Took whitespace0 b u c d s) where
+      member-is : parse-cluster-member c (drop (c - b) u) ≡ member-behind d s (drop (s - b) u)
+      unfolding parse-cluster-member member-behind
+      member-is = sym (go (λ d. member-behind d) t refl)
+
+      module _ {r : List ℕ} (q : Rest b u s r) where
+        member-took : {a : Member} {n : ℕ} → ok a n (drop (n - s) r) ≡ member-behind d s r → Took parse-cluster-member b u c a n
+        member-took g = let y = took (member-behind-on d) q g in record { goes = member-is ∙ y .goes; up = omega (arith, t .up, y .up); inside = y .inside }
+
+        member-lost : (l : Lost) → lostReply l ≡ member-behind d s r → lostReply l ≡ parse-cluster-member c (drop (c - b) u)
+        member-lost l e = e ∙ (ap (member-behind d s) (q .same) ∙ sym member-is)
+
+        -- without the closing brace there is a member, and room for it
+        pub placing-room : (l : Lost) {r' : List ℕ} → Rest b u s r' → lostReply l ≡ tag 125 s r' → Room unhoisted (member-behind d) s r to (length new)
+        placing-room l q' e = find (member-behind d s r) refl
+          where
+            find : (x : Reply Member) → member-behind d s r ≡ x → Room unhoisted (member-behind d) s r to (length new)
+            find (ok a n r'') y =
+                let k = rest-is (member-behind-on d) s n r r'' a y in
+                let g : ok a n (drop (n - s) r) ≡ member-behind d s r = rw (← k) (sym y) in
+                record { value = a; next = n; is = g; fits = writing-fits one parse-cluster-member b u at old all (i .writing) parse-cluster-member-consumes (member-took g) (word-count (unhoisted a)) refl .0 }
+            find (fail p) y =
+                let k = whole .is ∙ many0-ends parse-cluster-member-consumes (Fail p) (i .writing .run) here (member-lost (Fail p) (sym y)) in
+                let n : whole .next ≡ c = cc in
+                let g : lostReply l ≡ close (whole .value) c (drop (c - b) u) = fall _ _ l here (close-lost t (whole .value) l q' e) in
+                absurd (lost-not (whole .then) l (subst (λ (o : ℕ). lostReply l ≡ close (whole .value) o (drop (o - b) u)) (sym n) g))
+            find (stop n p) y = absurd (no-room all (Stop n p) (sym (many0-ends parse-cluster-member-consumes (Stop n p) (i .writing .run) here (member-lost (Stop n p) (sym y)))))
+
+        -- a turn
+        pub placing-more : {w : MembersWrote} {new' : List ℕ} → MemberWritten z (member-behind d) s r to w new new' → MembersPlacing b u (w .next) at old new' (w .to) (w .revision) × ((c < w .next) × (w .next ≤ b + length u))
+        placing-more {w} {new'} g =
+            let o = g .written in
+            let h = member-took (o .is) in
+            let n = word-count (unhoisted (o .value)) in
+            let x = writing-more one parse-cluster-member b u at old all (i .writing) parse-cluster-member-consumes h n refl new' (o .bytes) in
+            let v = writing-more-seen one parse-cluster-member b u at old all (i .writing) parse-cluster-member-consumes h n refl new' (o .bytes) in
+            let y : w .revision ≡ last-revision 0 (i .writing .seen ++ (o .value ∷ [])) = g .latest ∙ (ap (λ (n : ℕ). last-revision n (o .value ∷ [])) (i .latest) ∙ sym (latest-more 0 (i .writing .seen) (o .value))) in
+            let k = many0-step parse-cluster-member-consumes (i .writing .run) h in
+            (subst (λ (n : ℕ). MembersPlacing b u (w .next) at old new' n (w .revision)) (sym (o .place)) (record { writing = x; latest = y ∙ ap (last-revision 0) (sym v) }), (k .1, k .0 .inside))
+
+      -- the closing brace
+      pub placing-ends : {e : ℕ} → Took (tag 125) b u s tt e → MembersWritten members-rest b u at (record { next = e; to = to; revision = z }) old new
+      unfolding members-rest cluster-members
+      placing-ends {e} k =
+          let y = brace-first s (drop (s - b) u) (sym (k .goes)) in
+          let f : fail s ≡ parse-cluster-member c (drop (c - b) u) = sym (member-is ∙ (ap (member-behind d s) (y .1) ∙ brace-member s (y .0) d)) in
+          let g : Took cluster-members b u b (i .writing .seen) c = took members-on (rest-self b u) (sym (many0-ends parse-cluster-member-consumes (Fail s) (i .writing .run) here f)) in
+          record {
+            written = record { value = i .writing .seen; is = begin members-rest b u (go _ g (on _ (close-took t _ k) (done (i .writing .seen) b e u))); place = i .writing .place; bytes = i .writing .bytes };
+            latest = i .latest;
+          }
+
+-- members between braces
+members-rest-on : Onward members-rest
+unfolding members-rest _>>_
+members-rest-on = onward-bind members-on λ l. onward-bind (close-on l) λ x. walks (chain-ret l)
+
+module _ {b : ℕ} {u : List ℕ} {c : ℕ} (t : Took (tag 123) b u b tt c) {r : List ℕ} (q : Rest b u c r) {at : ℕ} where
+  pub members-room : {n : ℕ} → Room (each unhoisted) (braces cluster-members) b u at n → Room (each unhoisted) members-rest c r at n
+  unfolding braces enclosed members-rest
+  members-room room = opened-room members-rest-on t q room
+
+  pub members-written : {w : MembersWrote} {old new : List ℕ} → MembersWritten members-rest c r at w old new → MembersWritten (braces cluster-members) b u at w old new
+  unfolding braces enclosed members-rest
+  members-written h = let o = h .written in record { written = record { value = o .value; is = opened-is members-rest-on t q (o .is); place = o .place; bytes = o .bytes }; latest = h .latest }
+
+-- the first record
+pub cluster-first-put : (f : FrontParts) (h : ClusterHeadParts) (n p v : ℕ) (l l₁ l₂ l₃ : List ℕ) → p + 32 ≤ length l → v ≡ docBit (f .doc)
+    → l₁ ≡ put p (words-bytes (first-of (record { kind = 1; place = 0; maturity = f .maturity; documented = v; flags = 0; name = h .name; size = h .end - h .name; privilege = 0; further = 0 }) ∷ docWord (f .doc) ∷ [])) l
+    → l₂ ≡ put (p + 16) (big-endian 8 (h .code)) l₁ → l₃ ≡ put (p + 24) (big-endian 8 n) l₂ → l₃ ≡ put p (catalogue-bytes layout-20 (cluster-first f h n ∷ [])) l
+unfolding further-word offset size from-top packed width
+cluster-first-put f h n p v l l₁ l₂ l₃ r d e₁ e₂ e₃ =
+    let w = first-of (record { kind = 1; place = 0; maturity = f .maturity; documented = docBit (f .doc); flags = 0; name = h .name; size = h .end - h .name; privilege = 0; further = 0 }) in
+    rw (documented-bytes 1 0 (f .maturity) (f .doc) [] (at (h .name) (h .end - h .name)) 0 0 (value (h .code) ∷ value n ∷ []) 0 refl)
+    (put-next p (p + 24) (w ∷ docWord (f .doc) ∷ h .code ∷ []) l l₂ l₃ (omega arith) (omega arith) (put-next p (p + 16) (w ∷ docWord (f .doc) ∷ []) l l₁ l₂ (omega arith) (omega arith) (rw (← d) e₁) refl e₂) refl e₃)
+
+pub cluster-first-is : (f : FrontParts) (b : ℕ) (u : List ℕ) (h : ClusterHeadParts) (n : ℕ) {c : ℕ} (l : List Member) → NameIn b (h .name) (h .end) c → c ≤ b + length u → n ≡ last-revision 0 l → cluster-first f h n ≡ cluster-headed .first (frontOf f) (clusterHeadAt b u h) l
+unfolding cluster-headed
+cluster-first-is f b u h n l w i e = rw (extent-between b u (h .name) (h .end) (w .from) (w .up) (omega (arith, w .inside, i)), e)

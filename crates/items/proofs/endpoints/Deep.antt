@@ -31,7 +31,7 @@ use Rattle.items.specs.declared.endpoints.Tried.the-variants.{Found, Not
 use Rattle.items.proofs.Mapped.{mapped-ok, mapped-not, value-as, lost-as}
 use Rattle.items.proofs.Locality.{close-moves, deep-step-consumes}
 use Rattle.items.proofs.RecordWords.{Elementwise, word-count-none, word-count-more}
-use Rattle.items.proofs.Braces.{close-took, close-caught}
+use Rattle.items.proofs.Braces.{leaves, close-took, close-caught}
 use Rattle.items.proofs.counts.Laws.{count-is, count-not}
 use Rattle.items.proofs.Headed.{further-on}
 
@@ -184,11 +184,6 @@ module _ (q : ℕ) {b c : ℕ} {u : List ℕ} {d : Doc} (t : Took whitespace0 b 
   deep-missing l z e y = rw y (begin (deep-close q) b u (far-lost l z e))
 
 -- it goes on in the text, though a depth less
-leaves : {A : Type 0} (b : ℕ) (u : List ℕ) (x : Reply A) → MovesTo 1 0 b u x → Ends b u x
-leaves b u (ok a c r) p = (to-suf (p .0), p .1)
-leaves b u (fail p) q = tt
-leaves b u (stop n p) q = tt
-
 pub deep-close-on : (q : ℕ) → Onward (deep-close q)
 unfolding deep-close
 deep-close-on q = record { onward = λ b u. leaves b u (deep-close q b u) (close-moves (λ (s p : ℕ). max p s) q 0 b u) }

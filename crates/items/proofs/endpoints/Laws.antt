@@ -56,6 +56,7 @@ use Rattle.items.proofs.Headed.{Headed}
 use Rattle.items.proofs.writing.Laws.{put-one, put-two, put-next, plain-bytes}
 use Rattle.items.proofs.Choice.{or-both, Past}
 use Rattle.items.proofs.Tries.{bind-fail, then-fail, then-ok, mapped-fail}
+use Rattle.items.proofs.Braces.{brace-keyword, brace-blank}
 use Rattle.items.proofs.endpoints.Placed.{Unclosing, none-found}
 use Rattle.items.proofs.endpoints.Places.{integer-place, signed-place, StringPlace, string-place}
 
@@ -348,25 +349,17 @@ instance-in-limit a h i = record { small = h .small; named = name-in-limit (h .n
 
 -- where a closing brace stands no word and no blank does, and every try fails
 module _ (b : ℕ) (u : List ℕ) where
-  brace-keyword : (k : List ℕ) → keyword k b (125 ∷ u) ≡ fail b
-  unfolding isLetter within
-  brace-keyword k = sym (keyword-no-word k b (125 ∷ u) refl)
-
   brace-name : (k j : List ℕ) → name-behind k j b (125 ∷ u) ≡ fail b
   unfolding name-behind
-  brace-name k j = then-fail _ _ (brace-keyword k)
+  brace-name k j = then-fail _ _ (brace-keyword b u k)
 
   brace-named : (k j : List ℕ) → named-after k j b (125 ∷ u) ≡ fail b
   unfolding named-after
   brace-named k j = bind-fail _ _ (brace-name k j)
 
-  brace-blank : whitespace0 b (125 ∷ u) ≡ ok no-doc b (125 ∷ u)
-  unfolding whitespace0 one-blank keep isSpace within
-  brace-blank = iter-fail one-blank keep one-blank-consumes no-doc b (125 ∷ u) b (bind-fail _ _ (no-group b 125 u refl))
-
   brace-attribute : attribute-instantiation b (125 ∷ u) ≡ fail b
   unfolding attribute-instantiation attribute-handling-type
-  brace-attribute = bind-fail _ _ (or-both _ _ (then-fail _ _ (brace-keyword _)) (or-both _ _ (then-fail _ _ (brace-keyword _)) (then-fail _ _ (brace-keyword _))))
+  brace-attribute = bind-fail _ _ (or-both _ _ (then-fail _ _ (brace-keyword b u _)) (or-both _ _ (then-fail _ _ (brace-keyword b u _)) (then-fail _ _ (brace-keyword b u _))))
 
 pub instances-unclosing : Unclosing instance-tries
 unfolding instance-tries

@@ -31,27 +31,13 @@ use Rattle.items.specs.declared.writing.Wrote.{Wrote}
 use Rattle.items.proofs.Mapped.{mapped-ok, mapped-not, value-as}
 use Rattle.items.proofs.Locality.{deep-step-consumes, deep-run-inside}
 use Rattle.items.proofs.RecordWords.{Elementwise, word-count-none, word-count-more, catalogue-bytes-none, catalogue-bytes-length, catalogue-bytes-more}
-use Rattle.items.proofs.Braces.{Step, rest-is, taken, then-value, follows, close-took, close-caught}
+use Rattle.items.proofs.Braces.{lost-not, brace-first, onward-bind, Step, rest-is, taken, then-value, follows, close-took, close-caught}
 use Rattle.items.proofs.endpoints.Deep.{intercept-found, intercept-last, next-at, stop-at, deep-close-on}
 use Rattle.items.proofs.writing.Laws.{put-length, put-nothing, put-on, no-room}
-
--- an accepted reply is none that is lost
-lost-not : {A : Type 0} {a : A} {c : ℕ} {r : List ℕ} {m : Reply A} → ok a c r ≡ m → (l : Lost) → lostReply l ≡ m → ⊥
-lost-not h (Fail p) e = let z = h ∙ sym e in let y : _≡_ {A = ℕ} 0 1 = cc in omega arith
-lost-not h (Stop n p) e = let z = h ∙ sym e in let y : _≡_ {A = ℕ} 0 1 = cc in omega arith
 
 -- where a closing brace stands every try fails
 abbrev pub Unclosing : {A : Type 0} → (ℕ → Parser (TriedOf A)) → Type 0
 Unclosing f = (q b : ℕ) (u : List ℕ) → (p : ℕ) × (fail p ≡ f q b (125 ∷ u))
-
-brace-first : (b : ℕ) (u : List ℕ) {c : ℕ} {r : List ℕ} → ok tt c r ≡ tag 125 b u → (v : List ℕ) × (u ≡ 125 ∷ v)
-unfolding tag
-brace-first b [] e = absurd (lost-not e (Fail b) refl)
-brace-first b (x ∷ u) {c} {r} e = go (eqb x 125) refl
-  where
-    go : (t : Bool) → eqb x 125 ≡ t → (v : List ℕ) × (x ∷ u ≡ 125 ∷ v)
-    go true z = (u, ap (λ (y : ℕ). y ∷ u) (eqb-true x 125 z))
-    go false z = absurd (lost-not (rw (z, tag) at e) (Fail b) refl)
 
 -- A turn adds what it found, and the end changes only the furthest place: so the records of a state are among those of the end.
 module _ {A : Type 0} {records : List A → List Record} {one : A → List Record} (w : Elementwise records one) (f : ℕ → Parser (TriedOf A)) where
@@ -217,20 +203,6 @@ module _ {A : Type 0} {records : List A → List Record} {one : A → List Recor
           ends (z .0) (z .1 ∙ ap (f (i .far) c₁) (sym (q .same ∙ y .1))) k
 
 -- The braces around them.
-onward-bind : {A B : Type 0} {m : Parser A} {k : A → Parser B} → Onward m → ((a : A) → Onward (k a)) → Onward (m >>= k)
-unfolding _>>=_
-onward-bind {A} {B} {m} {k} w v = record { onward = λ b u. go b u (m b u) refl (w .onward b u) }
-  where
-    further : (b c : ℕ) (u r : List ℕ) → Suf r u → c + length r ≡ b + length u → (y : Reply B) → Ends c r y → Ends b u y
-    further b c u r s e (ok a c' r') p = (suf-trans (p .0) s, p .1 ∙ e)
-    further b c u r s e (fail q) p = tt
-    further b c u r s e (stop n q) p = tt
-
-    go : (b : ℕ) (u : List ℕ) (x : Reply A) → m b u ≡ x → Ends b u x → Ends b u ((m >>= k) b u)
-    go b u (ok a c r) e p = rw (e, _>>=_) (further b c u r (p .0) (p .1) (k a c r) (v a .onward c r))
-    go b u (fail q) e p = rw (e, _>>=_) tt
-    go b u (stop n q) e p = rw (e, _>>=_) tt
-
 pub deep-tail-on : {A : Type 0} (f : ℕ → Parser (TriedOf A)) → Onward (deep-run f) → Onward (deep-tail f)
 unfolding _>>_
 deep-tail-on f w = onward-bind w λ s. onward-bind (deep-close-on (s .deepest)) λ x. walks (chain-ret s)

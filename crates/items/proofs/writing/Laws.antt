@@ -10,11 +10,13 @@ use lib.ListN.{length, drop, take, set, length-drop, length-append, take-append-
 use lib.Seq.{sets, sets-eq, take-at, drop-at, take-take, take-append-le, length-take-le, drop-append-add, drop-drop}
 use Rattle.lexing.specs.reply.{Reply, ok, fail, stop, Parser, many0}
 use Rattle.lexing.specs.word_sets.{bit}
-use Rattle.lexing.specs.answers.{Rest, lostReply, docOf}
+use Rattle.lexing.specs.answers.{Rest, lostReply, docOf, BlankTo}
+use Rattle.lexing.specs.declared.blanks.Blank.{Blank}
 use Rattle.lexing.specs.declared.answers.Lost.{Lost}
 use Rattle.lexing.specs.declared.answers.Lost.the-variants.{Fail, Stop}
 use Rattle.lexing.specs.declared.blanks.DocSpan.{DocSpan}
 use Rattle.lexing.specs.declared.blanks.DocSpan.the-variants.{Absent, At}
+use Rattle.lexing.proofs.DocPlace.{DocIn, doc-in}
 use Rattle.lexing.proofs.Locality.{Consumes}
 use Rattle.lexing.proofs.Onward.{Onward}
 use Rattle.lexing.proofs.Slicing.{Took, took}
@@ -95,6 +97,14 @@ bit-small false = omega arith
 
 pub doc-fits-at : (d : DocSpan) {o n : ℕ} → d ≡ At o n → DocFits d → (o ≤ text-limit) × (n ≤ text-limit)
 doc-fits-at d e h = subst (λ (x : DocSpan). DocFits x) e h
+
+-- a doc comment that stands in a run of blanks
+doc-at-limit : (d : DocSpan) (b c : ℕ) → DocIn b c (docOf d) → c ≤ text-limit → DocFits d
+doc-at-limit Absent b c h i = tt
+doc-at-limit (At o n) b c h i = (omega (arith, h .1, i), omega (arith, h .1, i))
+
+pub doc-in-limit : {t : Blank} {b : ℕ} {u : List ℕ} → BlankTo t b u → t .next ≤ text-limit → DocFits (t .doc)
+doc-in-limit {t} {b} h i = doc-at-limit (t .doc) b (t .next) (doc-in h) i
 
 -- the words of a doc comment, and of a record that can have one: g is the number that its flags make
 pub doc-word : (d : DocSpan) → docWord d ≡ packed 0 (layout-20 .span-word (doc-extent (docOf d)))
@@ -214,6 +224,10 @@ module _ {A : Type 0} {f : List A → List Record} {one : A → List Record} (w 
         fits = omega (arith, nothing, room-before w at (length old) [] (many0 m b (drop (b - b) u)) (room .is ∙ s .left) (room .fits));
       }
 
+  pub writing-start-seen : writing-start .seen ≡ []
+  unfolding writing-start
+  writing-start-seen = refl
+
   module _ {c : ℕ} {new : List ℕ} {to : ℕ} (i : Writing f m b u c at old new to) where
     pub writing-same : length new ≡ length old
     writing-same = ap length (i .bytes) ∙ put-length at (catalogue-bytes layout-20 (f (i .seen))) old (omega (arith, catalogue-bytes-length (f (i .seen)), i .place, i .fits))
@@ -242,6 +256,10 @@ module _ {A : Type 0} {f : List A → List Record} {one : A → List Record} (w 
                 );
             fits = omega (arith, i .place, more, l, z);
           }
+
+      pub writing-more-seen : (k : ℕ) (z : word-count (one a) ≡ k) (new' : List ℕ) (e : new' ≡ put to (catalogue-bytes layout-20 (one a)) new) → writing-more k z new' e .seen ≡ i .seen ++ (a ∷ [])
+      unfolding writing-more
+      writing-more-seen k z new' e = refl
 
     ended : (x : Lost) → many0 m b u ≡ manyEnd x (i .seen) c (drop (c - b) u) → Written f (many0 m) b u at (record { next = c; to = to }) old new
     ended (Fail p) e = record { value = i .seen; is = sym e; place = i .place; bytes = i .bytes }

@@ -1,16 +1,24 @@
 -- What the private functions of the readers of clusters promise.
-use Prim.Native.Nat.{ℕ, _≤_}
+use Prim.Native.Nat.{ℕ, _-_, _≤_}
 use mathlib.Core.Path.{_≡_}
 use mathlib.Core.Bool.{Bool, true, false}
 use mathlib.Core.List.{List, [], _∷_}
 use lib.Dec.{eqb}
-use Rattle.lexing.specs.bytes.{ascii}
-use Rattle.lexing.specs.reply.{Reply, ok, fail, stop, Parser}
-use Rattle.lexing.specs.blanks.{Doc}
-use Rattle.items.specs.entries.{parse-bitmap-after-doc-maturity, parse-enum-after-doc-maturity}
+use Rattle.lexing.specs.bytes.{ascii, byte}
+use Rattle.lexing.specs.reply.{Reply, ok, fail, stop, Parser, ret, _>>=_, _>>_, catch, failAt}
+use Rattle.lexing.specs.words.{tag}
+use Rattle.lexing.specs.blanks.{Doc, whitespace0}
+use Rattle.lexing.specs.answers.{docOf}
+use Rattle.items.specs.entries.{where-missing, api-maturity, parse-bitmap-after-doc-maturity, parse-enum-after-doc-maturity}
 use Rattle.items.specs.structs.{parse-struct-after-doc-maturity}
 use Rattle.items.specs.members.{parse-attribute-after-doc-maturity, parse-command-after-doc-maturity, parse-event-after-doc-maturity}
-use Rattle.items.specs.clusters.{Member, bitmap, enum, struct, attribute, command, event, mapped, parse-revision}
+use Rattle.items.specs.clusters.{Member, bitmap, enum, struct, attribute, command, event, mapped, parse-revision, member-tries, cluster-members}
+use Rattle.items.specs.records.{Record, at, value, documented, each, last-revision, member-records}
+use Rattle.items.specs.answers.{Written}
+use Rattle.items.specs.declared.writing.FrontParts.{FrontParts}
+use Rattle.items.specs.declared.writing.Wrote.{Wrote}
+use Rattle.items.specs.declared.clusters.ClusterHeadParts.{ClusterHeadParts}
+use Rattle.items.specs.declared.clusters.MembersWrote.{MembersWrote}
 use Rattle.items.specs.declared.clusters.MemberKind.{MemberKind}
 use Rattle.items.specs.declared.clusters.MemberKind.the-variants.{Revision, Bitmap, Enum, Struct, Attribute, Command, Event, Unknown}
 use Rattle.items.specs.declared.clusters.Candidate.{Candidate}
@@ -91,3 +99,39 @@ pub record KindTo (r : Candidate) (b : ℕ) (u : List ℕ) : Type 0 where
 abbrev pub countRaised : Count → ℕ → Count
 countRaised (Words n c) q = Words n c
 countRaised (NoCount l) q = NoCount (furtherLost l q)
+
+-- The second pass.
+
+-- a member behind the blanks before it, which hold its doc comment
+unfoldable pub member-behind : Doc → Parser Member
+member-behind d = do
+  m ← api-maturity
+  whitespace0
+  member-tries d m
+
+-- members behind their opening brace, with the closing one
+unfoldable pub members-rest : Parser (List Member)
+members-rest = do
+  ms ← cluster-members
+  catch (whitespace0 >> tag (byte "}")) (λ p. failAt (where-missing ms p))
+  ret ms
+
+-- records of members before hoisting
+abbrev pub unhoisted : Member → List Record
+unhoisted = member-records (λ x. 0)
+
+abbrev pub wroteTo : MembersWrote → Wrote
+wroteTo w = record { next = w .next; to = w .to }
+
+-- a member is written, and z was the last revision before it
+pub record MemberWritten (z : ℕ) (m : Parser Member) (b : ℕ) (u : List ℕ) (at : ℕ) (w : MembersWrote) (old new : List ℕ) : Type 0 where
+  pub written : Written unhoisted m b u at (wroteTo w) old new
+  pub latest : w .revision ≡ last-revision z (written .value ∷ [])
+
+pub record MembersWritten (m : Parser (List Member)) (b : ℕ) (u : List ℕ) (at : ℕ) (w : MembersWrote) (old new : List ℕ) : Type 0 where
+  pub written : Written (each unhoisted) m b u at (wroteTo w) old new
+  pub latest : w .revision ≡ last-revision 0 (written .value)
+
+-- the first record of a cluster, by offsets
+abbrev pub cluster-first : FrontParts → ClusterHeadParts → ℕ → Record
+cluster-first f h n = documented 1 0 (f .maturity) (docOf (f .doc)) [] (at (h .name) (h .end - h .name)) 0 0 (value (h .code) ∷ value n ∷ [])
