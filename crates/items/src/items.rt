@@ -1,28 +1,36 @@
 // Items: what stands at the top of a text, each by the kind that its first word says.
 ghost use mathlib.Core.Path.{_≡_};
-ghost use Prim.Native.Nat.{_+_, _≤_};
+ghost use Prim.Native.Nat.{_+_, _≤_, _<_};
 ghost use lib.ListN.{length};
 ghost use Rattle.lexing.specs.reply.{ok};
 ghost use Rattle.lexing.specs.words.{any-keyword};
 ghost use Rattle.lexing.specs.blanks.{no-doc, whitespace0};
+ghost use Rattle.lexing.specs.answers.{docOf};
 ghost use Rattle.items.specs.layout.{text-limit};
-ghost use Rattle.items.specs.items.{item};
-ghost use Rattle.items.specs.answers.{CountTo};
+ghost use Rattle.items.specs.items.{declaration, item};
+ghost use Rattle.items.specs.answers.{CountTo, DocFits, Room, Written};
 ghost use Rattle.items.specs.answers.items.{unhoisted-item, DeclarationCountTo};
 ghost use Rattle.items.specs.inner.clusters.{found};
-ghost use Rattle.items.specs.inner.items.{cluster-words, typeKind, KindCountTo, StartTo};
+ghost use Rattle.items.specs.inner.items.{cluster-words, typeKind, declaration-try, KindCountTo, StartTo};
 use crate::choices::choice_after_doc_maturity;
+use crate::choices::write_choice;
 use crate::clusters::MemberKind;
 use crate::clusters::cluster_after_doc_maturity;
 use crate::clusters::member_kind;
 use crate::clusters::raise;
 use crate::clusters::starts;
+use crate::clusters::write_cluster;
 use crate::counts::Count;
 use crate::counts::count_end;
 use crate::endpoints::endpoint;
+use crate::endpoints::write_endpoint;
 use crate::maturity::api_maturity;
 use crate::structs::parse_struct_after_doc_maturity;
+use crate::structs::write_struct;
+use crate::writing::FrontParts;
+use crate::writing::Wrote;
 use lexing::answers::Lost;
+use lexing::blanks::DocSpan;
 use lexing::blanks::whitespace0;
 use lexing::parts::rest_at;
 
@@ -152,4 +160,59 @@ pub fn item(part: &[u8], base: usize) -> Count
         return r;
     }
     count_end(l, 0, c)
+}
+
+// The second pass over a declaration of a kind. A type at the top is global.
+fn write_kind(
+    part: &[u8],
+    base: usize,
+    kind: DeclarationKind,
+    doc: DocSpan,
+    maturity: u8,
+    out: &mut [u8],
+    at: usize,
+) -> Wrote
+    requires { ⌜ base + length (now part) ≤ text-limit ⌝ }
+    requires { ⌜ DocFits doc ⌝ }
+    requires { ⌜ maturity < 4 ⌝ }
+    requires { ⌜ Room unhoisted-item (declaration-try kind (docOf doc) maturity) base (now part) at (length (now out)) ⌝ }
+    ensures { λ r. ⌜ Written unhoisted-item (declaration-try kind (docOf doc) maturity) base (now (part .entry)) at r (now (out .entry)) (now (out .exit)) ⌝ }
+{
+    // Only an enum and a bitmap take their record's kind from it, and a cluster has no place.
+    let front = FrontParts {
+        kind: 2,
+        place: 1,
+        doc,
+        maturity,
+    };
+    match kind {
+        DeclarationKind::Cluster => write_cluster(part, base, front, out, at),
+        DeclarationKind::Endpoint => write_endpoint(part, base, out, at),
+        DeclarationKind::Enum => write_choice(part, base, b"enum", front, out, at),
+        DeclarationKind::Bitmap => {
+            let front = FrontParts {
+                kind: 3,
+                place: 1,
+                doc,
+                maturity,
+            };
+            write_choice(part, base, b"bitmap", front, out, at)
+        }
+        DeclarationKind::Struct => write_struct(part, base, front, out, at),
+        DeclarationKind::Unknown => Wrote { next: base, to: at },
+    }
+}
+
+// The second pass over a declaration, where no blank stands before it.
+pub fn write_declaration(part: &[u8], base: usize, doc: DocSpan, out: &mut [u8], at: usize) -> Wrote
+    requires { ⌜ base + length (now part) ≤ text-limit ⌝ }
+    requires { ⌜ whitespace0 base (now part) ≡ ok no-doc base (now part) ⌝ }
+    requires { ⌜ DocFits doc ⌝ }
+    requires { ⌜ Room unhoisted-item (declaration (docOf doc)) base (now part) at (length (now out)) ⌝ }
+    ensures { λ r. ⌜ Written unhoisted-item (declaration (docOf doc)) base (now (part .entry)) at r (now (out .entry)) (now (out .exit)) ⌝ }
+{
+    let s = declaration_start(part, base);
+    let c = s.next;
+    let kind = s.kind;
+    write_kind(rest_at(part, base, c), c, kind, doc, s.maturity, out, at)
 }

@@ -17,14 +17,15 @@ use Rattle.lexing.proofs.FirstWord.{Frees, starts-free, blank-clear}
 use Rattle.lexing.specs.answers.{Rest, docOf, lostReply, BlankTo}
 use Rattle.lexing.specs.declared.blanks.Blank.{Blank}
 use Rattle.lexing.specs.declared.answers.Lost.{Lost}
-use Rattle.lexing.proofs.Slicing.{Took, walks, rest-self, begin, or-here}
+use Rattle.lexing.proofs.Slicing.{Took, took, walks, rest-self, begin, or-here}
 use Rattle.items.specs.entries.{api-maturity, choice-after-doc-maturity, parse-enum-after-doc-maturity, parse-bitmap-after-doc-maturity}
 use Rattle.items.specs.structs.{parse-struct-after-doc-maturity}
 use Rattle.items.specs.clusters.{mapped, cluster-after-doc-maturity, parse-cluster}
 use Rattle.items.specs.endpoints.{endpoint-head, endpoint}
 use Rattle.items.specs.items.{Item, cluster-item, endpoint-item, enum-item, bitmap-item, struct-item, blank-item, with-doc-maturity, item, after-maturity, declaration}
 use Rattle.items.specs.records.{Record, choice-records, struct-records, endpoint-records, item-records}
-use Rattle.items.specs.answers.{Front, CountTo, countEnd}
+use Rattle.items.specs.answers.{Front, CountTo, countEnd, Room, Written}
+use Rattle.items.specs.declared.writing.Wrote.{Wrote}
 use Rattle.items.specs.answers.clusters.{unhoisted-records}
 use Rattle.items.specs.answers.items.{unhoisted-item, DeclarationCountTo}
 use Rattle.items.specs.declared.counts.Count.{Count}
@@ -39,11 +40,13 @@ use Rattle.items.specs.declared.items.DeclarationKind.{DeclarationKind}
 use Rattle.items.specs.declared.items.DeclarationKind.the-variants.{Cluster, Endpoint, Enum as EnumType, Bitmap as BitmapType, Struct as StructType, Unknown as NoDeclaration}
 use Rattle.items.specs.declared.items.DeclarationStart.{DeclarationStart}
 use Rattle.lexing.specs.declared.answers.Lost.the-variants.{Fail, Stop}
-use Rattle.items.proofs.Choice.{End, kept, lost, ends, Tries, more, last, keeps, left, Reaches, choice, Past, past-start, or-fail, or-stop, or-keep, or-same, or-assoc, past-first, past-rest, moving-past}
+use Rattle.items.proofs.Choice.{End, kept, lost, ends, Tries, more, last, keeps, left, Reaches, choice, Past, past-start, or-fail, or-stop, or-keep, or-same, or-assoc, past-first, past-rest, moving-past, further-ok, ok-further}
 use Rattle.items.proofs.Mapped.{mapped-same, lost-as}
 use Rattle.items.proofs.Recorded.{Recorded, recorded-counts}
 use Rattle.items.proofs.Locality.{declaration-local, mapped-local, cluster-after-doc-maturity-local, endpoint-local, parse-enum-local, parse-bitmap-local, parse-struct-local}
 use Rattle.items.proofs.counts.Laws.{count-took, count-lost, count-is, count-not, count-behind}
+use Rattle.items.proofs.Braces.{rest-is}
+use Rattle.items.proofs.writing.Laws.{no-room}
 use Rattle.items.proofs.RecordWords.{word-count-none}
 use Rattle.items.proofs.Shift.{shiftItem, shift-mapped, shift-endpoint}
 use Rattle.items.proofs.Tries.{maturity-words, bind-ok, then-ok, then-fail, mapped-fail, maturity-elsewhere, cluster-elsewhere, endpoint-elsewhere}
@@ -193,10 +196,13 @@ module _ (d : Doc) (m : ℕ) where
   unfolding declaration-try item-records
   structs = record { make = struct-item; reads = refl; hands = refl }
 
+pub of-kind : (d : Doc) (m : ℕ) {k x : DeclarationKind} {B : Type 0} {f : B → List Record} {p : Parser B} → k ≡ x → Recorded unhoisted-item (declaration-try x d m) f p → Recorded unhoisted-item (declaration-try k d m) f p
+of-kind d m {f = f} {p = p} e i = subst (λ (y : DeclarationKind). Recorded unhoisted-item (declaration-try y d m) f p) (sym e) i
+
 -- The first pass over a declaration of a kind: f is what its reader counts.
 pub kind-counted : {k x : DeclarationKind} {B : Type 0} {f : Front → B → List Record} {p : Front → Parser B} {r : Count} {b : ℕ} {u : List ℕ} → k ≡ x → ((i : Front) → Recorded unhoisted-item (declaration-try x (i .doc) (i .maturity)) (f i) (p i))
     → ((i : Front) → CountTo (f i) (p i) r b u) → KindCountTo k r b u
-kind-counted {r = r} {b = b} {u = u} e i h = subst (λ (y : DeclarationKind). KindCountTo y r b u) (sym e) (record { counts = λ j. recorded-counts (i j) (h j) })
+kind-counted e i h = record { counts = λ j. recorded-counts (of-kind (j .doc) (j .maturity) e (i j)) (h j) }
 
 pub kind-unknown : {k : DeclarationKind} {b : ℕ} {u : List ℕ} → k ≡ NoDeclaration → KindCountTo k (NoCount (Fail b)) b u
 unfolding declaration-try
@@ -325,3 +331,20 @@ module _ {b : ℕ} {u : List ℕ} {t : Blank} (w : BlankTo t b u) {v : List ℕ}
       go : (l : Lost) → lostReply l ≡ declaration d (t .next) rest → CountTo unhoisted-item item (countEnd l 0 (t .next)) b u
       go (Fail p) z = count-is unhoisted-item item b u blank-item 0 (t .next) blank-words (omega arith) (sym (whole ∙ or-blank b u (sym z) blank))
       go (Stop i p) z = count-not unhoisted-item item b u (Stop i p) (or-stop _ _ b u i p z ∙ sym whole)
+
+-- The second pass over a declaration: that of its kind.
+pub nothing-found : (d : Doc) (m : ℕ) {k : DeclarationKind} → k ≡ NoDeclaration → (b : ℕ) (u : List ℕ) {at n : ℕ} → Room unhoisted-item (declaration-try k d m) b u at n → ⊥
+unfolding declaration-try
+nothing-found d m {k} e b u room = no-room room (Fail b) (sym (ap (λ (y : DeclarationKind). declaration-try y d m b u) e))
+
+module _ (d : Doc) {s : DeclarationStart} {b : ℕ} {u v : List ℕ} (h : StartTo s b u) (q : Rest b u (s .next) v) {at : ℕ} where
+  pub start-room : {n : ℕ} → Room unhoisted-item (declaration d) b u at n → Room unhoisted-item (declaration-try (s .kind) d (s .maturity)) (s .next) v at n
+  start-room room =
+      let x = further-ok (s .floor) (declaration-try (s .kind) d (s .maturity) (s .next) (drop (s .next - b) u)) (room .is ∙ h .leaves d) in
+      let y = rest-is (declaration-on (s .kind) d (s .maturity)) (s .next) (room .next) (drop (s .next - b) u) (drop (room .next - b) u) (room .value) (sym x) in
+      record { value = room .value; next = room .next; is = rw (q .same) (rw (← y) x); fits = room .fits }
+
+  pub start-written : {w : Wrote} {old new : List ℕ} → Written unhoisted-item (declaration-try (s .kind) d (s .maturity)) (s .next) v at w old new → Written unhoisted-item (declaration d) b u at w old new
+  start-written g =
+      let t = took (declaration-on (s .kind) d (s .maturity)) q (g .is) in
+      record { value = g .value; is = ok-further (s .floor) (sym (t .goes)) ∙ sym (h .leaves d); place = g .place; bytes = g .bytes }
