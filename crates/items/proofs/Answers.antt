@@ -1,13 +1,15 @@
 -- What an answer of a reader gives its caller, whatever the answer's type.
 use mathlib.Core.Path.{_≡_, sym, ap, _∙_, subst}
 use mathlib.Core.List.{List}
-use Prim.Native.Nat.{ℕ, _-_}
-use lib.ListN.{drop}
+use Prim.Native.Nat.{ℕ, _+_, _-_, _≤_, _<_}
+use native.Mathlib.Omega.{arith}
+use lib.ListN.{length, drop, length-drop}
 use Rattle.lexing.specs.reply.{Reply, ok, Parser}
 use Rattle.lexing.specs.answers.{Answer, got, lost, reply, lostReply, Rest}
 use Rattle.lexing.specs.declared.answers.Lost.{Lost}
 use Rattle.lexing.proofs.Onward.{Onward}
-use Rattle.lexing.proofs.Slicing.{Took, took}
+use Rattle.lexing.proofs.Locality.{Consumes}
+use Rattle.lexing.proofs.Slicing.{Took, took, reads-in}
 use Rattle.items.specs.answers.{ReadTo}
 
 module _ {T A : Type 0} {f : ℕ → List ℕ → T → Answer A} {W : ℕ → T → Type 0} {m : Parser A} where
@@ -37,3 +39,10 @@ module _ {T A : Type 0} {f : ℕ → List ℕ → T → Answer A} {W : ℕ → T
 -- the last step of a sequence, lost
 pub last-lost : {A : Type 0} (m : Parser A) {b n : ℕ} {u r : List ℕ} (l : Lost) → Rest b u n r → lostReply l ≡ m n r → lostReply l ≡ m n (drop (n - b) u)
 last-lost m {b} {n} l q e = e ∙ ap (m n) (q .same)
+
+-- what takes a byte ends behind its start
+pub read-on : {A : Type 0} {m : Parser A} → Onward m → Consumes m → {a : A} {b c : ℕ} {u : List ℕ} → ok a c (drop (c - b) u) ≡ m b u → (b < c) × (c ≤ b + length u)
+read-on w v {a} {b} {c} {u} e =
+    let p = reads-in w b c u a e in
+    let s = rw (← e) at (v .consumes b u) in
+    omega (arith, p .0, p .1, s, length-drop (c - b) u)

@@ -138,12 +138,12 @@ pub choice : {A : Type 0} {b : ℕ} {u : List ℕ} {X : Reply A} {m : Parser A} 
 choice {X = X} {es = es} n t w r = let z : furthest es ≡ n = omega (arith, at-most n es w, at-least n es r) in left-by t ∙ ap (λ (q : ℕ). left (keeps es) q X) z
 
 -- Choices of the same replies, and choices put together.
-abbrev joined : {A : Type 0} → Reply A → Reply A → Reply A
+abbrev pub joined : {A : Type 0} → Reply A → Reply A → Reply A
 joined (ok a c r) y = ok a c r
 joined (fail p) y = further p y
 joined (stop n p) y = stop n p
 
-or-is : {A : Type 0} (m k : Parser A) (b : ℕ) (u : List ℕ) → (m or k) b u ≡ joined (m b u) (k b u)
+pub or-is : {A : Type 0} (m k : Parser A) (b : ℕ) (u : List ℕ) → (m or k) b u ≡ joined (m b u) (k b u)
 unfolding _or_
 or-is {A} m k b u = go (m b u) refl
   where

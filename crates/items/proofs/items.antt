@@ -1,2 +1,3 @@
 -- Laws of the readers of items.
 pub mod Laws
+pub mod Ends

@@ -3,7 +3,7 @@ use mathlib.Core.Path.{_≡_, refl, sym, ap, _∙_, subst}
 use mathlib.Core.List.{List, [], _∷_, _++_}
 use Prim.Native.Nat.{ℕ, _+_, _-_, _*_, _≤_, _<_}
 use native.Mathlib.Omega.{arith}
-use lib.ListN.{drop, length-drop}
+use lib.ListN.{length, drop, length-drop}
 use Rattle.lexing.specs.reply.{ok, Parser, many0}
 use Rattle.lexing.specs.answers.{Answer, got, Rest, lostReply, reply}
 use Rattle.lexing.specs.declared.answers.Lost.{Lost}
@@ -15,10 +15,10 @@ use Rattle.lexing.proofs.Repetition.{ManyAt, manyEnd, many0-start, many0-step, 
 use Rattle.items.specs.clusters.{mapped}
 use Rattle.items.specs.records.{Record}
 use Rattle.items.specs.layout.{word-count}
-use Rattle.items.specs.answers.{ReadTo, counted, countLost, countEnd, CountTo}
+use Rattle.items.specs.answers.{ReadTo, counted, countLost, countEnd, CountTo, Room}
 use Rattle.items.specs.declared.counts.Count.{Count}
 use Rattle.items.specs.declared.counts.Count.the-variants.{Words, NoCount}
-use Rattle.items.proofs.Answers.{reads-as}
+use Rattle.items.proofs.Answers.{reads-as, read-on}
 use Rattle.items.proofs.Mapped.{mapped-twice, value-as, TookAs, took-as, lost-as, mapped-ok, mapped-not}
 use Rattle.items.proofs.RecordWords.{Elementwise, word-count-none, word-count-more}
 
@@ -115,6 +115,13 @@ pub record Behind {A : Type 0} (f : A → List Record) (m : Parser A) (b : ℕ) 
 pub count-value : {A : Type 0} (f : A → List Record) (m : Parser A) (b : ℕ) (u : List ℕ) (n c : ℕ) → CountTo f m (Words n c) b u → Behind f m b u n c
 unfolding counted
 count-value f m b u n c h = let s = value-as (λ x. word-count (f x)) m b u n c (drop (c - b) u) (h .reads) in record { value = s .0; words = s .1 .0; is = s .1 .1 }
+
+-- what is counted has room where its words fit, and ends behind its start
+pub count-room : {A : Type 0} {f : A → List Record} {m : Parser A} {b n c at k : ℕ} {u : List ℕ} → CountTo f m (Words n c) b u → at + 8 * n ≤ k → Room f m b u at k
+count-room {f = f} {m = m} {b = b} {n = n} {c = c} {u = u} h l = let s = count-value f m b u n c h in record { value = s .value; next = c; is = s .is; fits = omega (arith, s .words, l) }
+
+pub count-next : {A : Type 0} {f : A → List Record} {m : Parser A} → Onward m → Consumes m → {b n c : ℕ} {u : List ℕ} → CountTo f m (Words n c) b u → (b < c) × (c ≤ b + length u)
+count-next {f = f} {m = m} w v {b} {n} {c} {u} h = read-on w v (count-value f m b u n c h .is)
 
 -- a count that ends a sequence
 pub count-behind : {A : Type 0} (f : A → List Record) (m k : Parser A) → Onward k → (r : Count) {b n : ℕ} {u v : List ℕ} → Rest b u n v → k n (drop (n - b) u) ≡ m b u → CountTo f k r n v → CountTo f m r b u

@@ -43,7 +43,7 @@ use Rattle.lexing.specs.declared.answers.Lost.the-variants.{Fail, Stop}
 use Rattle.items.proofs.Choice.{End, kept, lost, ends, Tries, more, last, keeps, left, Reaches, choice, Past, past-start, or-fail, or-stop, or-keep, or-same, or-assoc, past-first, past-rest, moving-past, further-ok, ok-further}
 use Rattle.items.proofs.Mapped.{mapped-same, lost-as}
 use Rattle.items.proofs.Recorded.{Recorded, recorded-counts}
-use Rattle.items.proofs.Locality.{declaration-local, mapped-local, cluster-after-doc-maturity-local, endpoint-local, parse-enum-local, parse-bitmap-local, parse-struct-local}
+use Rattle.items.proofs.Locality.{declaration-local, item-local, mapped-local, cluster-after-doc-maturity-local, endpoint-local, parse-enum-local, parse-bitmap-local, parse-struct-local}
 use Rattle.items.proofs.counts.Laws.{count-took, count-lost, count-is, count-not, count-behind}
 use Rattle.items.proofs.Braces.{rest-is}
 use Rattle.items.proofs.writing.Laws.{no-room}
@@ -276,8 +276,11 @@ declaration-past : (d : Doc) (b : ℕ) (u : List ℕ) → Past b (declaration d 
 unfolding declaration shiftItem
 declaration-past d b u = past-rest _ _ b u (past-first _ _ b u (moving-past {f = shiftItem} (λ n. shift-mapped n endpoint-item endpoint-item (λ e. refl) (shift-endpoint n)) b u))
 
-declaration-walks : (d : Doc) → Onward (declaration d)
+pub declaration-walks : (d : Doc) → Onward (declaration d)
 declaration-walks d = walks (declaration-local d .on-chain)
+
+pub item-walks : Onward item
+item-walks = walks (item-local .on-chain)
 
 -- blanks as an item: no words
 blank-words : word-count (unhoisted-item blank-item) ≡ 0
