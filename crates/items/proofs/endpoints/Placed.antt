@@ -13,8 +13,7 @@ use Rattle.lexing.specs.blanks.{Doc, whitespace0}
 use Rattle.lexing.specs.answers.{Rest, lostReply}
 use Rattle.lexing.specs.declared.answers.Lost.{Lost}
 use Rattle.lexing.specs.declared.answers.Lost.the-variants.{Fail, Stop}
-use Rattle.lexing.proofs.Runs.{Suf, suf-trans}
-use Rattle.lexing.proofs.Onward.{Ends, Onward}
+use Rattle.lexing.proofs.Onward.{Onward}
 use Rattle.lexing.proofs.Locality.{Consumes, LocalInside, chain-ret}
 use Rattle.lexing.proofs.Slicing.{Took, took, walks, begin, go, on, done, fall, rest-self, rest-from}
 use Rattle.lexing.proofs.Repetition.{IterAt, iter-start, iter-step, iter-ends, iter-stop}
@@ -28,6 +27,7 @@ use Rattle.items.specs.answers.{Room, Written}
 use Rattle.items.specs.answers.endpoints.{TryRoom, TryWritten}
 use Rattle.items.specs.inner.endpoints.{deep-close, deep-tail, deep-rest}
 use Rattle.items.specs.declared.writing.Wrote.{Wrote}
+use Rattle.items.proofs.Pairs.{onward-bind}
 use Rattle.items.proofs.Mapped.{mapped-ok, mapped-not, value-as}
 use Rattle.items.proofs.Locality.{deep-step-consumes, deep-run-inside}
 use Rattle.items.proofs.RecordWords.{Elementwise, word-count-none, word-count-more, catalogue-bytes-none, catalogue-bytes-length, catalogue-bytes-more}
@@ -217,20 +217,6 @@ module _ {A : Type 0} {records : List A → List Record} {one : A → List Recor
           ends (z .0) (z .1 ∙ ap (f (i .far) c₁) (sym (q .same ∙ y .1))) k
 
 -- The braces around them.
-onward-bind : {A B : Type 0} {m : Parser A} {k : A → Parser B} → Onward m → ((a : A) → Onward (k a)) → Onward (m >>= k)
-unfolding _>>=_
-onward-bind {A} {B} {m} {k} w v = record { onward = λ b u. go b u (m b u) refl (w .onward b u) }
-  where
-    further : (b c : ℕ) (u r : List ℕ) → Suf r u → c + length r ≡ b + length u → (y : Reply B) → Ends c r y → Ends b u y
-    further b c u r s e (ok a c' r') p = (suf-trans (p .0) s, p .1 ∙ e)
-    further b c u r s e (fail q) p = tt
-    further b c u r s e (stop n q) p = tt
-
-    go : (b : ℕ) (u : List ℕ) (x : Reply A) → m b u ≡ x → Ends b u x → Ends b u ((m >>= k) b u)
-    go b u (ok a c r) e p = rw (e, _>>=_) (further b c u r (p .0) (p .1) (k a c r) (v a .onward c r))
-    go b u (fail q) e p = rw (e, _>>=_) tt
-    go b u (stop n q) e p = rw (e, _>>=_) tt
-
 pub deep-tail-on : {A : Type 0} (f : ℕ → Parser (TriedOf A)) → Onward (deep-run f) → Onward (deep-tail f)
 unfolding _>>_
 deep-tail-on f w = onward-bind w λ s. onward-bind (deep-close-on (s .deepest)) λ x. walks (chain-ret s)

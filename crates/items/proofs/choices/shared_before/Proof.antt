@@ -2,8 +2,7 @@ use borrow.Author.Needs.{needs}
 use Rattle.items.proofs.choices.shared_before.Statement.{statement}
 use Rattle.items.proofs.choices.shared_before.Tie as tie
 use Rattle.items.specs.entries.{shared-before}
-use Rattle.items.proofs.Dropping.{skip-is, skip-not}
-use Rattle.items.proofs.choices.Laws.{no-word}
+use Rattle.items.proofs.Dropping.{no-word, skip-is, skip-not}
 use native.Mathlib.Omega.{arith}
 use Rattle.lexing.specs.bytes.{ascii}
 use Rattle.lexing.specs.answers.{wordAt}
