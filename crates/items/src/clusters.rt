@@ -23,15 +23,14 @@ use crate::endpoints::further;
 use crate::maturity::api_maturity;
 use crate::members::count_command;
 use crate::members::parse_event_after_doc_maturity;
+use crate::steps::gap_at;
+use crate::steps::tag_behind;
 use crate::structs::parse_struct_after_doc_maturity;
 use lexing::answers::Lost;
 use lexing::answers::Step;
 use lexing::answers::step_lost;
 use lexing::blanks::DocSpan;
-use lexing::blanks::Gap;
-use lexing::blanks::gap_lost;
 use lexing::blanks::whitespace0;
-use lexing::blanks::whitespace1;
 use lexing::integers::Number;
 use lexing::integers::number_lost;
 use lexing::integers::positive_integer;
@@ -219,22 +218,19 @@ pub fn parse_revision(part: &[u8], base: usize) -> Number
     let Step::Next(c1) = key else {
         return Number::NoNumber(step_lost(key));
     };
-    let gap = whitespace1(rest_at(part, base, c1), c1);
-    let Gap::Passed(w1) = gap else {
-        return Number::NoNumber(gap_lost(gap));
+    let gap = gap_at(part, base, c1);
+    let Step::Next(c2) = gap else {
+        return Number::NoNumber(step_lost(gap));
     };
-    let c2 = w1.next;
     let number = positive_integer(rest_at(part, base, c2), c2);
     let Number::Value(n, c3) = number else {
         return Number::NoNumber(number_lost(number));
     };
-    let w2 = whitespace0(rest_at(part, base, c3), c3);
-    let c4 = w2.next;
-    let semicolon = tag(rest_at(part, base, c4), c4, b';');
-    let Step::Next(c5) = semicolon else {
+    let semicolon = tag_behind(part, base, c3, b';');
+    let Step::Next(c4) = semicolon else {
         return Number::NoNumber(step_lost(semicolon));
     };
-    Number::Value(n, c5)
+    Number::Value(n, c4)
 }
 
 // A revision takes no words of its own.
