@@ -10,6 +10,8 @@ pub mod Tries
 -- what an answer gives its caller, of a value and of what a function makes of it
 pub mod Answers
 pub mod Mapped
+-- two steps taken as one
+pub mod Pairs
 -- parts that are dropped, parts between braces, a head and then a list, words by their offsets, and the words of records
 pub mod Dropping
 pub mod Braces

@@ -8,5 +8,6 @@ pub mod entries;
 pub mod maturity;
 pub mod members;
 pub mod optional;
+pub mod steps;
 pub mod structs;
 pub mod writing;
