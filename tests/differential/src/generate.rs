@@ -29,63 +29,16 @@ impl Random {
 // Texts from the grammar.
 
 const BLANKS: [&str; 20] = [
-    " ",
-    " ",
-    " ",
-    "\n",
-    "\t",
-    "\r\n",
-    "  ",
-    "\n\n    ",
-    "/**/",
-    "/* a */",
-    "/** d */",
-    "/***/",
-    "// c\n",
-    "//x\r\n",
-    "/*/*/",
-    "/** \u{e9}\u{20ac} */",
-    "/*** x **/",
-    "///\n",
-    "/**e*/",
-    "/* \u{1f600} */",
+    " ", " ", " ", "\n", "\t", "\r\n", "  ", "\n\n    ", "/**/", "/* a */", "/** d */", "/***/", "// c\n", "//x\r\n", "/*/*/",
+    "/** \u{e9}\u{20ac} */", "/*** x **/", "///\n", "/**e*/", "/* \u{1f600} */",
 ];
 const NAMES: [&str; 16] = [
-    "a",
-    "b",
-    "E",
-    "S",
-    "kOne",
-    "_",
-    "_1",
-    "x9",
-    "LongName_0123456789",
-    "stable",
-    "shared",
-    "access",
-    "default",
-    "optional",
-    "read",
-    "type",
+    "a", "b", "E", "S", "kOne", "_", "_1", "x9", "LongName_0123456789", "stable", "shared", "access", "default", "optional", "read", "type",
 ];
 const TYPES: [&str; 8] = ["t", "int8u", "char_string", "enum8", "T_1", "nullable", "fabric_idx", "struct"];
 const INTEGERS: [&str; 16] = [
-    "0",
-    "1",
-    "2",
-    "7",
-    "10",
-    "254",
-    "00012",
-    "0x0",
-    "0X1f",
-    "0xFFF1",
-    "0xAbCdEf",
-    "65535",
-    "18446744073709551615",
-    "0xFFFFFFFFFFFFFFFF",
-    "00000000000000000000000000001",
-    "0x00000000000000000001",
+    "0", "1", "2", "7", "10", "254", "00012", "0x0", "0X1f", "0xFFF1", "0xAbCdEf", "65535", "18446744073709551615", "0xFFFFFFFFFFFFFFFF",
+    "00000000000000000000000000001", "0x00000000000000000001",
 ];
 /// Integers that refuse or fail.
 const ODD_INTEGERS: [&str; 6] = ["18446744073709551616", "0x10000000000000000", "0x", "00x1", "99999999999999999999", "0xg"];
@@ -100,7 +53,8 @@ pub struct Grammar<'a> {
     blanks: usize,
     /// Keywords in other cases, integers and strings that refuse: one in so many.
     odd: usize,
-    /// The most parts of anything.
+    /// The fewest and the most parts of anything.
+    fewest: usize,
     parts: usize,
 }
 
@@ -109,7 +63,22 @@ impl<'a> Grammar<'a> {
         let blanks = *random.pick(&[&1000, &8, &3, &1]);
         let odd = *random.pick(&[&1000, &100, &20]);
         let parts = *random.pick(&[&1, &2, &2, &4]);
-        Grammar { random, out: String::new(), blanks, odd, parts }
+        Grammar { random, out: String::new(), blanks, odd, fewest: 0, parts }
+    }
+
+    /// One item, mostly without blanks that are free.
+    pub fn short(random: &'a mut Random) -> Vec<u8> {
+        let blanks = *random.pick(&[&1000, &1000, &8]);
+        let odd = *random.pick(&[&1000, &20]);
+        let fewest = *random.pick(&[&0, &1, &1]);
+        let mut grammar = Grammar { random, out: String::new(), blanks, odd, fewest, parts: 1 };
+        match grammar.random.below(8) {
+            0..=3 => grammar.cluster(),
+            4..=5 => grammar.endpoint(),
+            6 => grammar.enumeration(true),
+            _ => grammar.structure(true),
+        }
+        grammar.out.into_bytes()
     }
 
     fn put(&mut self, s: &str) {
@@ -196,7 +165,7 @@ impl<'a> Grammar<'a> {
     }
 
     fn several(&mut self, part: impl Fn(&mut Self)) {
-        for _ in 0..self.random.below(self.parts + 1) {
+        for _ in 0..self.fewest + self.random.below(self.parts + 1 - self.fewest) {
             part(self);
         }
     }
@@ -548,15 +517,7 @@ impl<'a> Grammar<'a> {
     fn signed(&mut self) {
         self.pick(&["+", "-"]);
         self.pick(&[
-            "0",
-            "5",
-            "007",
-            "9223372036854775807",
-            "9223372036854775808",
-            "9223372036854775809",
-            "18446744073709551616",
-            "0x1",
-            "",
+            "0", "5", "007", "9223372036854775807", "9223372036854775808", "9223372036854775809", "18446744073709551616", "0x1", "",
         ]);
     }
 }
@@ -591,45 +552,8 @@ pub fn tokens(text: &[u8]) -> Vec<Vec<u8>> {
 }
 
 const PIECES: [&str; 40] = [
-    " ",
-    "\n",
-    "/",
-    "*",
-    "//",
-    "/*",
-    "*/",
-    "/**",
-    "//\n",
-    "\r",
-    "\u{c}",
-    "\u{a0}",
-    "\u{feff}",
-    "\0",
-    "{",
-    "}",
-    "(",
-    ")",
-    "[",
-    "]",
-    "<",
-    ">",
-    "=",
-    ":",
-    ";",
-    ",",
-    "\"",
-    "\\",
-    "\\r",
-    "+",
-    "-",
-    "0",
-    "0x",
-    "18446744073709551616",
-    "_",
-    "READ",
-    "shared ",
-    "stable ",
-    "default=",
+    " ", "\n", "/", "*", "//", "/*", "*/", "/**", "//\n", "\r", "\u{c}", "\u{a0}", "\u{feff}", "\0", "{", "}", "(", ")", "[", "]", "<",
+    ">", "=", ":", ";", ",", "\"", "\\", "\\r", "+", "-", "0", "0x", "18446744073709551616", "_", "READ", "shared ", "stable ", "default=",
     "optional ",
 ];
 
@@ -709,7 +633,7 @@ pub struct Short {
     most: usize,
 }
 
-pub const SHORT: [Short; 22] = [
+pub const SHORT: [Short; 23] = [
     Short { front: "", tokens: &["/", "*", " ", "\n", "a"], end: "", most: 7 },
     Short { front: "", tokens: &["/", "*", " ", "\n", "a"], end: "enum E:t{}", most: 6 },
     Short { front: "enum E:t{", tokens: &["stable", "a", " ", "=", "1", ";"], end: "}", most: 6 },
@@ -740,6 +664,12 @@ pub const SHORT: [Short; 22] = [
         most: 5,
     },
     Short { front: "cluster C=1{attribute access(", tokens: &["read", "WRITE", ":", "view", ",", " ", ")"], end: ") t a=1;}", most: 6 },
+    Short {
+        front: "cluster C=1{attribute access(",
+        tokens: &["READ:view", "read:manage", "Write : operate", "write:administer", ",", " "],
+        end: ") t a=1;}",
+        most: 5,
+    },
     Short {
         front: "cluster C=1{",
         tokens: &["info", "event", "access(read:view)", "e", " ", "=1", "{}", "fabric_sensitive"],
@@ -774,11 +704,7 @@ pub const SHORT: [Short; 22] = [
     Short {
         front: "cluster C=1{",
         tokens: &[
-            "shared enum E:t{}",
-            "SHARED struct S{}",
-            "shared struct S{}",
-            "}cluster C=2{",
-            "}enum E:t{}cluster D=1{",
+            "shared enum E:t{}", "SHARED struct S{}", "shared struct S{}", "}cluster C=2{", "}enum E:t{}cluster D=1{",
             "shared bitmap E:t{a=1;}",
         ],
         end: "}",
@@ -787,6 +713,11 @@ pub const SHORT: [Short; 22] = [
 ];
 
 impl Short {
+    /// About how many there are.
+    pub fn count(&self) -> usize {
+        self.tokens.len().pow(self.most as u32)
+    }
+
     pub fn each(&self, f: &mut dyn FnMut(&[u8])) {
         let mut indices = Vec::new();
         loop {

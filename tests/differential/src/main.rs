@@ -8,7 +8,10 @@ mod outcome;
 mod reader;
 mod run;
 mod shrink;
+#[cfg(test)]
+mod tests;
 mod tree;
+mod vectors;
 
 include!(concat!(env!("OUT_DIR"), "/rust.rs"));
 
@@ -16,7 +19,13 @@ use std::io::Read;
 use std::process::ExitCode;
 
 fn usage() -> ExitCode {
-    eprintln!("differential words [FILE]      the words for the Rust's tree of a text, as the lister writes them");
+    eprintln!(
+        "words [FILE]                            the words for the Rust's tree of a text, as the lister writes them
+check [SEED [COUNT]]                    the papers' texts and all generated ones: the Rust beside the locator
+compare PROGRAM [SEED [COUNT [EVERY]]]  a program like the lister beside the Rust, on one text of EVERY
+library [SEED [COUNT [EVERY]]]          the same with the static library (build with MATTER_IDL_LIB set)
+vectors [SEED]                          the stored list of short texts with answers"
+    );
     ExitCode::from(2)
 }
 
@@ -40,7 +49,21 @@ fn main() -> ExitCode {
         }
         ["check", ref rest @ ..] => {
             outcome::quiet();
-            exit(run::check(number(rest.first(), 1), number(rest.get(1), 300_000) as usize))
+            exit(known::check() + run::check(number(rest.first(), 1), number(rest.get(1), 300_000) as usize))
+        }
+        ["vectors", ref rest @ ..] => {
+            outcome::quiet();
+            vectors::print(number(rest.first(), 1));
+            ExitCode::SUCCESS
+        }
+        ["compare", program, ref rest @ ..] => {
+            outcome::quiet();
+            compare(&mut reader::Program(program.into()), rest, 100)
+        }
+        #[cfg(feature = "library")]
+        ["library", ref rest @ ..] => {
+            outcome::quiet();
+            compare(&mut reader::Library, rest, 1)
         }
         _ => usage(),
     }
@@ -48,6 +71,11 @@ fn main() -> ExitCode {
 
 fn number(argument: Option<&&str>, default: u64) -> u64 {
     argument.map_or(default, |a| a.parse().expect("a number"))
+}
+
+fn compare(reader: &mut dyn reader::Reader, rest: &[&str], every: u64) -> ExitCode {
+    let (seed, count, every) = (number(rest.first(), 1), number(rest.get(1), 300_000), number(rest.get(2), every));
+    exit(run::compare(reader, seed, count as usize, every as usize))
 }
 
 fn exit(disagreements: usize) -> ExitCode {
