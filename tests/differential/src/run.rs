@@ -2,12 +2,15 @@
 use crate::check::{answer, check_panic, check_spans, Answer};
 use crate::generate::*;
 use crate::known;
+use crate::outcome::LIMIT;
 use crate::reader::Reader;
 use crate::shrink::shrink;
-use std::collections::BTreeMap;
+use std::cell::RefCell;
+use std::collections::{BTreeMap, HashSet};
 use std::path::Path;
 
-/// Calls `f` with the group and the text of every text of a seed: `count` texts from the grammar and three times as many damaged ones.
+/// Calls `f` with the group and the text of every text of a seed: `count` texts from the grammar and three times as many damaged ones;
+/// from a thousand on, also long ones.
 pub fn each_text(seed: u64, count: usize, f: &mut dyn FnMut(&'static str, &[u8])) {
     for known in known::texts() {
         f("known", &known);
@@ -36,9 +39,36 @@ pub fn each_text(seed: u64, count: usize, f: &mut dyn FnMut(&'static str, &[u8])
         }
         other = text;
     }
-    for len in [1_048_575, 1_048_576] {
+    if count < 1_000 {
+        return;
+    }
+    for len in [1_000, 20_000, 65_536, 65_537, 200_000, LIMIT] {
+        let text = long(&mut random, len);
+        f("long", &text);
+        f("long", &damaged(&mut random, &text, &other));
+    }
+    for len in [LIMIT, LIMIT + 1] {
         f("limit", &vec![b' '; len]);
     }
+}
+
+/// Accepted texts, one behind another, with blanks and an enum up to a length.
+fn long(random: &mut Random, len: usize) -> Vec<u8> {
+    let end = b"enum Last:t{}";
+    let mut text = Vec::new();
+    loop {
+        let more = from_grammar(random);
+        if text.len() + more.len() + end.len() > len {
+            break;
+        }
+        if matches!(answer(&more), Ok(Answer::Words(_))) {
+            text.extend(more);
+            // It may end in a line comment.
+            text.push(b'\n');
+        }
+    }
+    text.resize(len - end.len(), b' ');
+    [&text[..], end].concat()
 }
 
 /// From the parser's sources, and the `.matter` files beside them if there are any.
@@ -82,45 +112,57 @@ impl Figures {
     }
 }
 
-/// A disagreement, made smaller. After some they are only counted.
-fn report(found: &mut usize, text: &[u8], what: &dyn Fn(&[u8]) -> Option<String>) {
-    *found += 1;
-    if *found <= 20 {
+/// Disagreements, made smaller; each smallest text is printed once, and of many only the first.
+#[derive(Default)]
+struct Disagreements {
+    found: usize,
+    printed: HashSet<Vec<u8>>,
+}
+
+impl Disagreements {
+    /// `what` says how a text disagrees, if it does.
+    fn look(&mut self, text: &[u8], what: &dyn Fn(&[u8]) -> Option<String>) {
+        if what(text).is_none() {
+            return;
+        }
+        self.found += 1;
+        if self.found > 200 {
+            return;
+        }
         let small = shrink(text, &mut |t| what(t).is_some());
-        println!("disagreement on {:?}\n{}", String::from_utf8_lossy(&small), what(&small).unwrap_or_default());
+        if self.printed.insert(small.clone()) {
+            println!("disagreement on \"{}\"\n{}", small.escape_ascii(), what(&small).unwrap());
+        }
     }
 }
 
 /// The Rust beside `locate` on every text; places of panics and spans by the Rust alone on some. Returns the number of disagreements.
 pub fn check(seed: u64, count: usize) -> usize {
-    let (mut figures, mut found) = (Figures::default(), 0);
+    let (mut figures, mut disagreements) = (Figures::default(), Disagreements::default());
     let (mut panics, mut spans, mut turn) = (0, 0, 0u64);
     each_text(seed, count, &mut |group, text| {
         turn += 1;
         let answer = match answer(text) {
             Ok(answer) => answer,
-            Err(_) => return report(&mut found, text, &|t| crate::check::answer(t).err()),
+            Err(_) => return disagreements.look(text, &|t| answer(t).err()),
         };
         figures.count(group, &answer);
         match answer {
-            Answer::Refused(number @ 4..=6, place) if turn % 4 == 0 => {
+            Answer::Refused(4..=6, _) if turn % 4 == 0 || group == "known" => {
                 panics += 1;
-                if check_panic(text, number, place).is_err() {
-                    report(&mut found, text, &panic_wrong);
-                }
+                disagreements.look(text, &panic_wrong);
             }
-            Answer::Words(_) if turn % 8 == 0 || group == "known" => {
+            Answer::Words(_) if text.len() < 10_000 && (turn % 8 == 0 || group == "known") => {
                 spans += 1;
-                if check_spans(text).is_err() {
-                    report(&mut found, text, &|t| check_spans(t).err());
-                }
+                disagreements.look(text, &|t| check_spans(t).err());
             }
             _ => (),
         }
     });
     figures.print();
-    println!("of these {panics} places of panics and the spans of {spans} texts tested by the Rust alone\n{found} disagreements");
-    found
+    println!("of these {panics} places of panics and the spans of {spans} texts tested by the Rust alone");
+    println!("{} disagreements", disagreements.found);
+    disagreements.found
 }
 
 fn panic_wrong(text: &[u8]) -> Option<String> {
@@ -132,11 +174,14 @@ fn panic_wrong(text: &[u8]) -> Option<String> {
 
 /// A reader beside the Rust; one text of `every` is taken. Returns the number of disagreements.
 pub fn compare(reader: &mut dyn Reader, seed: u64, count: usize, every: usize) -> usize {
-    let (mut figures, mut found, mut turn) = (Figures::default(), 0, 0);
-    let reader = std::cell::RefCell::new(reader);
+    let (mut figures, mut disagreements, mut turn) = (Figures::default(), Disagreements::default(), 0);
+    let reader = RefCell::new(reader);
     let differs = |text: &[u8]| {
         let mut reader = reader.borrow_mut();
-        let owed = reader.owed(text, answer(text).ok()?);
+        let owed = match answer(text) {
+            Ok(answer) => reader.owed(text, answer),
+            Err(e) => return Some(e),
+        };
         match reader.read(text) {
             Ok(got) if got == owed => None,
             Ok(got) => Some(format!("the Rust:\n{owed}the reader:\n{got}")),
@@ -145,17 +190,15 @@ pub fn compare(reader: &mut dyn Reader, seed: u64, count: usize, every: usize) -
     };
     each_text(seed, count, &mut |group, text| {
         turn += 1;
-        if turn % every != 0 && group != "known" {
+        if turn % every != 0 && !matches!(group, "known" | "long" | "limit") {
             return;
         }
         if let Ok(answer) = answer(text) {
             figures.count(group, &answer);
         }
-        if differs(text).is_some() {
-            report(&mut found, text, &differs);
-        }
+        disagreements.look(text, &differs);
     });
     figures.print();
-    println!("{found} disagreements");
-    found
+    println!("{} disagreements", disagreements.found);
+    disagreements.found
 }

@@ -1,7 +1,15 @@
 //! A smaller text for which something still holds.
 use crate::generate::tokens;
 
+/// The bytes of all texts tried for one.
+const MOST: usize = 20_000_000;
+
 pub fn shrink(text: &[u8], still: &mut dyn FnMut(&[u8]) -> bool) -> Vec<u8> {
+    let mut tried = 0;
+    let still = &mut |t: &[u8]| {
+        tried += t.len();
+        tried < MOST && still(t)
+    };
     let mut text = text.to_vec();
     loop {
         let before = text.len();
@@ -18,12 +26,13 @@ fn fewer(mut pieces: Vec<Vec<u8>>, still: &mut dyn FnMut(&[u8]) -> bool) -> Vec<
     let mut len = pieces.len();
     while len > 0 {
         let mut at = 0;
-        while at + len <= pieces.len() {
-            let left = [&pieces[..at], &pieces[at + len..]].concat();
+        while at < pieces.len() {
+            let end = (at + len).min(pieces.len());
+            let left = [&pieces[..at], &pieces[end..]].concat();
             if still(&left.concat()) {
                 pieces = left;
             } else {
-                at += 1;
+                at += len;
             }
         }
         len /= 2;
