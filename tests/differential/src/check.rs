@@ -52,7 +52,7 @@ pub fn check_panic(text: &[u8], number: u64, place: usize) -> Result<(), String>
     let end = (0..=text.len()).find(panics).ok_or("no front panics")?;
     let fits = match number {
         // Inside the integer's digits.
-        4 => place < end && text[place + 2..end].iter().all(u8::is_ascii_hexdigit),
+        4 => text.get(place + 2..end).is_some_and(|digits| digits.iter().all(u8::is_ascii_hexdigit)),
         // Behind the backslash and the r.
         5 => end == place + 2 && text[place..end] == *b"\\r",
         // At the list's end.
