@@ -15,6 +15,7 @@ pub fn shrink(text: &[u8], still: &mut dyn FnMut(&[u8]) -> bool) -> Vec<u8> {
         let before = text.len();
         text = fewer(tokens(&text), still).concat();
         text = fewer(text.iter().map(|&c| vec![c]).collect(), still).concat();
+        text = plainer(text, still);
         if text.len() == before {
             return text;
         }
@@ -38,4 +39,25 @@ fn fewer(mut pieces: Vec<Vec<u8>>, still: &mut dyn FnMut(&[u8]) -> bool) -> Vec<
         len /= 2;
     }
     pieces
+}
+
+/// Comments become spaces, where it still holds.
+fn plainer(mut text: Vec<u8>, still: &mut dyn FnMut(&[u8]) -> bool) -> Vec<u8> {
+    let mut at = 0;
+    while at + 2 <= text.len() {
+        let end: &[u8] = match &text[at..at + 2] {
+            b"/*" => b"*/",
+            b"//" => b"\n",
+            _ => b"",
+        };
+        let len = text[at + 2..].windows(end.len().max(1)).position(|w| w == end);
+        if let Some(len) = len {
+            let other = [&text[..at], b" ", &text[at + 2 + len + end.len()..]].concat();
+            if still(&other) {
+                text = other;
+            }
+        }
+        at += 1;
+    }
+    text
 }
