@@ -2,6 +2,7 @@
 mod catalogue;
 mod check;
 mod generate;
+mod grammar;
 mod known;
 mod locate;
 mod outcome;

@@ -5,7 +5,7 @@ use crate::idl::parser::*;
 type Nested<T> = Result<T, String>;
 
 pub fn tree(records: &[Record], text: &[u8]) -> Nested<Idl> {
-    let mut nest = Nest { text, idl: Idl::default(), open: Open::Nothing };
+    let mut nest = Nest { text, idl: Idl::default(), open: Open::Nothing, behind: 0 };
     for (i, r) in records.iter().enumerate() {
         nest.add(r).map_err(|e| format!("record {i}: {e}: {r:?}"))?;
     }
@@ -42,6 +42,8 @@ struct Nest<'a> {
     text: &'a [u8],
     idl: Idl,
     open: Open,
+    /// Where the last name ends: names follow each other as in the text.
+    behind: usize,
 }
 
 fn maturity(n: u64) -> ApiMaturity {
@@ -138,6 +140,12 @@ impl Nest<'_> {
             return Err("no field behind an attribute".into());
         }
         let id = self.option(r.name)?.unwrap_or_default();
+        if let Some(name) = r.name {
+            if name.at < self.behind || name.len == 0 {
+                return Err("a name out of order".into());
+            }
+            self.behind = name.at + name.len;
+        }
         let doc_comment = self.option(r.doc)?;
         let maturity = maturity(r.maturity);
         match r.kind {
