@@ -5,11 +5,13 @@ pub mod Shift
 pub mod RecordsMoved
 -- locality under appended text
 pub mod Locality
--- which tries a first word leaves
+-- tries one after the other, and which of them a first word leaves
+pub mod Choice
 pub mod Tries
 -- what an answer gives its caller, of a value and of what a function makes of it
 pub mod Answers
 pub mod Mapped
+pub mod Recorded
 -- two steps taken as one
 pub mod Pairs
 -- parts that are dropped, parts between braces, a head and then a list, words by their offsets, and the words of records

@@ -23,7 +23,7 @@ use Rattle.items.specs.structs.{max-length, list-marker, parse-field, pa
 use Rattle.items.specs.members.{access-privilege, event-priority, access-to, event-qualities, event-head, parse-event-after-doc-maturity, command-head, command-types, parse-command-after-doc-maturity, Access, access-entry, comma, separated-list0, access-list, Privileges, granted-by, default-privileges, listed, attribute-access, parse-attribute-after-doc-maturity}
 use Rattle.items.specs.clusters.{mapped, parse-revision, member-tries, parse-cluster-member, cluster-members, side, cluster-head, cluster-after-doc-maturity, parse-cluster}
 use Rattle.items.specs.endpoints.{Tried, Deep, intercept, deep-step, deeper, deep-run, deep-place, deep-braces, name-behind, device-version, device-type, value-tries, default-attribute-value, attribute-handling-type, attribute-instantiation, named-after, instance-tries, instantiation-head, cluster-instantiation, part-tries, endpoint-head, endpoint}
-use Rattle.items.specs.items.{with-doc-maturity, item}
+use Rattle.items.specs.items.{with-doc-maturity, item, after-maturity, declaration}
 
 -- tags: } and { change the depth, the others are a table
 opens-123 : (u : List ℕ) → next (123 ∷ u) ≡ opens u
@@ -694,3 +694,21 @@ item-local = search (local-or, local-then, mapped-local, parse-cluster-local, en
 pub item-consumes : Consumes item
 unfolding item
 item-consumes = search (consumes-or, mapped-consumes, parse-cluster-consumes, endpoint-consumes, with-doc-maturity-consumes, parse-enum-consumes, parse-bitmap-consumes, parse-struct-consumes, consumes-then-left, whitespace1-consumes, chain-ret) depth 16
+
+-- declarations, behind the blanks
+module _ {A : Type 0} {f : ℕ → Parser A} where
+  pub after-maturity-local : ((m : ℕ) → Local (f m)) → Local (after-maturity f)
+  unfolding after-maturity
+  after-maturity-local t = search (local-rules, keeps-rules, api-maturity-local, api-maturity-keeps, t) depth 12
+
+  pub after-maturity-consumes : ((m : ℕ) → Consumes (f m)) → Consumes (after-maturity f)
+  unfolding after-maturity
+  after-maturity-consumes v = search (consumes-rules, chain-rules, api-maturity-local, v) depth 12
+
+pub declaration-local : (d : Doc) → Local (declaration d)
+unfolding declaration
+declaration-local d = search (local-or, mapped-local, after-maturity-local, cluster-after-doc-maturity-local, endpoint-local, parse-enum-local, parse-bitmap-local, parse-struct-local) depth 16
+
+pub declaration-consumes : (d : Doc) → Consumes (declaration d)
+unfolding declaration
+declaration-consumes d = search (consumes-or, mapped-consumes, after-maturity-consumes, cluster-after-doc-maturity-consumes, endpoint-consumes, parse-enum-consumes, parse-bitmap-consumes, parse-struct-consumes) depth 16

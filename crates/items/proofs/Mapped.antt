@@ -94,3 +94,7 @@ through-twice f g (stop n p) = refl
 
 pub mapped-twice : {A B C : Type 0} (m : Parser A) (f : A → B) (g : B → C) (b : ℕ) (u : List ℕ) → mapped m (λ a. g (f a)) b u ≡ mapped (mapped m f) g b u
 mapped-twice m f g b u = mapped-is (λ a. g (f a)) m b u ∙ (sym (through-twice f g (m b u)) ∙ (ap (through g) (sym (mapped-is f m b u)) ∙ sym (mapped-is g (mapped m f) b u)))
+
+-- the same of the same reply
+pub mapped-same : {A B : Type 0} (m m' : Parser A) (f : A → B) {b b' : ℕ} {u u' : List ℕ} → m b u ≡ m' b' u' → mapped m f b u ≡ mapped m' f b' u'
+mapped-same m m' f {b} {b'} {u} {u'} e = mapped-is f m b u ∙ (ap (through f) e ∙ sym (mapped-is f m' b' u'))

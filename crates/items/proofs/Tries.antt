@@ -1,20 +1,26 @@
 -- Which tries a first word leaves: where another keyword stands, a declaration is not there and fails at its start.
-use mathlib.Core.Path.{_≡_, refl, sym, ap, _∙_}
-use mathlib.Core.Option.{Option, none, some}
+use mathlib.Core.Path.{_≡_, ap, _∙_}
+use mathlib.Core.Option.{none, some}
 use mathlib.Core.List.{List, [], _∷_}
-use Prim.Native.Nat.{ℕ, max}
-use native.Mathlib.Omega.{arith}
+use Prim.Native.Nat.{ℕ}
 use Rattle.lexing.specs.bytes.{ascii}
-use Rattle.lexing.specs.reply.{Reply, ok, fail, stop, Parser, ret, _>>=_, _>>_, opt, _or_, further}
-use Rattle.lexing.specs.words.{Word, keyword, any-keyword}
+use Rattle.lexing.specs.reply.{ok, fail, Parser, ret, _>>=_, _>>_, opt, further}
+use Rattle.lexing.specs.words.{keyword}
 use Rattle.lexing.specs.blanks.{Doc, no-doc, whitespace0}
-use Rattle.lexing.specs.word_sets.{sets, set-of, set-flags}
+use Rattle.lexing.specs.word_sets.{sets, set-of}
 use Rattle.lexing.proofs.FirstWord.{Frees, free-keywords, free-set}
-use Rattle.items.specs.entries.{shared-before, choice-head, choice-after-doc-maturity}
+use Rattle.items.specs.entries.{api-maturity, shared-before, choice-head, choice-after-doc-maturity}
 use Rattle.items.specs.structs.{struct-head, parse-struct-after-doc-maturity}
 use Rattle.items.specs.members.{event-priority, event-qualities, event-head, parse-event-after-doc-maturity, command-head, parse-command-after-doc-maturity, parse-attribute-after-doc-maturity}
-use Rattle.items.specs.clusters.{mapped, parse-revision}
+use Rattle.items.specs.clusters.{mapped, parse-revision, side, cluster-head, cluster-after-doc-maturity}
+use Rattle.items.specs.endpoints.{endpoint-head, endpoint}
 use Rattle.items.specs.inner.clusters.{revision-words, struct-words, attribute-words, command-words, event-words}
+use Rattle.items.specs.inner.items.{cluster-words}
+use Rattle.items.proofs.Choice.{or-fail, or-both}
+
+-- the words of maturities
+abbrev pub maturity-words : List (List ℕ)
+maturity-words = ascii "stable" ∷ ascii "provisional" ∷ ascii "internal" ∷ ascii "deprecated" ∷ []
 
 -- sequences whose first step is known
 pub bind-fail : {A B : Type 0} (m : Parser A) (k : A → Parser B) {b p : ℕ} {u : List ℕ} → m b u ≡ fail p → (m >>= k) b u ≡ fail p
@@ -41,10 +47,6 @@ pub opt-some : {A : Type 0} (m : Parser A) {b c : ℕ} {u r : List ℕ} {a : A} 
 unfolding opt
 opt-some m e = rw (e, opt)
 
-pub or-both : {A : Type 0} (m k : Parser A) {b p : ℕ} {u : List ℕ} → m b u ≡ fail p → k b u ≡ fail p → (m or k) b u ≡ fail p
-unfolding _or_ further
-or-both m k {p = p} e f = let z : max p p ≡ p = omega arith in rw (e, _or_) (rw f (rw z))
-
 pub mapped-fail : {A B : Type 0} (m : Parser A) (f : A → B) {b p : ℕ} {u : List ℕ} → m b u ≡ fail p → mapped m f b u ≡ fail p
 unfolding mapped
 mapped-fail m f e = bind-fail m (λ a. ret (f a)) e
@@ -55,7 +57,19 @@ module _ (b : ℕ) (u : List ℕ) where
   unfolding parse-revision
   revision-elsewhere f = then-fail _ _ (f .0)
 
+  pub endpoint-elsewhere : whitespace0 b u ≡ ok no-doc b u → keyword (ascii "endpoint") b u ≡ fail b → endpoint b u ≡ fail b
+  unfolding endpoint endpoint-head
+  endpoint-elsewhere clear f = bind-fail _ _ (then-ok _ _ clear ∙ then-fail _ _ f)
+
+  pub maturity-elsewhere : Frees b u maturity-words → api-maturity b u ≡ ok 0 b u
+  unfolding api-maturity further ret
+  maturity-elsewhere f = or-fail _ _ (then-fail _ _ (f .0)) ∙ ap (further b) (or-fail _ _ (then-fail _ _ (f .1 .0)) ∙ ap (further b) (or-fail _ _ (then-fail _ _ (f .1 .1 .0)) ∙ ap (further b) (or-fail _ _ (then-fail _ _ (f .1 .1 .1 .0)))))
+
   module _ (d : Doc) (m : ℕ) where
+    pub cluster-elsewhere : Frees b u cluster-words → cluster-after-doc-maturity d m b u ≡ fail b
+    unfolding cluster-after-doc-maturity cluster-head side
+    cluster-elsewhere f = bind-fail _ _ (then-ok _ _ (opt-none _ (bind-fail _ _ (free-keywords b u _ (f .0, (f .1 .0, tt))))) ∙ then-fail _ _ (f .1 .1 .0))
+
     pub choice-elsewhere : (j : List ℕ) → keyword (ascii "shared") b u ≡ fail b → keyword j b u ≡ fail b → choice-after-doc-maturity j d m b u ≡ fail b
     unfolding choice-after-doc-maturity choice-head shared-before
     choice-elsewhere j e f = bind-fail _ _ (bind-ok _ _ (opt-none _ (bind-fail _ _ e)) ∙ then-fail _ _ f)

@@ -6,6 +6,7 @@ pub mod clusters
 pub mod members
 pub mod attributes
 pub mod endpoints
+pub mod items
 use Prim.Native.Nat.{ℕ, _+_, _-_, _*_, _≤_, _<_}
 use mathlib.Core.Path.{_≡_}
 use mathlib.Core.Bool.{Bool, true, false}

@@ -6,3 +6,4 @@ pub mod members
 pub mod attributes
 pub mod clusters
 pub mod endpoints
+pub mod items

@@ -94,7 +94,7 @@ pub struct MembersWrote {
 }
 
 // Whether a keyword is the first word.
-fn starts(part: &[u8], base: usize, key: &[u8]) -> bool
+pub fn starts(part: &[u8], base: usize, key: &[u8]) -> bool
     requires { ⌜ base + length (now part) ≤ text-limit ⌝ }
     ensures { λ r. ⌜ r ≡ found (any-keyword (now (key .entry) ∷ []) base (now (part .entry))) ⌝ }
 {
@@ -234,7 +234,7 @@ fn shared_kind(part: &[u8], base: usize, c1: usize) -> Candidate
 }
 
 // What a member is, where no blank stands before it.
-fn member_kind(part: &[u8], base: usize) -> Candidate
+pub fn member_kind(part: &[u8], base: usize) -> Candidate
     requires { ⌜ base + length (now part) ≤ text-limit ⌝ }
     requires { ⌜ whitespace0 base (now part) ≡ ok no-doc base (now part) ⌝ }
     ensures { λ r. ⌜ KindTo r base (now (part .entry)) ⌝ }
@@ -300,7 +300,7 @@ fn count_member(part: &[u8], base: usize, kind: MemberKind, doc: DocSpan, maturi
 }
 
 // A count that is lost no earlier than at a place.
-fn raise(r: Count, floor: usize) -> Count
+pub fn raise(r: Count, floor: usize) -> Count
     ensures { λ x. ⌜ x ≡ countRaised r floor ⌝ }
 {
     let Count::NoCount(l) = r else {

@@ -5,6 +5,7 @@ pub mod clusters;
 pub mod counts;
 pub mod endpoints;
 pub mod entries;
+pub mod items;
 pub mod maturity;
 pub mod members;
 pub mod optional;

@@ -54,7 +54,7 @@ use Rattle.items.proofs.Answers.{read-within, read-lost}
 use Rattle.items.proofs.Mapped.{TookAs, lost-as, mapped-ok, mapped-not, read-as, mapped-after}
 use Rattle.items.proofs.Locality.{access-entry-inside, access-entry-consumes, comma-local, separated-list0-inside, access-list-inside, attribute-access-inside, parse-attribute-consumes}
 use Rattle.items.proofs.counts.Laws.{read-counted}
-use Rattle.items.proofs.members.Laws.{or-fails}
+use Rattle.items.proofs.Choice.{or-both}
 use Rattle.items.proofs.RecordWords.{words-bytes-length, catalogue-bytes-append, catalogue-bytes-length}
 use Rattle.items.proofs.writing.Laws.{put-on, documented-bytes}
 use Rattle.items.proofs.structs.Laws.{other-case, by-case, field-parts-is, field-parts-words, field-in-limit}
@@ -83,7 +83,7 @@ operation-is k x t b c u a h e s d r =
 
 pub operation-none : (b : ℕ) (u : List ℕ) → fail b ≡ keyword (ascii "read") b u → fail b ≡ keyword (ascii "write") b u → OperationTo (NoOperation (Fail b)) b u
 unfolding any-keyword
-operation-none b u x y = record { reads = or-fails _ _ b u x (or-fails _ _ b u y refl); means = tt }
+operation-none b u x y = record { reads = sym (or-both _ _ (sym x) (or-both _ _ (sym y) refl)); means = tt }
 
 -- as a step of a sequence
 pub record TookOperation (b : ℕ) (u : List ℕ) (n : ℕ) (k : Operation) (c : ℕ) : Type 0 where

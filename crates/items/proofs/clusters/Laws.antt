@@ -1,10 +1,11 @@
 -- Members of clusters: which try a first word leaves.
 use mathlib.Core.Path.{_≡_, refl, sym, ap, _∙_, subst}
-use mathlib.Core.Logic.{_⊎_, inl, inr}
-use mathlib.Core.Bool.{Bool, true, false, true≢false, false≢true}
+use mathlib.Core.Logic.{inl, inr}
+use mathlib.Core.Bool.{Bool, true, false, cond, _&&_, _||_, true≢false, false≢true}
 use mathlib.Core.List.{List, [], _∷_}
-use Prim.Native.Nat.{ℕ, _+_, _-_, _*_, _≤_, _<_, max}
+use Prim.Native.Nat.{ℕ, zero, suc, _+_, _-_, _*_, _≤_, _<_, max}
 use native.Mathlib.Omega.{arith}
+use borrow.Author.Tests.{eqb-true}
 use lib.ListN.{length, drop}
 use Rattle.lexing.specs.bytes.{ascii}
 use Rattle.lexing.specs.reply.{Reply, ok, fail, stop, Parser, ret, _or_, further}
@@ -21,12 +22,13 @@ use Rattle.lexing.proofs.Slicing.{Took, walks, told-next, told-not, blank-took}
 use Rattle.lexing.proofs.Onward.{Onward}
 use Rattle.lexing.proofs.Locality.{chain-many0}
 use Rattle.lexing.proofs.blanks.Laws.{gap-none, gap-some}
-use Rattle.lexing.proofs.FirstWord.{Starts, starts-of, Frees, free-set, StartsAny, starts-free, blank-clear}
+use Rattle.lexing.proofs.Tests.{and-left, and-right}
+use Rattle.lexing.proofs.FirstWord.{starts-of, Frees, free-set, disjoint, StartsAny, starts-free, blank-clear}
 use Rattle.lexing.proofs.words.Laws.{keyword-says}
 use Rattle.items.specs.entries.{shared-before, choice-head, choice-after-doc-maturity, parse-bitmap-after-doc-maturity, parse-enum-after-doc-maturity}
 use Rattle.items.specs.structs.{struct-head, parse-struct-after-doc-maturity}
 use Rattle.items.specs.members.{parse-attribute-after-doc-maturity, parse-command-after-doc-maturity}
-use Rattle.items.specs.clusters.{Member, revision, bitmap, enum, struct, attribute, command, event, parse-revision, member-tries, parse-cluster-member, cluster-members}
+use Rattle.items.specs.clusters.{revision, bitmap, enum, struct, attribute, command, event, parse-revision, member-tries, parse-cluster-member, cluster-members}
 use Rattle.items.specs.records.{Record, each, attribute-records, member-records}
 use Rattle.items.specs.layout.{word-count}
 use Rattle.items.specs.answers.{CountTo, countLost, countEnd}
@@ -40,12 +42,13 @@ use Rattle.lexing.specs.declared.integers.Number.{Number}
 use Rattle.lexing.specs.declared.integers.Number.the-variants.{Value}
 use Rattle.items.specs.declared.counts.Count.the-variants.{Words, NoCount}
 use Rattle.items.specs.inner.endpoints.{furtherLost}
-use Rattle.items.specs.inner.clusters.{countRaised, revision-words, bitmap-words, enum-words, struct-words, attribute-words, command-words, event-words, found, raised, member-try, KindTo}
+use Rattle.items.specs.inner.clusters.{countRaised, revision-words, bitmap-words, enum-words, struct-words, attribute-words, command-words, event-words, found, member-try, same-kind, kind-number, fails-at, KindTo}
 use Rattle.items.specs.declared.clusters.MemberKind.{MemberKind}
 use Rattle.items.specs.declared.clusters.MemberKind.the-variants.{Revision, Bitmap, Enum, Struct, Attribute, Command, Event, Unknown}
 use Rattle.items.proofs.RecordWords.{word-count-none, each-elementwise}
 use Rattle.items.proofs.counts.Laws.{Counting, counting-start, counting-more, counting-ends, count-took, count-none, read-counted, count-is, count-not, count-lost, count-mapped, count-value}
 use Rattle.items.proofs.Locality.{parse-revision-consumes as revision-consumes, member-tries-inside, parse-cluster-member-inside, parse-cluster-member-consumes}
+use Rattle.items.proofs.Choice.{End, kept, lost, ends, Tries, more, last, keeps, left, Within, Reaches, choice}
 use Rattle.items.proofs.Tries.{bind-ok, bind-fail, then-ok, then-fail, opt-none, opt-some, mapped-fail, revision-elsewhere, choice-elsewhere, struct-elsewhere, attribute-elsewhere, command-elsewhere, event-elsewhere}
 
 -- a keyword is there or fails at its start
@@ -130,110 +133,134 @@ any-more {t} {r} k ks b u e h z = go (stands k b u)
     go (there w c v q) = absurd (true≢false (sym (any-there k [] b u w c v q) ∙ (sym e ∙ h)))
     go (elsewhere q) = z ∙ sym (any-elsewhere k ks b u q)
 
--- Tries one after the other, of which all but one fail: its reply, raised to the furthest place n of theirs.
-raised-by : {A : Type 0} (b : ℕ) (u : List ℕ) (m k : Parser A) (p : ℕ) → m b u ≡ fail p → (m or k) b u ≡ raised p (k b u)
-unfolding _or_ further
-raised-by {A} b u m k p e = rw (e, _or_) (go (k b u) refl)
+-- The words that a member of a kind can start with.
+abbrev first-words : MemberKind → List (List ℕ)
+first-words Revision = revision-words
+first-words Bitmap = bitmap-words
+first-words Enum = enum-words
+first-words Struct = ascii "shared" ∷ struct-words
+first-words Attribute = attribute-words
+first-words Command = command-words
+first-words Event = event-words
+first-words Unknown = []
+
+-- where none of them stands, and no blank, its try fails at the start
+kind-elsewhere : (b : ℕ) (u : List ℕ) → whitespace0 b u ≡ ok no-doc b u → (k : MemberKind) (d : Doc) (m : ℕ) → Frees b u (first-words k) → member-try k d m b u ≡ fail b
+unfolding member-try parse-bitmap-after-doc-maturity parse-enum-after-doc-maturity
+kind-elsewhere b u clear Revision d m f = revision-elsewhere b u f
+kind-elsewhere b u clear Bitmap d m f = mapped-fail _ _ (choice-elsewhere b u d m (ascii "bitmap") (f .0) (f .1 .0))
+kind-elsewhere b u clear Enum d m f = mapped-fail _ _ (choice-elsewhere b u d m (ascii "enum") (f .0) (f .1 .0))
+kind-elsewhere b u clear Struct d m f = mapped-fail _ _ (struct-elsewhere b u d m clear (f .0) (f .1))
+kind-elsewhere b u clear Attribute d m f = mapped-fail _ _ (attribute-elsewhere b u d m clear f)
+kind-elsewhere b u clear Command d m f = mapped-fail _ _ (command-elsewhere b u d m clear f)
+kind-elsewhere b u clear Event d m f = mapped-fail _ _ (event-elsewhere b u d m clear f)
+kind-elsewhere b u clear Unknown d m f = refl
+
+-- kinds by number
+abbrev kinds : List MemberKind
+kinds = Revision ∷ Bitmap ∷ Enum ∷ Struct ∷ Attribute ∷ Command ∷ Event ∷ []
+
+kind-at : List MemberKind → ℕ → MemberKind
+kind-at [] n = Unknown
+kind-at (k ∷ ks) zero = k
+kind-at (k ∷ ks) (suc n) = kind-at ks n
+
+kind-numbered : (k : MemberKind) → kind-at kinds (kind-number k) ≡ k
+unfolding kind-at
+kind-numbered Revision = refl
+kind-numbered Bitmap = refl
+kind-numbered Enum = refl
+kind-numbered Struct = refl
+kind-numbered Attribute = refl
+kind-numbered Command = refl
+kind-numbered Event = refl
+kind-numbered Unknown = refl
+
+-- a test of every kind
+abbrev all-of : (MemberKind → Bool) → List MemberKind → Bool
+all-of t [] = t Unknown
+all-of t (k ∷ ks) = t k && all-of t ks
+
+all-at : (t : MemberKind → Bool) (ks : List MemberKind) → all-of t ks ≡ true → (n : ℕ) → t (kind-at ks n) ≡ true
+unfolding kind-at
+all-at t [] e n = e
+all-at t (k ∷ ks) e zero = and-left (t k) (all-of t ks) e
+all-at t (k ∷ ks) e (suc n) = all-at t ks (and-right (t k) (all-of t ks) e) n
+
+every : (t : MemberKind → Bool) → all-of t kinds ≡ true → (k : MemberKind) → t k ≡ true
+every t e k = rw (kind-numbered k) at (all-at t kinds e (kind-number k))
+
+-- the same number, the same kind
+one-kind : (j k : MemberKind) → same-kind j k ≡ true → j ≡ k
+one-kind j k e = sym (kind-numbered j) ∙ (ap (kind-at kinds) (eqb-true (kind-number j) (kind-number k) e) ∙ kind-numbered k)
+
+-- how the tries of all kinds end
+abbrev pub kind-ends : Candidate → ℕ → MemberKind → End
+kind-ends r b k = cond (same-kind k (r .kind)) kept (lost (fails-at (r .floor) b k))
+
+pub kind-tried : {A : Type 0} (t : MemberKind → Reply A) (r : Candidate) (b : ℕ) → ((k : MemberKind) → same-kind k (r .kind) ≡ false → t k ≡ fail (fails-at (r .floor) b k)) → (k : MemberKind) → t k ≡ ends (t (r .kind)) (kind-ends r b k)
+kind-tried t r b h k = go (same-kind k (r .kind)) refl
   where
-    go : (x : Reply A) → k b u ≡ x → further p x ≡ raised p x
-    go (ok a c r) z = refl
-    go (fail q) z = refl
-    go (stop n q) z = refl
+    go : (x : Bool) → same-kind k (r .kind) ≡ x → t k ≡ ends (t (r .kind)) (cond x kept (lost (fails-at (r .floor) b k)))
+    go true e = ap t (one-kind k (r .kind) e)
+    go false e = h k e
 
-raised-more : {A : Type 0} (p n : ℕ) (x : Reply A) → p ≤ n → raised p (raised n x) ≡ raised n x
-raised-more p n (ok a c r) h = refl
-raised-more p n (fail q) h = let z : max p (max n q) ≡ max n q = omega (arith, h) in ap fail z
-raised-more p n (stop i q) h = refl
+pub kind-within : {r : Candidate} {b : ℕ} {u : List ℕ} → KindTo r b u → (k : MemberKind) → Within (r .floor) (kind-ends r b k)
+kind-within {r} {b} h k = go (same-kind k (r .kind))
+  where
+    low : (k : MemberKind) → fails-at (r .floor) b k ≤ r .floor
+    low Revision = h .up
+    low Bitmap = omega arith
+    low Enum = omega arith
+    low Struct = omega arith
+    low Attribute = h .up
+    low Command = h .up
+    low Event = h .up
+    low Unknown = h .up
 
-raised-less : {A : Type 0} (p n : ℕ) (x : Reply A) → p ≤ n → raised n (raised p x) ≡ raised n x
-raised-less p n (ok a c r) h = refl
-raised-less p n (fail q) h = let z : max n (max p q) ≡ max n q = omega (arith, h) in ap fail z
-raised-less p n (stop i q) h = refl
+    go : (t : Bool) → Within (r .floor) (cond t kept (lost (fails-at (r .floor) b k)))
+    go true = tt
+    go false = low k
 
-module _ {A : Type 0} {b : ℕ} {u : List ℕ} where
-  -- a try before it
-  pub or-pass : (m k : Parser A) {p n : ℕ} (X : Reply A) → m b u ≡ fail p → p ≤ n → k b u ≡ raised n X → (m or k) b u ≡ raised n X
-  or-pass m k {p} {n} X e h f = raised-by b u m k p e ∙ (ap (raised p) f ∙ raised-more p n X h)
+-- the tries of a member leave that of its kind
+abbrev member-ends : Candidate → ℕ → List End
+member-ends r b = kind-ends r b Revision ∷ kind-ends r b Bitmap ∷ kind-ends r b Enum ∷ kind-ends r b Struct ∷ kind-ends r b Attribute ∷ kind-ends r b Command ∷ kind-ends r b Event ∷ []
 
-  pub or-over : (m k : Parser A) {p n : ℕ} (X : Reply A) → m b u ≡ fail n → p ≤ n → k b u ≡ raised p X → (m or k) b u ≡ raised n X
-  or-over m k {p} {n} X e h f = raised-by b u m k n e ∙ (ap (raised n) f ∙ raised-less p n X h)
+-- a type's try is among those that fail
+member-reaches : (k : MemberKind) (q b : ℕ) → Reaches q (member-ends (record { kind = k; floor = q }) b)
+member-reaches Revision q b = inl refl
+member-reaches Bitmap q b = inr (inl refl)
+member-reaches Enum q b = inr (inl refl)
+member-reaches Struct q b = inr (inl refl)
+member-reaches Attribute q b = inr (inl refl)
+member-reaches Command q b = inr (inl refl)
+member-reaches Event q b = inr (inl refl)
+member-reaches Unknown q b = inr (inl refl)
 
-  -- the tries behind it
-  pub or-stay : (m k : Parser A) {n : ℕ} → k b u ≡ fail n → (m or k) b u ≡ raised n (m b u)
-  unfolding _or_ further
-  or-stay m k {n} e = go (m b u) refl
-    where
-      go : (x : Reply A) → m b u ≡ x → (m or k) b u ≡ raised n (m b u)
-      go (ok a c r) z = rw (z, _or_) refl
-      go (fail p) z = let y : max p n ≡ max n p = omega arith in rw (z, _or_) (rw e (rw y))
-      go (stop i p) z = rw (z, _or_) refl
+member-keeps : (k : MemberKind) (q b : ℕ) → b ≤ q → (d : Doc) (m : ℕ) (u : List ℕ) → left (keeps (member-ends (record { kind = k; floor = q }) b)) q (member-try k d m b u) ≡ further q (member-try k d m b u)
+unfolding member-try further
+member-keeps Revision q b h d m u = refl
+member-keeps Bitmap q b h d m u = refl
+member-keeps Enum q b h d m u = refl
+member-keeps Struct q b h d m u = refl
+member-keeps Attribute q b h d m u = refl
+member-keeps Command q b h d m u = refl
+member-keeps Event q b h d m u = refl
+member-keeps Unknown q b h d m u = let z : q ≡ max q b = omega arith in ap fail z
 
-  -- the last try
-  pub or-last : (m k : Parser A) {n : ℕ} → m b u ≡ fail n → (m or k) b u ≡ raised n (k b u)
-  or-last m k {n} e = raised-by b u m k n e
+pub member-left : {r : Candidate} {b : ℕ} {u : List ℕ} → KindTo r b u → (d : Doc) (m : ℕ) → member-tries d m b u ≡ further (r .floor) (member-try (r .kind) d m b u)
+unfolding member-tries member-try
+member-left {r} {b} {u} h d m =
+    choice (r .floor) tries (w Revision, (w Bitmap, (w Enum, (w Struct, (w Attribute, (w Command, (w Event, tt))))))) (member-reaches (r .kind) (r .floor) b) ∙ member-keeps (r .kind) (r .floor) b (h .up) d m u
+  where
+    w : (k : MemberKind) → Within (r .floor) (kind-ends r b k)
+    w k = kind-within h k
 
-  -- tries that fail, no further than at n and at n
-  pub or-low : (m k : Parser A) {p n : ℕ} → m b u ≡ fail p → p ≤ n → k b u ≡ fail n → (m or k) b u ≡ fail n
-  or-low m k {p} {n} e h f = let z : max p n ≡ n = omega (arith, h) in raised-by b u m k p e ∙ (ap (raised p) f ∙ ap fail z)
+    t : (k : MemberKind) → member-try k d m b u ≡ ends (member-try (r .kind) d m b u) (kind-ends r b k)
+    t k = kind-tried (λ k. member-try k d m b u) r b (λ k e. h .others k e d m) k
 
-  pub or-high : (m k : Parser A) {p n : ℕ} → m b u ≡ fail n → k b u ≡ fail p → p ≤ n → (m or k) b u ≡ fail n
-  or-high m k {p} {n} e f h = let z : max n p ≡ n = omega (arith, h) in raised-by b u m k n e ∙ (ap (raised n) f ∙ ap fail z)
-
--- The kind of a member, where no blank stands before it. Tries that fail at the start:
-module _ (b : ℕ) (u : List ℕ) (clear : whitespace0 b u ≡ ok no-doc b u) (d : Doc) (m : ℕ) where
-  no-revision : Frees b u revision-words → member-try Revision d m b u ≡ fail b
-  unfolding member-try
-  no-revision f = revision-elsewhere b u f
-
-  no-bitmap : Frees b u bitmap-words → member-try Bitmap d m b u ≡ fail b
-  unfolding member-try parse-bitmap-after-doc-maturity
-  no-bitmap f = mapped-fail _ _ (choice-elsewhere b u d m (ascii "bitmap") (f .0) (f .1 .0))
-
-  no-enum : Frees b u enum-words → member-try Enum d m b u ≡ fail b
-  unfolding member-try parse-enum-after-doc-maturity
-  no-enum f = mapped-fail _ _ (choice-elsewhere b u d m (ascii "enum") (f .0) (f .1 .0))
-
-  no-struct : Frees b u (ascii "shared" ∷ struct-words) → member-try Struct d m b u ≡ fail b
-  unfolding member-try
-  no-struct f = mapped-fail _ _ (struct-elsewhere b u d m clear (f .0) (f .1))
-
-  no-attribute : Frees b u attribute-words → member-try Attribute d m b u ≡ fail b
-  unfolding member-try
-  no-attribute f = mapped-fail _ _ (attribute-elsewhere b u d m clear f)
-
-  no-command : Frees b u command-words → member-try Command d m b u ≡ fail b
-  unfolding member-try
-  no-command f = mapped-fail _ _ (command-elsewhere b u d m clear f)
-
-  no-event : Frees b u event-words → member-try Event d m b u ≡ fail b
-  unfolding member-try
-  no-event f = mapped-fail _ _ (event-elsewhere b u d m clear f)
-
-  -- and all behind one
-  b≤b : b ≤ b
-  b≤b = omega arith
-
-  from-command : Frees b u command-words → Frees b u event-words → (member-try Command d m or member-try Event d m) b u ≡ fail b
-  from-command c e = or-low _ _ (no-command c) b≤b (no-event e)
-
-  from-attribute : Frees b u attribute-words → Frees b u command-words → Frees b u event-words → (member-try Attribute d m or (member-try Command d m or member-try Event d m)) b u ≡ fail b
-  from-attribute a c e = or-low _ _ (no-attribute a) b≤b (from-command c e)
-
-  -- behind enums, whatever starts a struct
-  from-enum : {n : ℕ} → member-try Enum d m b u ≡ fail n → member-try Struct d m b u ≡ fail n → b ≤ n → Frees b u attribute-words → Frees b u command-words → Frees b u event-words
-      → (member-try Enum d m or (member-try Struct d m or (member-try Attribute d m or (member-try Command d m or member-try Event d m)))) b u ≡ fail n
-  from-enum {n} f s h a c e = let z : n ≤ n = omega arith in or-low _ _ f z (or-high _ _ s (from-attribute a c e) h)
-
-  module _ (r : Frees b u revision-words) where
-    before-bitmap : {n : ℕ} (X : Reply Member) → b ≤ n → (member-try Bitmap d m or (member-try Enum d m or (member-try Struct d m or (member-try Attribute d m or (member-try Command d m or member-try Event d m))))) b u ≡ raised n X → member-tries d m b u ≡ raised n X
-    unfolding member-tries member-try
-    before-bitmap X h e = or-pass _ _ X (no-revision r) h e
-
-    before-enum : {n : ℕ} (X : Reply Member) → member-try Bitmap d m b u ≡ fail n → b ≤ n → (member-try Enum d m or (member-try Struct d m or (member-try Attribute d m or (member-try Command d m or member-try Event d m)))) b u ≡ raised n X → member-tries d m b u ≡ raised n X
-    before-enum {n} X f h e = let z : n ≤ n = omega arith in before-bitmap X h (or-pass _ _ X f z e)
-
-    before-struct : {n : ℕ} (X : Reply Member) → member-try Bitmap d m b u ≡ fail n → member-try Enum d m b u ≡ fail n → b ≤ n → (member-try Struct d m or (member-try Attribute d m or (member-try Command d m or member-try Event d m))) b u ≡ raised n X → member-tries d m b u ≡ raised n X
-    before-struct {n} X f g h e = let z : n ≤ n = omega arith in before-enum X f h (or-pass _ _ X g z e)
+    tries : Tries b u (member-try (r .kind) d m b u) (member-tries d m) (member-ends r b)
+    tries = more _ (t Revision) (more _ (t Bitmap) (more _ (t Enum) (more _ (t Struct) (more _ (t Attribute) (more _ (t Command) (last (t Event)))))))
 
 -- enums and bitmaps, where `shared` is not before them
 choice-not-shared : (b : ℕ) (u : List ℕ) (d : Doc) (m : ℕ) {p : ℕ} → shared-before b u ≡ fail p → (j : List ℕ) → keyword j b u ≡ fail b → choice-after-doc-maturity j d m b u ≡ fail b
@@ -282,149 +309,93 @@ pub record OtherWord (b : ℕ) (u : List ℕ) : Type 0 where
   pub command : found (any-keyword command-words b u) ≡ false
   pub event : found (any-keyword event-words b u) ≡ false
 
--- the first word of each kind leaves its try
+-- the first word leaves the try of its kind
 module _ (b : ℕ) (u : List ℕ) (clear : whitespace0 b u ≡ ok no-doc b u) where
-  pub at-revision : StartsAny revision-words u → KindTo (record { kind = Revision; floor = b }) b u
-  unfolding member-tries member-try same-bytes
-  at-revision s = record {
-    tries = λ d m.
-        let h : b ≤ b = omega arith in
-        or-stay _ _ (or-low _ _ (no-bitmap b u clear d m (starts-free s b bitmap-words refl)) h (
-        from-enum b u clear d m (no-enum b u clear d m (starts-free s b enum-words refl)) (no-struct b u clear d m (starts-free s b (ascii "shared" ∷ struct-words) refl)) h (starts-free s b attribute-words refl) (starts-free s b command-words refl) (starts-free s b event-words refl)
-        ));
-  }
+  at-start : (k : MemberKind) → fails-at b b k ≡ b
+  at-start Revision = refl
+  at-start Bitmap = refl
+  at-start Enum = refl
+  at-start Struct = refl
+  at-start Attribute = refl
+  at-start Command = refl
+  at-start Event = refl
+  at-start Unknown = refl
 
-  pub at-bitmap : StartsAny (ascii "bitmap" ∷ []) u → KindTo (record { kind = Bitmap; floor = b }) b u
-  unfolding same-bytes
-  at-bitmap s = record {
-    tries = λ d m.
-        let h : b ≤ b = omega arith in
-        before-bitmap b u clear d m (starts-free s b revision-words refl) (member-try Bitmap d m b u) h (or-stay _ _ (
-        from-enum b u clear d m (no-enum b u clear d m (starts-free s b enum-words refl)) (no-struct b u clear d m (starts-free s b (ascii "shared" ∷ struct-words) refl)) h (starts-free s b attribute-words refl) (starts-free s b command-words refl) (starts-free s b event-words refl)
-        ));
-  }
+  at-free : (j : MemberKind) → ((k : MemberKind) → same-kind k j ≡ false → Frees b u (first-words k)) → KindTo (record { kind = j; floor = b }) b u
+  at-free j f = record { up = omega arith; others = λ k e d m. kind-elsewhere b u clear k d m (f k e) ∙ ap fail (sym (at-start k)) }
 
-  pub at-enum : StartsAny (ascii "enum" ∷ []) u → KindTo (record { kind = Enum; floor = b }) b u
-  unfolding same-bytes
-  at-enum s = record {
-    tries = λ d m.
-        let h : b ≤ b = omega arith in
-        before-enum b u clear d m (starts-free s b revision-words refl) (member-try Enum d m b u) (no-bitmap b u clear d m (starts-free s b bitmap-words refl)) h (or-stay _ _ (
-        or-low _ _ (no-struct b u clear d m (starts-free s b (ascii "shared" ∷ struct-words) refl)) h (from-attribute b u clear d m (starts-free s b attribute-words refl) (starts-free s b command-words refl) (starts-free s b event-words refl))
-        ));
-  }
-
-  pub at-struct : StartsAny struct-words u → KindTo (record { kind = Struct; floor = b }) b u
-  unfolding same-bytes
-  at-struct s = record {
-    tries = λ d m.
-        let h : b ≤ b = omega arith in
-        before-struct b u clear d m (starts-free s b revision-words refl) (member-try Struct d m b u) (no-bitmap b u clear d m (starts-free s b bitmap-words refl)) (no-enum b u clear d m (starts-free s b enum-words refl)) h (or-stay _ _ (
-        from-attribute b u clear d m (starts-free s b attribute-words refl) (starts-free s b command-words refl) (starts-free s b event-words refl)
-        ));
-  }
-
-  pub at-attribute : StartsAny attribute-words u → KindTo (record { kind = Attribute; floor = b }) b u
-  unfolding same-bytes
-  at-attribute s = record {
-    tries = λ d m.
-        let h : b ≤ b = omega arith in
-        before-struct b u clear d m (starts-free s b revision-words refl) (member-try Attribute d m b u) (no-bitmap b u clear d m (starts-free s b bitmap-words refl)) (no-enum b u clear d m (starts-free s b enum-words refl)) h (
-        or-pass _ _ (member-try Attribute d m b u) (no-struct b u clear d m (starts-free s b (ascii "shared" ∷ struct-words) refl)) h (or-stay _ _ (from-command b u clear d m (starts-free s b command-words refl) (starts-free s b event-words refl)))
-        );
-  }
-
-  pub at-command : StartsAny command-words u → KindTo (record { kind = Command; floor = b }) b u
-  unfolding same-bytes
-  at-command s = record {
-    tries = λ d m.
-        let h : b ≤ b = omega arith in
-        before-struct b u clear d m (starts-free s b revision-words refl) (member-try Command d m b u) (no-bitmap b u clear d m (starts-free s b bitmap-words refl)) (no-enum b u clear d m (starts-free s b enum-words refl)) h (
-        or-pass _ _ (member-try Command d m b u) (no-struct b u clear d m (starts-free s b (ascii "shared" ∷ struct-words) refl)) h (or-pass _ _ (member-try Command d m b u) (no-attribute b u clear d m (starts-free s b attribute-words refl)) h (or-stay _ _ (no-event b u clear d m (starts-free s b event-words refl))))
-        );
-  }
-
-  pub at-event : StartsAny event-words u → KindTo (record { kind = Event; floor = b }) b u
-  unfolding same-bytes
-  at-event s = record {
-    tries = λ d m.
-        let h : b ≤ b = omega arith in
-        before-struct b u clear d m (starts-free s b revision-words refl) (member-try Event d m b u) (no-bitmap b u clear d m (starts-free s b bitmap-words refl)) (no-enum b u clear d m (starts-free s b enum-words refl)) h (
-        or-pass _ _ (member-try Event d m b u) (no-struct b u clear d m (starts-free s b (ascii "shared" ∷ struct-words) refl)) h (or-pass _ _ (member-try Event d m b u) (no-attribute b u clear d m (starts-free s b attribute-words refl)) h (or-last _ _ (no-command b u clear d m (starts-free s b command-words refl))))
-        );
-  }
+  -- one of some words, which no other kind starts with
+  pub at-word : (j : MemberKind) (ks : List (List ℕ)) → all-of (λ k. same-kind k j || disjoint ks (first-words k)) kinds ≡ true → StartsAny ks u → KindTo (record { kind = j; floor = b }) b u
+  at-word j ks t s = at-free j λ k e. starts-free s b (first-words k) (rw e at (every (λ k. same-kind k j || disjoint ks (first-words k)) t k))
 
   -- none of the words, and not `shared`
   pub at-other : OtherWord b u → keyword (ascii "shared") b u ≡ fail b → KindTo (record { kind = Unknown; floor = b }) b u
-  unfolding member-tries member-try
-  at-other o k = record {
-    tries = λ d m.
-        let h : b ≤ b = omega arith in
-        let z : max b b ≡ b = omega arith in
-        or-low _ _ (no-revision b u clear d m (frees-all revision-words b u (o .revision))) h (
-        or-low _ _ (no-bitmap b u clear d m (k, frees-all (ascii "bitmap" ∷ []) b u (o .bitmap))) h (
-        from-enum b u clear d m (no-enum b u clear d m (k, frees-all (ascii "enum" ∷ []) b u (o .enum))) (no-struct b u clear d m (k, frees-all struct-words b u (o .struct))) h (frees-all attribute-words b u (o .attribute)) (frees-all command-words b u (o .command)) (frees-all event-words b u (o .event))
-        )
-        )
-        ∙ ap fail (sym z);
-  }
+  at-other o s = at-free Unknown (λ k e. free k)
+    where
+      free : (k : MemberKind) → Frees b u (first-words k)
+      free Revision = frees-all revision-words b u (o .revision)
+      free Bitmap = (s, frees-all (ascii "bitmap" ∷ []) b u (o .bitmap))
+      free Enum = (s, frees-all (ascii "enum" ∷ []) b u (o .enum))
+      free Struct = (s, frees-all struct-words b u (o .struct))
+      free Attribute = frees-all attribute-words b u (o .attribute)
+      free Command = frees-all command-words b u (o .command)
+      free Event = frees-all event-words b u (o .event)
+      free Unknown = tt
 
   -- `shared`, and what follows it
   module _ {w : Word} {c : ℕ} {r : List ℕ} (k : keyword (ascii "shared") b u ≡ ok w c r) where
     starts-shared : StartsAny (ascii "shared" ∷ []) u
     starts-shared = record { first = ascii "shared"; among = inl refl; starts = starts-of (ascii "shared") b u w c r k }
 
+    -- of the types all but one fail at q
+    at-type : (j : MemberKind) (q : ℕ) → b ≤ q → ((d : Doc) (m : ℕ) → same-kind Bitmap j ≡ false → member-try Bitmap d m b u ≡ fail q) → ((d : Doc) (m : ℕ) → same-kind Enum j ≡ false → member-try Enum d m b u ≡ fail q)
+        → ((d : Doc) (m : ℕ) → same-kind Struct j ≡ false → member-try Struct d m b u ≡ fail q) → KindTo (record { kind = j; floor = q }) b u
+    unfolding same-bytes
+    at-type j q h x y z = record { up = h; others = other }
+      where
+        free : (k : MemberKind) → disjoint (ascii "shared" ∷ []) (first-words k) ≡ true → (d : Doc) (m : ℕ) → member-try k d m b u ≡ fail b
+        free k e d m = kind-elsewhere b u clear k d m (starts-free starts-shared b (first-words k) e)
+
+        other : (k : MemberKind) → same-kind k j ≡ false → (d : Doc) (m : ℕ) → member-try k d m b u ≡ fail (fails-at q b k)
+        other Revision e d m = free Revision refl d m
+        other Bitmap e d m = x d m e
+        other Enum e d m = y d m e
+        other Struct e d m = z d m e
+        other Attribute e d m = free Attribute refl d m
+        other Command e d m = free Command refl d m
+        other Event e d m = free Event refl d m
+        other Unknown e d m = free Unknown refl d m
+
     -- no blank follows: it can only be a struct's
     pub at-shared : whitespace1 c r ≡ fail c → KindTo (record { kind = Struct; floor = b }) b u
     unfolding same-bytes
-    at-shared e = record {
-      tries = λ d m.
-          let h : b ≤ b = omega arith in
-          let s = starts-shared in
-          let n = choice-not-shared b u d m (shared-unfollowed b u k e) in
-          before-struct b u clear d m (starts-free s b revision-words refl) (member-try Struct d m b u) (as-bitmap b u d m (n (ascii "bitmap") (starts-free s b (ascii "bitmap" ∷ []) refl .0))) (as-enum b u d m (n (ascii "enum") (starts-free s b (ascii "enum" ∷ []) refl .0))) h
-          (or-stay _ _ (from-attribute b u clear d m (starts-free s b attribute-words refl) (starts-free s b command-words refl) (starts-free s b event-words refl)));
-    }
+    at-shared e = at-type Struct b (omega arith) (λ d m z. as-bitmap b u d m (n d m (ascii "bitmap") refl)) (λ d m z. as-enum b u d m (n d m (ascii "enum") refl)) (λ d m z. absurd (true≢false z))
+      where
+        n : (d : Doc) (m : ℕ) (j : List ℕ) → disjoint (ascii "shared" ∷ []) (j ∷ []) ≡ true → choice-after-doc-maturity j d m b u ≡ fail b
+        n d m j t = choice-not-shared b u d m (shared-unfollowed b u k e) j (starts-free starts-shared b (j ∷ []) t .0)
 
     -- a blank follows, up to c₂: the word behind it decides
     module _ {e : Doc} {c₂ : ℕ} {r₂ : List ℕ} (g : whitespace1 c r ≡ ok e c₂ r₂) (g₀ : whitespace0 c r ≡ ok e c₂ r₂) (h : b ≤ c₂) where
-      no-choice : (d : Doc) (m : ℕ) (j : List ℕ) → keyword j c₂ r₂ ≡ fail c₂ → choice-after-doc-maturity j d m b u ≡ fail c₂
-      no-choice d m j f = choice-shared b u d m (shared-followed b u k g) j f
+      no-bitmap : Frees c₂ r₂ (ascii "bitmap" ∷ []) → (d : Doc) (m : ℕ) → member-try Bitmap d m b u ≡ fail c₂
+      no-bitmap f d m = as-bitmap b u d m (choice-shared b u d m (shared-followed b u k g) (ascii "bitmap") (f .0))
 
-      no-struct-behind : (d : Doc) (m : ℕ) → Frees c₂ r₂ (ascii "fabric_scoped" ∷ ascii "struct" ∷ []) → member-try Struct d m b u ≡ fail c₂
+      no-enum : Frees c₂ r₂ (ascii "enum" ∷ []) → (d : Doc) (m : ℕ) → member-try Enum d m b u ≡ fail c₂
+      no-enum f d m = as-enum b u d m (choice-shared b u d m (shared-followed b u k g) (ascii "enum") (f .0))
+
+      no-struct : Frees c₂ r₂ (ascii "fabric_scoped" ∷ ascii "struct" ∷ []) → (d : Doc) (m : ℕ) → member-try Struct d m b u ≡ fail c₂
       unfolding same-bytes
-      no-struct-behind d m f = struct-shared b u d m (starts-free starts-shared b (ascii "request" ∷ ascii "response" ∷ []) refl) k g₀ (blank-clear c r e c₂ r₂ g₀) f
+      no-struct f d m = struct-shared b u d m (starts-free starts-shared b (ascii "request" ∷ ascii "response" ∷ []) refl) k g₀ (blank-clear c r e c₂ r₂ g₀) f
 
       pub at-shared-bitmap : StartsAny (ascii "bitmap" ∷ []) r₂ → KindTo (record { kind = Bitmap; floor = c₂ }) b u
       unfolding same-bytes
-      at-shared-bitmap s = record {
-        tries = λ d m.
-            let t = starts-shared in
-            before-bitmap b u clear d m (starts-free t b revision-words refl) (member-try Bitmap d m b u) h (or-stay _ _ (
-            from-enum b u clear d m (as-enum b u d m (no-choice d m (ascii "enum") (starts-free s c₂ (ascii "enum" ∷ []) refl .0))) (no-struct-behind d m (starts-free s c₂ (ascii "fabric_scoped" ∷ ascii "struct" ∷ []) refl)) h
-            (starts-free t b attribute-words refl) (starts-free t b command-words refl) (starts-free t b event-words refl)
-            ));
-      }
+      at-shared-bitmap s = at-type Bitmap c₂ h (λ d m z. absurd (true≢false z)) (λ d m z. no-enum (starts-free s c₂ (ascii "enum" ∷ []) refl) d m) (λ d m z. no-struct (starts-free s c₂ (ascii "fabric_scoped" ∷ ascii "struct" ∷ []) refl) d m)
 
       pub at-shared-enum : StartsAny (ascii "enum" ∷ []) r₂ → KindTo (record { kind = Enum; floor = c₂ }) b u
       unfolding same-bytes
-      at-shared-enum s = record {
-        tries = λ d m.
-            let t = starts-shared in
-            before-enum b u clear d m (starts-free t b revision-words refl) (member-try Enum d m b u) (as-bitmap b u d m (no-choice d m (ascii "bitmap") (starts-free s c₂ (ascii "bitmap" ∷ []) refl .0))) h (or-stay _ _ (
-            or-high _ _ (no-struct-behind d m (starts-free s c₂ (ascii "fabric_scoped" ∷ ascii "struct" ∷ []) refl)) (from-attribute b u clear d m (starts-free t b attribute-words refl) (starts-free t b command-words refl) (starts-free t b event-words refl)) h
-            ));
-      }
+      at-shared-enum s = at-type Enum c₂ h (λ d m z. no-bitmap (starts-free s c₂ (ascii "bitmap" ∷ []) refl) d m) (λ d m z. absurd (true≢false z)) (λ d m z. no-struct (starts-free s c₂ (ascii "fabric_scoped" ∷ ascii "struct" ∷ []) refl) d m)
 
       pub at-shared-struct : Frees c₂ r₂ (ascii "bitmap" ∷ []) → Frees c₂ r₂ (ascii "enum" ∷ []) → KindTo (record { kind = Struct; floor = c₂ }) b u
-      unfolding same-bytes
-      at-shared-struct f f' = record {
-        tries = λ d m.
-            let t = starts-shared in
-            before-enum b u clear d m (starts-free t b revision-words refl) (member-try Struct d m b u) (as-bitmap b u d m (no-choice d m (ascii "bitmap") (f .0))) h (
-            or-over _ _ (member-try Struct d m b u) (as-enum b u d m (no-choice d m (ascii "enum") (f' .0))) h (or-stay _ _ (from-attribute b u clear d m (starts-free t b attribute-words refl) (starts-free t b command-words refl) (starts-free t b event-words refl)))
-            );
-      }
+      at-shared-struct f f' = at-type Struct c₂ h (λ d m z. no-bitmap f d m) (λ d m z. no-enum f' d m) (λ d m z. absurd (true≢false z))
 
 -- the code's answers behind `shared`
 pub keyword-absent : (k : List ℕ) (b : ℕ) (u : List ℕ) (a : Step) → wordReply a b u ≡ keyword k b u → (l : Lost) → a ≡ Not l → keyword k b u ≡ fail b
@@ -523,18 +494,19 @@ module _ (d : Doc) (m : ℕ) (b : ℕ) (u : List ℕ) where
   counts-unknown = record { counts = λ p. count-not (member-records (λ x. p)) (member-try Unknown d m) b u (Fail b) refl }
 
 -- a count that is raised
-count-raised : {A : Type 0} (f : A → List Record) (m k : Parser A) (q : ℕ) (r : Count) (b : ℕ) (u : List ℕ) → CountTo f m r b u → k b u ≡ raised q (m b u) → CountTo f k (countRaised r q) b u
+pub count-raised : {A : Type 0} (f : A → List Record) (m k : Parser A) (q : ℕ) (r : Count) (b : ℕ) (u : List ℕ) → CountTo f m r b u → k b u ≡ further q (m b u) → CountTo f k (countRaised r q) b u
+unfolding further
 count-raised f m k q (Words n c) b u h e =
     let s = count-value f m b u n c h in
-    count-is f k b u (s .value) n c (s .words) (h .few) (sym (e ∙ ap (raised q) (sym (s .is))))
+    count-is f k b u (s .value) n c (s .words) (h .few) (sym (e ∙ ap (further q) (sym (s .is))))
 count-raised f m k q (NoCount (Fail p)) b u h e =
     let z : max p q ≡ max q p = omega arith in
-    count-not f k b u (Fail (max p q)) (ap fail z ∙ sym (e ∙ ap (raised q) (sym (count-lost (Fail p) refl b u h))))
-count-raised f m k q (NoCount (Stop n p)) b u h e = count-not f k b u (Stop n p) (sym (e ∙ ap (raised q) (sym (count-lost (Stop n p) refl b u h))))
+    count-not f k b u (Fail (max p q)) (ap fail z ∙ sym (e ∙ ap (further q) (sym (count-lost (Fail p) refl b u h))))
+count-raised f m k q (NoCount (Stop n p)) b u h e = count-not f k b u (Stop n p) (sym (e ∙ ap (further q) (sym (count-lost (Stop n p) refl b u h))))
 
 pub member-counted : (d : Doc) (m : ℕ) (b : ℕ) (u : List ℕ) (k : Candidate) (r x : Count) → KindTo k b u → MemberCountTo (member-try (k .kind) d m) r b u → x ≡ countRaised r (k .floor) → MemberCountTo (member-tries d m) x b u
 member-counted d m b u k r x h g e = record {
-  counts = λ p. subst (λ (y : Count). CountTo (member-records (λ z. p)) (member-tries d m) y b u) (sym e) (count-raised (member-records (λ z. p)) (member-try (k .kind) d m) (member-tries d m) (k .floor) r b u (g .counts p) (h .tries d m));
+  counts = λ p. subst (λ (y : Count). CountTo (member-records (λ z. p)) (member-tries d m) y b u) (sym e) (count-raised (member-records (λ z. p)) (member-try (k .kind) d m) (member-tries d m) (k .floor) r b u (g .counts p) (member-left h d m));
 }
 
 -- the answers of the raised count

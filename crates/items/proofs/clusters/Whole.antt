@@ -22,7 +22,7 @@ use Rattle.lexing.proofs.TokenLocality.{any-keyword-chain, whitespace0-chain}
 use Rattle.lexing.proofs.FirstWord.{Frees, free-keywords}
 use Rattle.lexing.proofs.Repetition.{many0-step, many0-ends}
 use Rattle.lexing.proofs.words.Laws.{keyword-says}
-use Rattle.lexing.proofs.Slicing.{Took, took, walks, told-next, or-here, or-next, begin, go, on, done, fall, rest-self, rest-from}
+use Rattle.lexing.proofs.Slicing.{Took, took, walks, told-next, or-here, begin, go, on, done, fall, rest-self, rest-from}
 use Rattle.items.specs.entries.{enclosed, where-missing, braces, api-maturity, choice-after-doc-maturity, parse-enum-after-doc-maturity, parse-bitmap-after-doc-maturity}
 use Rattle.items.specs.structs.{parse-struct-after-doc-maturity}
 use Rattle.items.specs.members.{parse-event-after-doc-maturity, parse-command-after-doc-maturity, parse-attribute-after-doc-maturity}
@@ -33,7 +33,7 @@ use Rattle.items.specs.buffers.{put}
 use Rattle.items.specs.answers.{Front, frontOf, wordBetween, NameIn, Room, Written, first-of, docWord, docBit}
 use Rattle.items.specs.answers.members.{command-records}
 use Rattle.items.specs.answers.clusters.{RevisionTo, clusterHeadAt, unhoisted-records}
-use Rattle.items.specs.inner.clusters.{found, raised, revision-words, struct-words, attribute-words, command-words, event-words, member-try, KindTo, member-behind, members-rest, unhoisted, wroteTo, MemberWritten, MembersWritten, cluster-first}
+use Rattle.items.specs.inner.clusters.{found, revision-words, struct-words, attribute-words, command-words, event-words, member-try, KindTo, member-behind, members-rest, unhoisted, wroteTo, MemberWritten, MembersWritten, cluster-first}
 use Rattle.items.specs.declared.writing.FrontParts.{FrontParts}
 use Rattle.items.specs.declared.writing.Wrote.{Wrote}
 use Rattle.items.specs.declared.clusters.MemberKind.{MemberKind}
@@ -45,14 +45,15 @@ use Rattle.items.proofs.Answers.{read-took}
 use Rattle.items.proofs.Mapped.{mapped-ok}
 use Rattle.items.proofs.Pairs.{onward-bind}
 use Rattle.items.proofs.Headed.{Headed}
-use Rattle.items.proofs.Tries.{bind-ok, then-ok, then-fail}
+use Rattle.items.proofs.Choice.{further-ok, ok-further}
+use Rattle.items.proofs.Tries.{maturity-words, bind-ok, then-ok, maturity-elsewhere}
 use Rattle.items.proofs.Braces.{Step as Taken, lost-not, brace-first, brace-keyword, brace-blank, rest-is, taken, then-value, follows, follows-with, close-took, close-lost, close-on, opened-room, opened-is}
 use Rattle.items.proofs.RecordWords.{Elementwise, each-elementwise, word-count-none, catalogue-bytes-none}
 use Rattle.items.proofs.Locality.{braces-chain, api-maturity-local, parse-revision-local, member-tries-inside, parse-cluster-member-inside, parse-cluster-member-consumes, side-local, cluster-head-local}
 use Rattle.items.proofs.WordBetween.{extent-between}
 use Rattle.items.proofs.writing.Laws.{put-nothing, put-next, documented-bytes, no-room, written-took, Writing, writing-start, writing-start-seen, writing-same, writing-fits, writing-more, writing-more-seen}
 use Rattle.items.proofs.endpoints.Placed.{mapped-room}
-use Rattle.items.proofs.clusters.Laws.{keyword-absent, OtherWord, at-other, member-tries-on, members-on, parse-member-on}
+use Rattle.items.proofs.clusters.Laws.{keyword-absent, OtherWord, at-other, member-left, member-tries-on, members-on, parse-member-on}
 
 -- one of two keywords
 module _ (k j : List ℕ) (b : ℕ) (u : List ℕ) where
@@ -186,17 +187,12 @@ unfolding member-try
 unknown-found d m {x} e b u room = no-room room (Fail b) (sym (ap (λ (y : MemberKind). member-try y d m b u) e))
 
 -- the tries of a member by that of its kind
-raised-ok : {A : Type 0} (q : ℕ) (x : Reply A) {v : A} {c : ℕ} {r : List ℕ} → ok v c r ≡ raised q x → ok v c r ≡ x
-raised-ok q (ok v c r) e = e
-raised-ok q (fail p) e = absurd (lost-not e (Fail (max q p)) refl)
-raised-ok q (stop n p) e = absurd (lost-not e (Stop n p) refl)
-
 module _ {k : Candidate} {b : ℕ} {u : List ℕ} (h : KindTo k b u) (d : Doc) (m : ℕ) where
   pub left-room : {at n : ℕ} → Room unhoisted (member-tries d m) b u at n → Room unhoisted (member-try (k .kind) d m) b u at n
-  left-room room = record { value = room .value; next = room .next; is = raised-ok (k .floor) (member-try (k .kind) d m b u) (room .is ∙ h .tries d m); fits = room .fits }
+  left-room room = record { value = room .value; next = room .next; is = further-ok (k .floor) (member-try (k .kind) d m b u) (room .is ∙ member-left h d m); fits = room .fits }
 
   left-is : {v : Member} {c : ℕ} {r : List ℕ} → ok v c r ≡ member-try (k .kind) d m b u → ok v c r ≡ member-tries d m b u
-  left-is e = sym (h .tries d m ∙ ap (raised (k .floor)) (sym e))
+  left-is e = ok-further (k .floor) e ∙ sym (member-left h d m)
 
 -- a member behind the blanks before it
 module _ (d : Doc) {b : ℕ} {u : List ℕ} {m c₁ : ℕ} (t₁ : Took api-maturity b u b m c₁) {e : Doc} {c₂ : ℕ} (t₂ : Took whitespace0 b u c₁ e c₂) {r : List ℕ} (q : Rest b u c₂ r) where
@@ -229,18 +225,14 @@ module _ (b : ℕ) (u : List ℕ) where
   brace-starts js = ap found (free-keywords b (125 ∷ u) js (brace-frees js))
 
   brace-tries : (d : Doc) (m : ℕ) → member-tries d m b (125 ∷ u) ≡ fail b
-  unfolding member-try
+  unfolding member-try further
   brace-tries d m =
       let other : OtherWord b (125 ∷ u) = record { revision = brace-starts _; bitmap = brace-starts _; enum = brace-starts _; struct = brace-starts _; attribute = brace-starts _; command = brace-starts _; event = brace-starts _ } in
       let z : max b b ≡ b = omega arith in
-      at-other b (125 ∷ u) (brace-blank b u) other (brace-keyword b u (ascii "shared")) .tries d m ∙ ap fail z
-
-  no-level : (k : List ℕ) (v : ℕ) → fail b ≡ (keyword k >> ret v) b (125 ∷ u)
-  no-level k v = sym (then-fail _ _ (brace-keyword b u k))
+      member-left (at-other b (125 ∷ u) (brace-blank b u) other (brace-keyword b u (ascii "shared"))) d m ∙ ap fail z
 
   brace-maturity : api-maturity b (125 ∷ u) ≡ ok 0 b (125 ∷ u)
-  unfolding api-maturity ret
-  brace-maturity = sym (or-next _ _ _ _ _ _ _ _ (no-level _ _) (or-next _ _ _ _ _ _ _ _ (no-level _ _) (or-next _ _ _ _ _ _ _ _ (no-level _ _) (or-next _ _ _ _ _ _ _ _ (no-level _ _) refl))))
+  brace-maturity = maturity-elsewhere b (125 ∷ u) (brace-frees maturity-words)
 
   brace-member : (d : Doc) → member-behind d b (125 ∷ u) ≡ fail b
   unfolding member-behind

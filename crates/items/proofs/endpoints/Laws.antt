@@ -3,10 +3,10 @@ use mathlib.Core.Path.{_≡_, refl, sym, ap, _∙_, subst}
 use mathlib.Core.List.{List, [], _∷_, map}
 use mathlib.Core.Bool.{Bool, true, false}
 use mathlib.Core.Option.{Option, none, some}
-use Prim.Native.Nat.{ℕ, zero, suc, _+_, _-_, _*_, _≤_, _<_, max}
+use Prim.Native.Nat.{ℕ, zero, suc, _+_, _-_, _*_, _≤_, _<_}
 use native.Mathlib.Omega.{arith}
 use lib.ListN.{length, drop, take}
-use Rattle.lexing.specs.reply.{Reply, ok, fail, stop, Parser, ret, _>>=_, _>>_, _or_, further, opt, keep}
+use Rattle.lexing.specs.reply.{Reply, ok, fail, stop, Parser, _>>_, opt, keep}
 use Rattle.lexing.specs.bytes.{isLetter, isSpace, within}
 use Rattle.lexing.specs.words.{Word, word, keyword}
 use Rattle.lexing.specs.integers.{signed, positive-integer, signed-integer}
@@ -26,7 +26,7 @@ use Rattle.lexing.proofs.Locality.{Consumes, chain-opt, chain-then, consumes-th
 use Rattle.lexing.proofs.TokenLocality.{whitespace0-chain, whitespace1-chain, no-group, one-blank-consumes}
 use Rattle.lexing.proofs.Repetition.{iter-fail}
 use Rattle.lexing.proofs.words.Laws.{keyword-no-word}
-use Rattle.lexing.proofs.Slicing.{Took, took, walks, rebase, begin, on, told-next, step-lost, integer-lost, or-next}
+use Rattle.lexing.proofs.Slicing.{Took, took, walks, rebase, begin, on, told-next, step-lost, integer-lost}
 use Rattle.items.specs.clusters.{mapped}
 use Rattle.items.specs.endpoints.{name-behind, device-version, Default as DefaultOf, number, signed-number, truth, text, value-tries, default-attribute-value, attribute-handling-type, AttributeInstance as AttributeInstanceOf, attribute-instantiation, named-after, Instance as InstanceOf, Part, attribute-instance, command-instance, event-instance, instance-tries, deep-run, deep-braces, DeviceType as DeviceTypeOf, device-type, device, binding, instantiation, instantiation-head, cluster-instantiation, part-tries, endpoint-head, endpoint}
 use Rattle.items.specs.records.{Bits, absent, at, bits, value, word-extent, plain, each, twos-complement, default-number, default-word, instance-record, part-records, endpoint-records}
@@ -54,8 +54,9 @@ use Rattle.items.proofs.WordBetween.{word-moved, extent-between}
 use Rattle.items.proofs.optional.Laws.{opt-ok, opt-fail, opt-stop}
 use Rattle.items.proofs.Headed.{Headed}
 use Rattle.items.proofs.writing.Laws.{put-one, put-two, put-next, plain-bytes}
+use Rattle.items.proofs.Choice.{or-both, Past}
+use Rattle.items.proofs.Tries.{bind-fail, then-fail, then-ok, mapped-fail}
 use Rattle.items.proofs.Braces.{brace-keyword, brace-blank}
-use Rattle.items.proofs.Tries.{bind-fail, then-fail, then-ok, or-both, mapped-fail}
 use Rattle.items.proofs.endpoints.Placed.{Unclosing, none-found}
 use Rattle.items.proofs.endpoints.Places.{integer-place, signed-place, StringPlace, string-place}
 
@@ -88,22 +89,6 @@ module _ {m : Parser Word} {n : ℕ} {r : List ℕ} {a : Named} {x e c : ℕ} (h
 -- a number that another reader than that of integers gives
 pub number-took : {m : Parser ℕ} (w : Onward m) {b n : ℕ} {u r : List ℕ} {a : Number} {v c : ℕ} → Rest b u n r → a ≡ Value v c → numberReply a n r ≡ m n r → Took m b u n v c
 number-took {m} w {b} {n} {u} {r} q e h = took w q (subst (λ (x : Number). numberReply x n r ≡ m n r) e h)
-
--- choices: a try that fails at the start gives way to the next, and adds no place
-abbrev pub Past : {A : Type 0} → ℕ → Reply A → Type 0
-Past b (ok a c r) = Unit {0}
-Past b (fail p) = b ≤ p
-Past b (stop n p) = Unit {0}
-
-pub or-past : {A : Type 0} (m k : Parser A) (b : ℕ) (u : List ℕ) (X : Reply A) → fail b ≡ m b u → Past b X → X ≡ k b u → X ≡ (m or k) b u
-unfolding _or_ further
-or-past m k b u (ok a c r) d p e = or-next m k b u b a c r d e
-or-past m k b u (fail q) d p e = let z : q ≡ max b q = omega (arith, p) in rw (sym d, _or_) (rw (← e) (ap fail z))
-or-past m k b u (stop n q) d p e = rw (sym d, _or_) (rw (← e))
-
-pub or-stop : {A : Type 0} (m k : Parser A) (b : ℕ) (u : List ℕ) (n p : ℕ) → stop n p ≡ m b u → stop n p ≡ (m or k) b u
-unfolding _or_
-or-stop m k b u n p e = rw (sym e, _or_)
 
 -- the tries of a default's value
 module _ (b : ℕ) (u : List ℕ) {a : Number} (h : numberReply a b u ≡ positive-integer b u) where

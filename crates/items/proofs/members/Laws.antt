@@ -5,11 +5,10 @@ use mathlib.Core.Option.{Option, none, some}
 use mathlib.Core.List.{List, [], _∷_, map}
 use Prim.Native.Nat.{ℕ, _+_, _-_, _*_, _≤_, _<_}
 use native.Mathlib.Omega.{arith}
-use native.Mathlib.Nat.{max-eq-left}
 use lib.Dec.{ltb}
 use lib.ListN.{length, drop, take}
 use borrow.Author.Tests.{lt-ltb, le-ltb}
-use Rattle.lexing.specs.reply.{Reply, ok, fail, stop, Parser, ret, _>>=_, _>>_, _or_, further, opt}
+use Rattle.lexing.specs.reply.{ok, fail, Parser, ret, _>>_, opt}
 use Rattle.lexing.specs.words.{Word, word, parse-id, keyword}
 use Rattle.lexing.specs.blanks.{Doc}
 use Rattle.lexing.specs.answers.{Answer, got, lost, Rest, lostReply, reply, lostOf, wordAt, wordReply, docOf}
@@ -61,7 +60,7 @@ use Rattle.items.specs.declared.writing.FrontParts.{FrontParts}
 use Rattle.items.proofs.Headed.{Headed}
 use Rattle.items.proofs.counts.Laws.{read-counted}
 
--- a choice of keywords: one that is not there fails at its start, and so do all
+-- a keyword that is not there fails at its start
 keyword-lost : (k : List ℕ) (b : ℕ) (u : List ℕ) (l : Lost) → lostReply l ≡ keyword k b u → fail b ≡ keyword k b u
 keyword-lost k b u (Fail p) e = ap fail (sym (rw (← e) at (keyword-says k b u))) ∙ e
 keyword-lost k b u (Stop n p) e = absurd (rw (← e) at (keyword-says k b u))
@@ -71,10 +70,6 @@ keyword-not k b u a h l e = keyword-lost k b u l (told-not (wordAt b u) a l b u 
 
 pub keyword-fails : (k : List ℕ) (v b : ℕ) (u : List ℕ) (a : Step) → wordReply a b u ≡ keyword k b u → (l : Lost) → a ≡ Not l → fail b ≡ (keyword k >> ret v) b u
 keyword-fails k v b u a h l e = fail-then k v b u b (keyword-not k b u a h l e)
-
-pub or-fails : {A : Type 0} (m k : Parser A) (b : ℕ) (u : List ℕ) → fail b ≡ m b u → fail b ≡ k b u → fail b ≡ (m or k) b u
-unfolding _or_ further
-or-fails m k b u d e = let l : b ≤ b = omega arith in rw (sym d, _or_) (rw (sym e, further, max-eq-left l))
 
 -- an optional part that is not there
 pub level-or-fail : (r : Level) (z b : ℕ) (l : Lost) (p : ℕ) → r ≡ NoLevel l → l ≡ Fail p → Chosen z b ≡ levelOr r z b

@@ -3,12 +3,12 @@ use mathlib.Core.Path.{_≡_, refl, sym, ap, _∙_, subst}
 use mathlib.Core.Bool.{Bool, true, false, false≢true}
 use mathlib.Core.Option.{Option, none, some}
 use mathlib.Core.List.{List, [], _∷_, map}
-use Prim.Native.Nat.{ℕ, _+_, _-_, _*_, _≤_, _<_, max}
+use Prim.Native.Nat.{ℕ, _+_, _-_, _*_, _≤_, _<_}
 use native.Mathlib.Omega.{arith}
 use lib.Dec.{eqb}
 use lib.ListN.{length, take, drop}
 use Rattle.lexing.specs.bytes.{ascii, within, lower}
-use Rattle.lexing.specs.reply.{Reply, ok, fail, stop, Parser, ret, opt, _or_, further, pick, many0}
+use Rattle.lexing.specs.reply.{ok, fail, stop, Parser, ret, opt, pick, many0}
 use Rattle.lexing.specs.words.{Word, word, bytesOf, isKeyword, isLower, keyword, any-keyword, tag}
 use Rattle.lexing.specs.word_sets.{same-bytes, bit}
 use Rattle.lexing.specs.answers.{Rest, lostReply, wordAt, wordReply, numberReply, numberLost}
@@ -57,6 +57,7 @@ use Rattle.items.proofs.Headed.{Headed}
 use Rattle.items.proofs.WordBetween.{word-moved, extent-between}
 use Rattle.items.proofs.writing.Laws.{put-two, put-next, plain-bytes, documented-put, Writing, writing-fits, writing-more, writing-ends}
 use Rattle.items.proofs.counts.Laws.{Counting, counting-more}
+use Rattle.items.proofs.Choice.{or-lost}
 use Rattle.items.proofs.optional.Laws.{opt-ok, opt-fail, opt-stop}
 
 -- the two ways of a length that is absent
@@ -223,25 +224,17 @@ word-is k x t b c u a h e s d r =
     }
 
 -- and none
-pub none-of : {A : Type 0} (m k : Parser A) (b : ℕ) (u : List ℕ) → (p : ℕ) × (fail p ≡ m b u) → (p : ℕ) × (fail p ≡ k b u) → (p : ℕ) × (fail p ≡ (m or k) b u)
-unfolding _or_ further
-none-of m k b u x y = (max (x .0) (y .0), rw (sym (x .1), _or_) (rw (← y .1)))
-
 pub keyword-missing : (k : List ℕ) (b : ℕ) (u : List ℕ) (a : Step) → wordReply a b u ≡ keyword k b u → (l : Lost) → a ≡ Not l → (p : ℕ) × (fail p ≡ keyword k b u)
 keyword-missing k b u a h (Fail p) e = (p, told-not (wordAt b u) a (Fail p) b u (keyword k b u) e h)
 keyword-missing k b u a h (Stop n p) e = absurd (rw (← told-not (wordAt b u) a (Stop n p) b u (keyword k b u) e h) at (keyword-says k b u))
-
-none-left : (b : ℕ) (u : List ℕ) → (p : ℕ) × (fail p ≡ any-keyword [] b u)
-unfolding any-keyword
-none-left b u = (b, refl)
 
 pub word-none : (b : ℕ) (u : List ℕ) → (p : ℕ) × (fail p ≡ keyword (ascii "request") b u) → (p : ℕ) × (fail p ≡ keyword (ascii "response") b u) → (p : ℕ) × (fail p ≡ keyword (ascii "shared") b u)
     → StructWordTo (record { kind = Regular; next = b }) b u
 unfolding any-keyword struct-type-of typeBy
 word-none b u x y z =
-    let e = none-of _ _ b u x (none-of _ _ b u y (none-of _ _ b u z (none-left b u))) in
+    let e = sym (or-lost _ _ (sym (x .1)) (or-lost _ _ (sym (y .1)) (or-lost _ _ (sym (z .1)) refl))) in
     let o : b - b ≡ 0 = omega arith in
-    record { read = none; reads = rw o (opt-fail (any-keyword struct-words) b u (e .0) (e .1)); means = refl; up = omega arith; inside = omega arith }
+    record { read = none; reads = rw o (opt-fail (any-keyword struct-words) b u _ e); means = refl; up = omega arith; inside = omega arith }
 
 pub struct-word-took : {b n : ℕ} {u r : List ℕ} {t : StructWord} → Rest b u n r → (h : StructWordTo t n r) → Took (opt (any-keyword struct-words)) b u n (h .read) (t .next)
 struct-word-took q h = took (walks (chain-opt (any-keyword-chain struct-words))) q (h .reads)

@@ -1,8 +1,9 @@
 -- What the private functions of the readers of clusters promise.
-use Prim.Native.Nat.{ℕ, _-_, max}
+use Prim.Native.Nat.{ℕ, _-_, _≤_}
 use mathlib.Core.Path.{_≡_}
 use mathlib.Core.Bool.{Bool, true, false}
 use mathlib.Core.List.{List, [], _∷_}
+use lib.Dec.{eqb}
 use Rattle.lexing.specs.bytes.{ascii, byte}
 use Rattle.lexing.specs.reply.{Reply, ok, fail, stop, Parser, ret, _>>=_, _>>_, catch, failAt}
 use Rattle.lexing.specs.words.{tag}
@@ -53,12 +54,6 @@ found (ok a c r) = true
 found (fail p) = false
 found (stop n p) = false
 
--- a reply that fails no earlier than at q
-abbrev pub raised : {A : Type 0} → ℕ → Reply A → Reply A
-raised q (ok a c r) = ok a c r
-raised q (fail p) = fail (max q p)
-raised q (stop n p) = stop n p
-
 -- the try of a kind of member
 unfoldable pub member-try : MemberKind → Doc → ℕ → Parser Member
 member-try Revision d m = parse-revision
@@ -70,9 +65,35 @@ member-try Command d m = mapped (parse-command-after-doc-maturity d m) command
 member-try Event d m = mapped (parse-event-after-doc-maturity d m) event
 member-try Unknown d m = λ b u. fail b
 
--- the tries of a member are that of its kind: the others fail, no further than at the floor
+-- kinds by number
+abbrev pub kind-number : MemberKind → ℕ
+kind-number Revision = 0
+kind-number Bitmap = 1
+kind-number Enum = 2
+kind-number Struct = 3
+kind-number Attribute = 4
+kind-number Command = 5
+kind-number Event = 6
+kind-number Unknown = 7
+
+abbrev pub same-kind : MemberKind → MemberKind → Bool
+same-kind j k = eqb (kind-number j) (kind-number k)
+
+-- where the try of a kind fails that the first word doesn't leave: a type's at the floor, another member's at the start
+abbrev pub fails-at : (floor start : ℕ) → MemberKind → ℕ
+fails-at q b Revision = b
+fails-at q b Bitmap = q
+fails-at q b Enum = q
+fails-at q b Struct = q
+fails-at q b Attribute = b
+fails-at q b Command = b
+fails-at q b Event = b
+fails-at q b Unknown = b
+
+-- a first word leaves the try of one kind: those of all others fail
 pub record KindTo (r : Candidate) (b : ℕ) (u : List ℕ) : Type 0 where
-  pub tries : (d : Doc) (m : ℕ) → member-tries d m b u ≡ raised (r .floor) (member-try (r .kind) d m b u)
+  pub up : b ≤ r .floor
+  pub others : (k : MemberKind) → same-kind k (r .kind) ≡ false → (d : Doc) (m : ℕ) → member-try k d m b u ≡ fail (fails-at (r .floor) b k)
 
 -- a count that fails no earlier than at q
 abbrev pub countRaised : Count → ℕ → Count

@@ -8,7 +8,7 @@ use Rattle.items.specs.endpoints.{attribute-handling-type}
 use Rattle.items.proofs.maturity.Laws.{keyword-value, keyword-not}
 use mathlib.Core.Path.{refl}
 use Rattle.items.proofs.Answers.{read-is, read-not}
-use Rattle.items.proofs.endpoints.Laws.{or-past}
+use Rattle.items.proofs.Choice.{or-past}
 
 slice-aggregate-keyword : tie.Need-slice-aggregate-keyword
 slice-aggregate-keyword c = search needs

@@ -9,7 +9,8 @@ use Rattle.items.specs.endpoints.{truth, value-tries}
 use Rattle.items.proofs.maturity.Laws.{keyword-value, keyword-not}
 use mathlib.Core.Path.{refl}
 use Rattle.items.proofs.Answers.{read-is, read-not}
-use Rattle.items.proofs.endpoints.Laws.{or-past, or-stop, number-try, number-stop, number-not, signed-try, signed-not, text-try, text-long, text-not, text-past}
+use Rattle.items.proofs.Choice.{or-past, or-stop}
+use Rattle.items.proofs.endpoints.Laws.{number-try, number-stop, number-not, signed-try, signed-not, text-try, text-long, text-not, text-past}
 
 positive-integer-requires : tie.Need-positive-integer-requires
 positive-integer-requires c κs = search needs

@@ -9,7 +9,8 @@ use Rattle.items.specs.members.{event-priority}
 use Rattle.items.proofs.maturity.Laws.{keyword-value}
 use mathlib.Core.Path.{refl}
 use Rattle.items.proofs.Answers.{read-is, read-not}
-use Rattle.items.proofs.members.Laws.{keyword-fails, or-fails}
+use Rattle.items.proofs.members.Laws.{keyword-fails}
+use Rattle.items.proofs.Choice.{or-past}
 
 slice-aggregate-keyword : tie.Need-slice-aggregate-keyword
 slice-aggregate-keyword c = search needs
@@ -61,7 +62,7 @@ enum-told-3 c = search needs
 
 returns-4 : tie.Need-returns-4
 unfolding event-priority
-returns-4 c = read-not (Fail (c .before .before .before .before .before .before .before .before .before .before .before .before .before .args .base)) refl tt (or-fails _ _ _ _ (keyword-fails (ascii "info") 1 _ _ _ (c .before .before .before .before .before .before .before .before .before .before .keyword .ensures) _ (c .before .before .before .before .before .before .before .before .enum-told .given .1)) (or-fails _ _ _ _ (keyword-fails (ascii "critical") 0 _ _ _ (c .before .before .before .before .before .before .keyword2 .ensures) _ (c .before .before .before .before .enum-told2 .given .1)) (keyword-fails (ascii "debug") 2 _ _ _ (c .before .before .keyword3 .ensures) _ (c .enum-told3 .given .1))))
+returns-4 c = read-not (Fail (c .before .before .before .before .before .before .before .before .before .before .before .before .before .args .base)) refl tt (or-past _ _ _ _ _ (keyword-fails (ascii "info") 1 _ _ _ (c .before .before .before .before .before .before .before .before .before .before .keyword .ensures) _ (c .before .before .before .before .before .before .before .before .enum-told .given .1)) (omega arith) (or-past _ _ _ _ _ (keyword-fails (ascii "critical") 0 _ _ _ (c .before .before .before .before .before .before .keyword2 .ensures) _ (c .before .before .before .before .enum-told2 .given .1)) (omega arith) (keyword-fails (ascii "debug") 2 _ _ _ (c .before .before .keyword3 .ensures) _ (c .enum-told3 .given .1))))
 
 pub event-priority-spec : {M : Type 1} → statement M
 event-priority-spec =

@@ -1,0 +1,218 @@
+// Items: what stands at the top of a text, each by the kind that its first word says.
+ghost use mathlib.Core.Path.{_≡_};
+ghost use Prim.Native.Nat.{_+_, _≤_, _<_};
+ghost use lib.ListN.{length};
+ghost use Rattle.lexing.specs.reply.{ok};
+ghost use Rattle.lexing.specs.words.{any-keyword};
+ghost use Rattle.lexing.specs.blanks.{no-doc, whitespace0};
+ghost use Rattle.lexing.specs.answers.{docOf};
+ghost use Rattle.items.specs.layout.{text-limit};
+ghost use Rattle.items.specs.items.{declaration, item};
+ghost use Rattle.items.specs.answers.{CountTo, DocFits, Room, Written};
+ghost use Rattle.items.specs.answers.items.{unhoisted-item, DeclarationCountTo};
+ghost use Rattle.items.specs.inner.clusters.{found};
+ghost use Rattle.items.specs.inner.items.{cluster-words, typeKind, declaration-try, KindCountTo, StartTo};
+use crate::choices::choice_after_doc_maturity;
+use crate::choices::write_choice;
+use crate::clusters::MemberKind;
+use crate::clusters::cluster_after_doc_maturity;
+use crate::clusters::member_kind;
+use crate::clusters::raise;
+use crate::clusters::starts;
+use crate::clusters::write_cluster;
+use crate::counts::Count;
+use crate::counts::count_end;
+use crate::endpoints::endpoint;
+use crate::endpoints::write_endpoint;
+use crate::maturity::api_maturity;
+use crate::structs::parse_struct_after_doc_maturity;
+use crate::structs::write_struct;
+use crate::writing::FrontParts;
+use crate::writing::Wrote;
+use lexing::answers::Lost;
+use lexing::blanks::DocSpan;
+use lexing::blanks::whitespace0;
+use lexing::parts::rest_at;
+
+// What a declaration is by its first word.
+pub enum DeclarationKind {
+    Cluster,
+    Endpoint,
+    Enum,
+    Bitmap,
+    Struct,
+    Unknown,
+}
+
+// How a declaration starts: the one try that its first word leaves, the furthest place at which the others fail, its maturity, and where the try stands.
+pub struct DeclarationStart {
+    pub kind: DeclarationKind,
+    pub floor: usize,
+    pub maturity: u8,
+    pub next: usize,
+}
+
+fn starts_cluster(part: &[u8], base: usize) -> bool
+    requires { ⌜ base + length (now part) ≤ text-limit ⌝ }
+    ensures { λ r. ⌜ r ≡ found (any-keyword cluster-words base (now (part .entry))) ⌝ }
+{
+    if starts(part, base, b"client") {
+        return true;
+    }
+    if starts(part, base, b"server") {
+        return true;
+    }
+    starts(part, base, b"cluster")
+}
+
+// Of the kinds of members only types stand at the top.
+fn type_kind(kind: MemberKind) -> DeclarationKind
+    ensures { λ r. ⌜ r ≡ typeKind kind ⌝ }
+{
+    match kind {
+        MemberKind::Revision => DeclarationKind::Unknown,
+        MemberKind::Bitmap => DeclarationKind::Bitmap,
+        MemberKind::Enum => DeclarationKind::Enum,
+        MemberKind::Struct => DeclarationKind::Struct,
+        MemberKind::Attribute => DeclarationKind::Unknown,
+        MemberKind::Command => DeclarationKind::Unknown,
+        MemberKind::Event => DeclarationKind::Unknown,
+        MemberKind::Unknown => DeclarationKind::Unknown,
+    }
+}
+
+// How a declaration starts, where no blank stands before it. An endpoint has no maturity.
+fn declaration_start(part: &[u8], base: usize) -> DeclarationStart
+    requires { ⌜ base + length (now part) ≤ text-limit ⌝ }
+    requires { ⌜ whitespace0 base (now part) ≡ ok no-doc base (now part) ⌝ }
+    ensures { λ r. ⌜ StartTo r base (now (part .entry)) ⌝ }
+{
+    if starts(part, base, b"endpoint") {
+        return DeclarationStart {
+            kind: DeclarationKind::Endpoint,
+            floor: base,
+            maturity: 0,
+            next: base,
+        };
+    }
+    let m = api_maturity(part, base);
+    let c1 = m.next;
+    let w = whitespace0(rest_at(part, base, c1), c1);
+    let c2 = w.next;
+    if starts_cluster(rest_at(part, base, c2), c2) {
+        return DeclarationStart {
+            kind: DeclarationKind::Cluster,
+            floor: c2,
+            maturity: m.level,
+            next: c2,
+        };
+    }
+    let k = member_kind(rest_at(part, base, c2), c2);
+    let kind = k.kind;
+    DeclarationStart {
+        kind: type_kind(kind),
+        floor: k.floor,
+        maturity: m.level,
+        next: c2,
+    }
+}
+
+// The first pass over a declaration of a kind.
+fn count_declaration(part: &[u8], base: usize, kind: DeclarationKind) -> Count
+    requires { ⌜ base + length (now part) ≤ text-limit ⌝ }
+    ensures { λ r. ⌜ KindCountTo kind r base (now (part .entry)) ⌝ }
+{
+    match kind {
+        DeclarationKind::Cluster => cluster_after_doc_maturity(part, base),
+        DeclarationKind::Endpoint => endpoint(part, base),
+        DeclarationKind::Enum => choice_after_doc_maturity(part, base, b"enum"),
+        DeclarationKind::Bitmap => choice_after_doc_maturity(part, base, b"bitmap"),
+        DeclarationKind::Struct => parse_struct_after_doc_maturity(part, base),
+        DeclarationKind::Unknown => Count::NoCount(Lost::Fail(base)),
+    }
+}
+
+// The first pass over a declaration, where no blank stands before it.
+pub fn declaration(part: &[u8], base: usize) -> Count
+    requires { ⌜ base + length (now part) ≤ text-limit ⌝ }
+    requires { ⌜ whitespace0 base (now part) ≡ ok no-doc base (now part) ⌝ }
+    ensures { λ r. ⌜ DeclarationCountTo r base (now (part .entry)) ⌝ }
+{
+    let s = declaration_start(part, base);
+    let c = s.next;
+    let kind = s.kind;
+    let r = count_declaration(rest_at(part, base, c), c, kind);
+    raise(r, s.floor)
+}
+
+// The first pass over an item: blanks with no declaration behind them are one.
+pub fn item(part: &[u8], base: usize) -> Count
+    requires { ⌜ base + length (now part) ≤ text-limit ⌝ }
+    ensures { λ r. ⌜ CountTo unhoisted-item item r base (now (part .entry)) ⌝ }
+{
+    let w = whitespace0(part, base);
+    let c = w.next;
+    let r = declaration(rest_at(part, base, c), c);
+    let Count::NoCount(l) = r else {
+        return r;
+    };
+    if c == base {
+        return r;
+    }
+    count_end(l, 0, c)
+}
+
+// The second pass over a declaration of a kind. A type at the top is global.
+fn write_kind(
+    part: &[u8],
+    base: usize,
+    kind: DeclarationKind,
+    doc: DocSpan,
+    maturity: u8,
+    out: &mut [u8],
+    at: usize,
+) -> Wrote
+    requires { ⌜ base + length (now part) ≤ text-limit ⌝ }
+    requires { ⌜ DocFits doc ⌝ }
+    requires { ⌜ maturity < 4 ⌝ }
+    requires { ⌜ Room unhoisted-item (declaration-try kind (docOf doc) maturity) base (now part) at (length (now out)) ⌝ }
+    ensures { λ r. ⌜ Written unhoisted-item (declaration-try kind (docOf doc) maturity) base (now (part .entry)) at r (now (out .entry)) (now (out .exit)) ⌝ }
+{
+    // Only an enum and a bitmap take their record's kind from it, and a cluster has no place.
+    let front = FrontParts {
+        kind: 2,
+        place: 1,
+        doc,
+        maturity,
+    };
+    match kind {
+        DeclarationKind::Cluster => write_cluster(part, base, front, out, at),
+        DeclarationKind::Endpoint => write_endpoint(part, base, out, at),
+        DeclarationKind::Enum => write_choice(part, base, b"enum", front, out, at),
+        DeclarationKind::Bitmap => {
+            let front = FrontParts {
+                kind: 3,
+                place: 1,
+                doc,
+                maturity,
+            };
+            write_choice(part, base, b"bitmap", front, out, at)
+        }
+        DeclarationKind::Struct => write_struct(part, base, front, out, at),
+        DeclarationKind::Unknown => Wrote { next: base, to: at },
+    }
+}
+
+// The second pass over a declaration, where no blank stands before it.
+pub fn write_declaration(part: &[u8], base: usize, doc: DocSpan, out: &mut [u8], at: usize) -> Wrote
+    requires { ⌜ base + length (now part) ≤ text-limit ⌝ }
+    requires { ⌜ whitespace0 base (now part) ≡ ok no-doc base (now part) ⌝ }
+    requires { ⌜ DocFits doc ⌝ }
+    requires { ⌜ Room unhoisted-item (declaration (docOf doc)) base (now part) at (length (now out)) ⌝ }
+    ensures { λ r. ⌜ Written unhoisted-item (declaration (docOf doc)) base (now (part .entry)) at r (now (out .entry)) (now (out .exit)) ⌝ }
+{
+    let s = declaration_start(part, base);
+    let c = s.next;
+    let kind = s.kind;
+    write_kind(rest_at(part, base, c), c, kind, doc, s.maturity, out, at)
+}
