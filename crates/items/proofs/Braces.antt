@@ -14,7 +14,7 @@ use Rattle.lexing.specs.blanks.{Doc, no-doc, one-blank, whitespace0}
 use Rattle.lexing.specs.answers.{Rest, lostReply}
 use Rattle.lexing.specs.declared.answers.Lost.{Lost}
 use Rattle.lexing.specs.declared.answers.Lost.the-variants.{Fail, Stop}
-use Rattle.lexing.proofs.Runs.{Suf, suf-trans, suf-length}
+use Rattle.lexing.proofs.Runs.{suf-length}
 use Rattle.lexing.proofs.Chain.{MovesTo, to-suf}
 use Rattle.lexing.proofs.Onward.{Ends, Onward}
 use Rattle.lexing.proofs.Repetition.{iter-fail}
@@ -58,21 +58,6 @@ module _ (b : ℕ) (u : List ℕ) where
   pub brace-blank : whitespace0 b (125 ∷ u) ≡ ok no-doc b (125 ∷ u)
   unfolding whitespace0 one-blank keep isSpace within
   brace-blank = iter-fail one-blank keep one-blank-consumes no-doc b (125 ∷ u) b (bind-fail _ _ (no-group b 125 u refl))
-
--- one step behind another goes onward
-pub onward-bind : {A B : Type 0} {m : Parser A} {k : A → Parser B} → Onward m → ((a : A) → Onward (k a)) → Onward (m >>= k)
-unfolding _>>=_
-onward-bind {A} {B} {m} {k} w v = record { onward = λ b u. go b u (m b u) refl (w .onward b u) }
-  where
-    further : (b c : ℕ) (u r : List ℕ) → Suf r u → c + length r ≡ b + length u → (y : Reply B) → Ends c r y → Ends b u y
-    further b c u r s e (ok a c' r') p = (suf-trans (p .0) s, p .1 ∙ e)
-    further b c u r s e (fail q) p = tt
-    further b c u r s e (stop n q) p = tt
-
-    go : (b : ℕ) (u : List ℕ) (x : Reply A) → m b u ≡ x → Ends b u x → Ends b u ((m >>= k) b u)
-    go b u (ok a c r) e p = rw (e, _>>=_) (further b c u r (p .0) (p .1) (k a c r) (v a .onward c r))
-    go b u (fail q) e p = rw (e, _>>=_) tt
-    go b u (stop n q) e p = rw (e, _>>=_) tt
 
 -- the closing brace
 module _ {b n : ℕ} {u : List ℕ} {d : Doc} {c : ℕ} (t : Took whitespace0 b u n d c) where

@@ -1,12 +1,12 @@
 -- Parts that are read and dropped: sequences and repetitions.
 use mathlib.Core.Path.{_≡_, sym, ap, _∙_, subst}
-use mathlib.Core.List.{List}
+use mathlib.Core.List.{List, []}
 use Prim.Native.Nat.{ℕ, _-_}
 use lib.ListN.{drop}
 use Rattle.lexing.specs.reply.{Reply, ok, fail, stop, Parser, _>>_, opt, many0}
-use Rattle.lexing.specs.words.{tag}
+use Rattle.lexing.specs.words.{Word, word, keyword, tag}
 use Rattle.lexing.specs.blanks.{Doc, whitespace0}
-use Rattle.lexing.specs.answers.{Rest, lostReply, reply, stepAnswer, tagReply}
+use Rattle.lexing.specs.answers.{Rest, Answer, got, lost, lostReply, reply, stepAnswer, tagReply, wordAt, wordReply}
 use Rattle.lexing.specs.declared.answers.Lost.{Lost}
 use Rattle.lexing.specs.declared.answers.Lost.the-variants.{Fail, Stop}
 use Rattle.lexing.specs.declared.answers.Step.{Step}
@@ -28,17 +28,24 @@ skip-not m v l b u e = record { value = v; reads = e }
 pub tag-skips : (t : ℕ) (a : Step) {b : ℕ} {u : List ℕ} → tagReply a b u ≡ tag t b u → Skips (tag t) a b u
 tag-skips t a h = record { value = tt; reads = h }
 
+pub no-word : Word
+no-word = word 0 []
+
+pub keyword-skips : (k : List ℕ) (a : Step) {n : ℕ} {v : List ℕ} → wordReply a n v ≡ keyword k n v → Skips (keyword k) a n v
+keyword-skips k (Next c) {n} {v} h = record { value = wordAt n v c; reads = h }
+keyword-skips k (Not l) h = record { value = no-word; reads = h }
+
 -- an optional part
 pub opt-skips : {A : Type 0} {m : Parser A} (a : Step) {b : ℕ} {u : List ℕ} {t : Step} → Skips m a b u → t ≡ optionalStep a b → Skips (opt m) t b u
 opt-skips {A} {m} a {b} {u} {t} h e = subst (λ (x : Step). Skips (opt m) x b u) (sym e) (optional-skips a b u h)
 
 -- a part behind blanks
-behind-at : {A : Type 0} (m : Parser A) (w : Onward m) (b n : ℕ) (u r : List ℕ) (d : Doc) (a : Step) → Rest b u n r → Took whitespace0 b u b d n → Skips m a n r → Skips (whitespace0 >> m) a b u
-behind-at m w b n u r d (Next c) q t h = record { value = h .value; reads = begin (whitespace0 >> m) b u (on m t (sym (took w q (h .reads) .goes))) }
-behind-at m w b n u r d (Not l) q t h = record { value = h .value; reads = begin (whitespace0 >> m) b u (on m t (h .reads ∙ ap (m n) (q .same))) }
+pub behind : {A : Type 0} {m : Parser A} (w : Onward m) {b n : ℕ} {u r : List ℕ} {d : Doc} (x : Answer A) → Rest b u n r → Took whitespace0 b u b d n → reply x n r ≡ m n r → reply x b u ≡ (whitespace0 >> m) b u
+behind {A} {m} w {b} {n} {u} (got a c) q t h = begin (whitespace0 >> m) b u (on m t (sym (took w q h .goes)))
+behind {A} {m} w {b} {n} {u} (lost l) q t h = begin (whitespace0 >> m) b u (on m t (h ∙ ap (m n) (q .same)))
 
 pub skip-behind : {A : Type 0} {m : Parser A} (w : Onward m) {b n : ℕ} {u r : List ℕ} {d : Doc} {a : Step} → Rest b u n r → Took whitespace0 b u b d n → Skips m a n r → Skips (whitespace0 >> m) a b u
-skip-behind {A} {m} w {b} {n} {u} {r} {d} {a} q t h = behind-at m w b n u r d a q t h
+skip-behind w {a = a} q t h = record { value = h .value; reads = behind w (stepAnswer (λ c. h .value) a) q t (h .reads) }
 
 -- the end of a repetition
 ran : {A : Type 0} (m : Parser A) (b : ℕ) (u : List ℕ) (c : ℕ) (l : List A) (x : Lost) → many0 m b u ≡ manyEnd x l c (drop (c - b) u) → Skips (many0 m) (optionalStep (Not x) c) b u

@@ -12,6 +12,8 @@ pub mod Tries
 pub mod Answers
 pub mod Mapped
 pub mod Recorded
+-- two steps taken as one
+pub mod Pairs
 -- parts that are dropped, parts between braces, a head and then a list, words by their offsets, and the words of records
 pub mod Dropping
 pub mod Braces

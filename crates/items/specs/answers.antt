@@ -13,16 +13,17 @@ use mathlib.Core.Bool.{Bool, true, false}
 use mathlib.Core.Option.{Option, none, some}
 use mathlib.Core.List.{List, [], _∷_}
 use lib.ListN.{length, take, drop}
-use Rattle.lexing.specs.reply.{Parser, ok}
+use Rattle.lexing.specs.reply.{Parser, ok, _>>_}
 use Rattle.lexing.specs.words.{Word, word}
-use Rattle.lexing.specs.blanks.{Doc}
-use Rattle.lexing.specs.answers.{Answer, got, lost, reply, stepAnswer, docOf}
+use Rattle.lexing.specs.blanks.{Doc, whitespace0}
+use Rattle.lexing.specs.answers.{Rest, Answer, got, lost, reply, stepAnswer, numberReply, docOf}
 use Rattle.lexing.specs.declared.answers.Lost.{Lost}
 use Rattle.lexing.specs.declared.answers.Lost.the-variants.{Fail, Stop}
 use Rattle.lexing.specs.declared.answers.Step.{Step}
 use Rattle.lexing.specs.declared.answers.Step.the-variants.{Next, Not}
 use Rattle.lexing.specs.declared.blanks.DocSpan.{DocSpan}
 use Rattle.lexing.specs.declared.blanks.DocSpan.the-variants.{Absent, At}
+use Rattle.lexing.specs.declared.integers.Number.{Number}
 use Rattle.items.specs.entries.{api-maturity}
 use Rattle.items.specs.clusters.{mapped}
 use Rattle.items.specs.records.{Record, bits}
@@ -66,6 +67,23 @@ pub record MaturityTo (r : Maturity) (b : ℕ) (u : List ℕ) : Type 0 where
 pub record Skips {A : Type 0} (m : Parser A) (r : Step) (b : ℕ) (u : List ℕ) : Type 0 where
   pub value : A
   pub reads : reply (stepAnswer (λ c. value) r) b u ≡ m b u
+
+-- the same from an offset c of a part
+pub record SkipsAt {A : Type 0} (m : Parser A) (r : Step) (b : ℕ) (u : List ℕ) (c : ℕ) : Type 0 where
+  pub at : Rest b u c (drop (c - b) u)
+  pub skips : Skips m r c (drop (c - b) u)
+
+abbrev pub BlankAt : ℕ → ℕ → List ℕ → ℕ → Type 0
+BlankAt r b u c = SkipsAt whitespace0 (Next r) b u c
+
+-- `preceded` by blanks
+abbrev pub behind-blanks : {A : Type 0} → Parser A → Parser A
+behind-blanks p = whitespace0 >> p
+
+-- an integer from an offset c of a part
+pub record NumberAt (m : Parser ℕ) (r : Number) (b : ℕ) (u : List ℕ) (c : ℕ) : Type 0 where
+  pub at : Rest b u c (drop (c - b) u)
+  pub reads : numberReply r c (drop (c - b) u) ≡ m c (drop (c - b) u)
 
 -- the answer of an optional part that stands at b
 abbrev pub optionalStep : Step → ℕ → Step

@@ -16,6 +16,10 @@ use crate::counts::Count;
 use crate::members::Level;
 use crate::members::access_privilege;
 use crate::members::level_lost;
+use crate::steps::blank_at;
+use crate::steps::gap_at;
+use crate::steps::keyword_behind;
+use crate::steps::tag_behind;
 use crate::structs::StructFieldParts;
 use crate::structs::StructFieldRead;
 use crate::structs::parse_struct_field;
@@ -30,15 +34,10 @@ use lexing::answers::Lost;
 use lexing::answers::Step;
 use lexing::answers::step_lost;
 use lexing::blanks::DocSpan;
-use lexing::blanks::Gap;
-use lexing::blanks::gap_lost;
-use lexing::blanks::whitespace0;
-use lexing::blanks::whitespace1;
 use lexing::parts::rest_at;
 use lexing::word_sets::is_lower;
 use lexing::word_sets::keywords_set;
 use lexing::words::keyword;
-use lexing::words::tag;
 
 // The privileges to read and to write, and the offset behind them, or why there are none.
 pub enum PrivilegesRead {
@@ -149,27 +148,23 @@ fn access_entry(part: &[u8], base: usize) -> AccessRead
     requires { ⌜ base + length (now part) ≤ text-limit ⌝ }
     ensures { λ r. ⌜ AccessTo access-entry r base (now (part .entry)) ⌝ }
 {
-    let w1 = whitespace0(part, base);
-    let c1 = w1.next;
+    let c1 = blank_at(part, base, base);
     let word = access_word(rest_at(part, base, c1), c1);
     let OperationRead::Named(operation, c2) = word else {
         return AccessRead::NoAccess(operation_lost(word));
     };
-    let w2 = whitespace0(rest_at(part, base, c2), c2);
-    let c3 = w2.next;
-    let colon = tag(rest_at(part, base, c3), c3, b':');
-    let Step::Next(c4) = colon else {
+    let colon = tag_behind(part, base, c2, b':');
+    let Step::Next(c3) = colon else {
         return AccessRead::NoAccess(step_lost(colon));
     };
-    let w3 = whitespace0(rest_at(part, base, c4), c4);
-    let c5 = w3.next;
-    let granted = access_privilege(rest_at(part, base, c5), c5);
-    let Level::Chosen(privilege, c6) = granted else {
+    let c4 = blank_at(part, base, c3);
+    let granted = access_privilege(rest_at(part, base, c4), c4);
+    let Level::Chosen(privilege, c5) = granted else {
         return AccessRead::NoAccess(level_lost(granted));
     };
-    let w4 = whitespace0(rest_at(part, base, c6), c6);
+    let c6 = blank_at(part, base, c5);
     let grant = grant_by(operation, privilege, c1);
-    AccessRead::Access(grant, w4.next)
+    AccessRead::Access(grant, c6)
 }
 
 fn access_lost(r: AccessRead) -> Lost
@@ -185,14 +180,12 @@ fn comma(part: &[u8], base: usize) -> Step
     requires { ⌜ base + length (now part) ≤ text-limit ⌝ }
     ensures { λ r. ⌜ tagReply r base (now (part .entry)) ≡ comma base (now (part .entry)) ⌝ }
 {
-    let w1 = whitespace0(part, base);
-    let c1 = w1.next;
-    let separator = tag(rest_at(part, base, c1), c1, b',');
-    let Step::Next(c2) = separator else {
+    let separator = tag_behind(part, base, base, b',');
+    let Step::Next(c1) = separator else {
         return Step::Not(step_lost(separator));
     };
-    let w2 = whitespace0(rest_at(part, base, c2), c2);
-    Step::Next(w2.next)
+    let c2 = blank_at(part, base, c1);
+    Step::Next(c2)
 }
 
 fn separated_entry(part: &[u8], base: usize) -> AccessRead
@@ -276,31 +269,24 @@ fn access_list(part: &[u8], base: usize) -> ListRead
     requires { ⌜ base + length (now part) ≤ text-limit ⌝ }
     ensures { λ r. ⌜ ListTo no-grants access-list r base (now (part .entry)) ⌝ }
 {
-    let w1 = whitespace0(part, base);
-    let c1 = w1.next;
-    let access = keyword(rest_at(part, base, c1), c1, b"access");
-    let Step::Next(c2) = access else {
+    let access = keyword_behind(part, base, base, b"access");
+    let Step::Next(c1) = access else {
         return ListRead::NoList(step_lost(access));
     };
-    let w2 = whitespace0(rest_at(part, base, c2), c2);
-    let c3 = w2.next;
-    let opening = tag(rest_at(part, base, c3), c3, b'(');
-    let Step::Next(c4) = opening else {
+    let opening = tag_behind(part, base, c1, b'(');
+    let Step::Next(c2) = opening else {
         return ListRead::NoList(step_lost(opening));
     };
-    let w3 = whitespace0(rest_at(part, base, c4), c4);
-    let c5 = w3.next;
-    let entries = access_entries(rest_at(part, base, c5), c5);
-    let ListRead::Listed(grants, c6) = entries else {
+    let c3 = blank_at(part, base, c2);
+    let entries = access_entries(rest_at(part, base, c3), c3);
+    let ListRead::Listed(grants, c4) = entries else {
         return ListRead::NoList(list_lost(entries));
     };
-    let w4 = whitespace0(rest_at(part, base, c6), c6);
-    let c7 = w4.next;
-    let closing = tag(rest_at(part, base, c7), c7, b')');
-    let Step::Next(c8) = closing else {
+    let closing = tag_behind(part, base, c4, b')');
+    let Step::Next(c5) = closing else {
         return ListRead::NoList(step_lost(closing));
     };
-    ListRead::Listed(grants, c8)
+    ListRead::Listed(grants, c5)
 }
 
 // A list that may be absent, at an offset: where it fails nothing is read, and a stop goes on.
@@ -348,31 +334,25 @@ pub fn parse_attribute_after_doc_maturity(
 {
     let q = keywords_set(part, base, 4);
     let c1 = q.next;
-    let w1 = whitespace0(rest_at(part, base, c1), c1);
-    let c2 = w1.next;
-    let attribute = keyword(rest_at(part, base, c2), c2, b"attribute");
-    let Step::Next(c3) = attribute else {
+    let attribute = keyword_behind(part, base, c1, b"attribute");
+    let Step::Next(c2) = attribute else {
         return AttributeRead::NoAttribute(step_lost(attribute));
     };
-    let gap = whitespace1(rest_at(part, base, c3), c3);
-    let Gap::Passed(w2) = gap else {
-        return AttributeRead::NoAttribute(gap_lost(gap));
+    let gap = gap_at(part, base, c2);
+    let Step::Next(c3) = gap else {
+        return AttributeRead::NoAttribute(step_lost(gap));
     };
-    let c4 = w2.next;
-    let access = attribute_access(rest_at(part, base, c4), c4);
-    let PrivilegesRead::Privileges(read, write, c5) = access else {
+    let access = attribute_access(rest_at(part, base, c3), c3);
+    let PrivilegesRead::Privileges(read, write, c4) = access else {
         return AttributeRead::NoAttribute(privileges_lost(access));
     };
-    let w3 = whitespace0(rest_at(part, base, c5), c5);
-    let c6 = w3.next;
-    let r = parse_struct_field(rest_at(part, base, c6), c6);
-    let StructFieldRead::StructField(field, c7) = r else {
+    let c5 = blank_at(part, base, c4);
+    let r = parse_struct_field(rest_at(part, base, c5), c5);
+    let StructFieldRead::StructField(field, c6) = r else {
         return AttributeRead::NoAttribute(struct_field_lost(r));
     };
-    let w4 = whitespace0(rest_at(part, base, c7), c7);
-    let c8 = w4.next;
-    let semicolon = tag(rest_at(part, base, c8), c8, b';');
-    let Step::Next(c9) = semicolon else {
+    let semicolon = tag_behind(part, base, c6, b';');
+    let Step::Next(c7) = semicolon else {
         return AttributeRead::NoAttribute(step_lost(semicolon));
     };
     let flags = q.flags;
@@ -385,7 +365,7 @@ pub fn parse_attribute_after_doc_maturity(
             write,
             field,
         },
-        c9,
+        c7,
     )
 }
 

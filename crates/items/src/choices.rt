@@ -16,6 +16,9 @@ use crate::entries::constant_entries_list;
 use crate::entries::write_entries_list;
 use crate::optional::is_there;
 use crate::optional::optional;
+use crate::steps::blank_at;
+use crate::steps::gap_at;
+use crate::steps::tag_behind;
 use crate::writing::First;
 use crate::writing::FrontParts;
 use crate::writing::Wrote;
@@ -27,14 +30,9 @@ use crate::writing::span_word;
 use lexing::answers::Lost;
 use lexing::answers::Step;
 use lexing::answers::step_lost;
-use lexing::blanks::Gap;
-use lexing::blanks::gap_lost;
-use lexing::blanks::whitespace0;
-use lexing::blanks::whitespace1;
 use lexing::parts::rest_at;
 use lexing::words::keyword;
 use lexing::words::parse_id;
-use lexing::words::tag;
 
 // Up to the entries: whether it is shared, and the offsets of its name and of its base type and behind them.
 pub struct ChoiceHeadParts {
@@ -58,11 +56,11 @@ fn shared_before(part: &[u8], base: usize) -> Step
     let Step::Next(c1) = word else {
         return Step::Not(step_lost(word));
     };
-    let gap = whitespace1(rest_at(part, base, c1), c1);
-    let Gap::Passed(w) = gap else {
-        return Step::Not(gap_lost(gap));
+    let gap = gap_at(part, base, c1);
+    let Step::Next(c2) = gap else {
+        return Step::Not(step_lost(gap));
     };
-    Step::Next(w.next)
+    Step::Next(c2)
 }
 
 pub fn choice_head(part: &[u8], base: usize, key: &[u8]) -> ChoiceHeadRead
@@ -79,38 +77,33 @@ pub fn choice_head(part: &[u8], base: usize, key: &[u8]) -> ChoiceHeadRead
     let Step::Next(c2) = word else {
         return ChoiceHeadRead::NoChoiceHead(step_lost(word));
     };
-    let gap = whitespace1(rest_at(part, base, c2), c2);
-    let Gap::Passed(w1) = gap else {
-        return ChoiceHeadRead::NoChoiceHead(gap_lost(gap));
+    let gap = gap_at(part, base, c2);
+    let Step::Next(c3) = gap else {
+        return ChoiceHeadRead::NoChoiceHead(step_lost(gap));
     };
-    let c3 = w1.next;
     let name = parse_id(rest_at(part, base, c3), c3);
     let Step::Next(c4) = name else {
         return ChoiceHeadRead::NoChoiceHead(step_lost(name));
     };
-    let w2 = whitespace0(rest_at(part, base, c4), c4);
-    let c5 = w2.next;
-    let colon = tag(rest_at(part, base, c5), c5, b':');
-    let Step::Next(c6) = colon else {
+    let colon = tag_behind(part, base, c4, b':');
+    let Step::Next(c5) = colon else {
         return ChoiceHeadRead::NoChoiceHead(step_lost(colon));
     };
-    let w3 = whitespace0(rest_at(part, base, c6), c6);
-    let c7 = w3.next;
-    let kind = parse_id(rest_at(part, base, c7), c7);
-    let Step::Next(c8) = kind else {
+    let c6 = blank_at(part, base, c5);
+    let kind = parse_id(rest_at(part, base, c6), c6);
+    let Step::Next(c7) = kind else {
         return ChoiceHeadRead::NoChoiceHead(step_lost(kind));
     };
-    let w4 = whitespace0(rest_at(part, base, c8), c8);
-    let c9 = w4.next;
+    let c8 = blank_at(part, base, c7);
     ChoiceHeadRead::ChoiceHead(
         ChoiceHeadParts {
             shared,
             name: c3,
             end: c4,
-            base_at: c7,
-            base_end: c8,
+            base_at: c6,
+            base_end: c7,
         },
-        c9,
+        c8,
     )
 }
 

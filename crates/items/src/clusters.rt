@@ -31,6 +31,10 @@ use crate::members::parse_event_after_doc_maturity;
 use crate::members::write_command;
 use crate::members::write_event;
 use crate::optional::optional;
+use crate::steps::blank_at;
+use crate::steps::gap_at;
+use crate::steps::integer_behind;
+use crate::steps::tag_behind;
 use crate::structs::parse_struct_after_doc_maturity;
 use crate::structs::write_struct;
 use crate::writing::First;
@@ -43,10 +47,7 @@ use lexing::answers::Lost;
 use lexing::answers::Step;
 use lexing::answers::step_lost;
 use lexing::blanks::DocSpan;
-use lexing::blanks::Gap;
-use lexing::blanks::gap_lost;
 use lexing::blanks::whitespace0;
-use lexing::blanks::whitespace1;
 use lexing::integers::Number;
 use lexing::integers::number_lost;
 use lexing::integers::positive_integer;
@@ -254,22 +255,19 @@ pub fn parse_revision(part: &[u8], base: usize) -> Number
     let Step::Next(c1) = key else {
         return Number::NoNumber(step_lost(key));
     };
-    let gap = whitespace1(rest_at(part, base, c1), c1);
-    let Gap::Passed(w1) = gap else {
-        return Number::NoNumber(gap_lost(gap));
+    let gap = gap_at(part, base, c1);
+    let Step::Next(c2) = gap else {
+        return Number::NoNumber(step_lost(gap));
     };
-    let c2 = w1.next;
     let number = positive_integer(rest_at(part, base, c2), c2);
     let Number::Value(n, c3) = number else {
         return Number::NoNumber(number_lost(number));
     };
-    let w2 = whitespace0(rest_at(part, base, c3), c3);
-    let c4 = w2.next;
-    let semicolon = tag(rest_at(part, base, c4), c4, b';');
-    let Step::Next(c5) = semicolon else {
+    let semicolon = tag_behind(part, base, c3, b';');
+    let Step::Next(c4) = semicolon else {
         return Number::NoNumber(step_lost(semicolon));
     };
-    Number::Value(n, c5)
+    Number::Value(n, c4)
 }
 
 // A revision takes no words of its own.
@@ -397,11 +395,11 @@ fn side(part: &[u8], base: usize) -> Step
     let Step::Next(c1) = word else {
         return Step::Not(step_lost(word));
     };
-    let gap = whitespace1(rest_at(part, base, c1), c1);
-    let Gap::Passed(w) = gap else {
-        return Step::Not(gap_lost(gap));
+    let gap = gap_at(part, base, c1);
+    let Step::Next(c2) = gap else {
+        return Step::Not(step_lost(gap));
     };
-    Step::Next(w.next)
+    Step::Next(c2)
 }
 
 pub fn cluster_head(part: &[u8], base: usize) -> ClusterHeadRead
@@ -416,35 +414,30 @@ pub fn cluster_head(part: &[u8], base: usize) -> ClusterHeadRead
     let Step::Next(c2) = word else {
         return ClusterHeadRead::NoClusterHead(step_lost(word));
     };
-    let gap = whitespace1(rest_at(part, base, c2), c2);
-    let Gap::Passed(w1) = gap else {
-        return ClusterHeadRead::NoClusterHead(gap_lost(gap));
+    let gap = gap_at(part, base, c2);
+    let Step::Next(c3) = gap else {
+        return ClusterHeadRead::NoClusterHead(step_lost(gap));
     };
-    let c3 = w1.next;
     let id = parse_id(rest_at(part, base, c3), c3);
     let Step::Next(c4) = id else {
         return ClusterHeadRead::NoClusterHead(step_lost(id));
     };
-    let w2 = whitespace0(rest_at(part, base, c4), c4);
-    let c5 = w2.next;
-    let equals = tag(rest_at(part, base, c5), c5, b'=');
-    let Step::Next(c6) = equals else {
+    let equals = tag_behind(part, base, c4, b'=');
+    let Step::Next(c5) = equals else {
         return ClusterHeadRead::NoClusterHead(step_lost(equals));
     };
-    let w3 = whitespace0(rest_at(part, base, c6), c6);
-    let c7 = w3.next;
-    let number = positive_integer(rest_at(part, base, c7), c7);
-    let Number::Value(code, c8) = number else {
+    let number = integer_behind(part, base, c5);
+    let Number::Value(code, c6) = number else {
         return ClusterHeadRead::NoClusterHead(number_lost(number));
     };
-    let w4 = whitespace0(rest_at(part, base, c8), c8);
+    let c7 = blank_at(part, base, c6);
     ClusterHeadRead::ClusterHead(
         ClusterHeadParts {
             name: c3,
             end: c4,
             code,
         },
-        w4.next,
+        c7,
     )
 }
 

@@ -15,6 +15,11 @@ ghost use Rattle.items.specs.answers.endpoints.{NamedTo, namedLost, Devi
 ghost use Rattle.items.specs.inner.endpoints.{furtherLost, triedEnd, deep-close, deep-rest, blank-binding, plainWord, name-parts, device-parts, instance-parts, endpoint-first};
 use crate::counts::Count;
 use crate::counts::count_lost;
+use crate::steps::blank_at;
+use crate::steps::gap_at;
+use crate::steps::integer_behind;
+use crate::steps::keyword_behind;
+use crate::steps::tag_behind;
 use crate::writing::First;
 use crate::writing::Wrote;
 use crate::writing::first_word;
@@ -121,20 +126,18 @@ pub fn name_behind(part: &[u8], base: usize, first: &[u8], second: &[u8]) -> Nam
     let Step::Next(c1) = one else {
         return Named::NoName(step_lost(one));
     };
-    let gap1 = whitespace1(rest_at(part, base, c1), c1);
-    let Gap::Passed(w1) = gap1 else {
-        return Named::NoName(gap_lost(gap1));
+    let gap1 = gap_at(part, base, c1);
+    let Step::Next(c2) = gap1 else {
+        return Named::NoName(step_lost(gap1));
     };
-    let c2 = w1.next;
     let two = keyword(rest_at(part, base, c2), c2, second);
     let Step::Next(c3) = two else {
         return Named::NoName(step_lost(two));
     };
-    let gap2 = whitespace1(rest_at(part, base, c3), c3);
-    let Gap::Passed(w2) = gap2 else {
-        return Named::NoName(gap_lost(gap2));
+    let gap2 = gap_at(part, base, c3);
+    let Step::Next(c4) = gap2 else {
+        return Named::NoName(step_lost(gap2));
     };
-    let c4 = w2.next;
     let name = parse_id(rest_at(part, base, c4), c4);
     let Step::Next(c5) = name else {
         return Named::NoName(step_lost(name));
@@ -160,13 +163,11 @@ pub fn named_after(part: &[u8], base: usize, first: &[u8], second: &[u8]) -> Nam
     let Named::Name(name, end, c1) = named else {
         return Named::NoName(named_lost(named));
     };
-    let w = whitespace0(rest_at(part, base, c1), c1);
-    let c2 = w.next;
-    let semicolon = tag(rest_at(part, base, c2), c2, b';');
-    let Step::Next(c3) = semicolon else {
+    let semicolon = tag_behind(part, base, c1, b';');
+    let Step::Next(c2) = semicolon else {
         return Named::NoName(step_lost(semicolon));
     };
-    Named::Name(name, end, c3)
+    Named::Name(name, end, c2)
 }
 
 // A device type from its comma on.
@@ -174,31 +175,23 @@ fn device_version(part: &[u8], base: usize) -> Number
     requires { ⌜ base + length (now part) ≤ text-limit ⌝ }
     ensures { λ r. ⌜ numberReply r base (now (part .entry)) ≡ device-version base (now (part .entry)) ⌝ }
 {
-    let w1 = whitespace0(part, base);
-    let c1 = w1.next;
-    let comma = tag(rest_at(part, base, c1), c1, b',');
-    let Step::Next(c2) = comma else {
+    let comma = tag_behind(part, base, base, b',');
+    let Step::Next(c1) = comma else {
         return Number::NoNumber(step_lost(comma));
     };
-    let w2 = whitespace0(rest_at(part, base, c2), c2);
-    let c3 = w2.next;
-    let key = keyword(rest_at(part, base, c3), c3, b"version");
-    let Step::Next(c4) = key else {
+    let key = keyword_behind(part, base, c1, b"version");
+    let Step::Next(c2) = key else {
         return Number::NoNumber(step_lost(key));
     };
-    let w3 = whitespace0(rest_at(part, base, c4), c4);
-    let c5 = w3.next;
-    let number = positive_integer(rest_at(part, base, c5), c5);
-    let Number::Value(v, c6) = number else {
+    let number = integer_behind(part, base, c2);
+    let Number::Value(v, c3) = number else {
         return Number::NoNumber(number_lost(number));
     };
-    let w4 = whitespace0(rest_at(part, base, c6), c6);
-    let c7 = w4.next;
-    let semicolon = tag(rest_at(part, base, c7), c7, b';');
-    let Step::Next(c8) = semicolon else {
+    let semicolon = tag_behind(part, base, c3, b';');
+    let Step::Next(c4) = semicolon else {
         return Number::NoNumber(step_lost(semicolon));
     };
-    Number::Value(v, c8)
+    Number::Value(v, c4)
 }
 
 pub fn device_type(part: &[u8], base: usize) -> DeviceTypeRead
@@ -209,20 +202,16 @@ pub fn device_type(part: &[u8], base: usize) -> DeviceTypeRead
     let Named::Name(name, end, c1) = named else {
         return DeviceTypeRead::NoDeviceType(named_lost(named));
     };
-    let w1 = whitespace0(rest_at(part, base, c1), c1);
-    let c2 = w1.next;
-    let equals = tag(rest_at(part, base, c2), c2, b'=');
-    let Step::Next(c3) = equals else {
+    let equals = tag_behind(part, base, c1, b'=');
+    let Step::Next(c2) = equals else {
         return DeviceTypeRead::NoDeviceType(step_lost(equals));
     };
-    let w2 = whitespace0(rest_at(part, base, c3), c3);
-    let c4 = w2.next;
-    let number = positive_integer(rest_at(part, base, c4), c4);
-    let Number::Value(code, c5) = number else {
+    let number = integer_behind(part, base, c2);
+    let Number::Value(code, c3) = number else {
         return DeviceTypeRead::NoDeviceType(number_lost(number));
     };
-    let last = device_version(rest_at(part, base, c5), c5);
-    let Number::Value(version, c6) = last else {
+    let last = device_version(rest_at(part, base, c3), c3);
+    let Number::Value(version, c4) = last else {
         return DeviceTypeRead::NoDeviceType(number_lost(last));
     };
     let t = DeviceTypeParts {
@@ -231,7 +220,7 @@ pub fn device_type(part: &[u8], base: usize) -> DeviceTypeRead
         code,
         version,
     };
-    DeviceTypeRead::DeviceType(t, c6)
+    DeviceTypeRead::DeviceType(t, c4)
 }
 
 pub fn device_type_lost(r: DeviceTypeRead) -> Lost
@@ -314,15 +303,12 @@ pub fn default_attribute_value(part: &[u8], base: usize) -> ValueRead
     let Step::Next(c1) = key else {
         return ValueRead::NoValue(step_lost(key));
     };
-    let w1 = whitespace0(rest_at(part, base, c1), c1);
-    let c2 = w1.next;
-    let equals = tag(rest_at(part, base, c2), c2, b'=');
-    let Step::Next(c3) = equals else {
+    let equals = tag_behind(part, base, c1, b'=');
+    let Step::Next(c2) = equals else {
         return ValueRead::NoValue(step_lost(equals));
     };
-    let w2 = whitespace0(rest_at(part, base, c3), c3);
-    let c4 = w2.next;
-    value_tries(rest_at(part, base, c4), c4)
+    let c3 = blank_at(part, base, c2);
+    value_tries(rest_at(part, base, c3), c3)
 }
 
 pub fn value_lost(r: ValueRead) -> Lost
@@ -379,32 +365,28 @@ pub fn attribute_instantiation(part: &[u8], base: usize) -> AttributeInstanceRea
     let HandlingRead::Handling(handling, c1) = held else {
         return AttributeInstanceRead::NoAttributeInstance(handling_lost(held));
     };
-    let gap1 = whitespace1(rest_at(part, base, c1), c1);
-    let Gap::Passed(w1) = gap1 else {
-        return AttributeInstanceRead::NoAttributeInstance(gap_lost(gap1));
+    let gap1 = gap_at(part, base, c1);
+    let Step::Next(c2) = gap1 else {
+        return AttributeInstanceRead::NoAttributeInstance(step_lost(gap1));
     };
-    let c2 = w1.next;
     let key = keyword(rest_at(part, base, c2), c2, b"attribute");
     let Step::Next(c3) = key else {
         return AttributeInstanceRead::NoAttributeInstance(step_lost(key));
     };
-    let gap2 = whitespace1(rest_at(part, base, c3), c3);
-    let Gap::Passed(w2) = gap2 else {
-        return AttributeInstanceRead::NoAttributeInstance(gap_lost(gap2));
+    let gap2 = gap_at(part, base, c3);
+    let Step::Next(name) = gap2 else {
+        return AttributeInstanceRead::NoAttributeInstance(step_lost(gap2));
     };
-    let name = w2.next;
     let word = parse_id(rest_at(part, base, name), name);
     let Step::Next(end) = word else {
         return AttributeInstanceRead::NoAttributeInstance(step_lost(word));
     };
     let optional = optional_default(rest_at(part, base, end), end);
-    let DefaultRead::Optional(default, c6) = optional else {
+    let DefaultRead::Optional(default, c4) = optional else {
         return AttributeInstanceRead::NoAttributeInstance(default_lost(optional));
     };
-    let w3 = whitespace0(rest_at(part, base, c6), c6);
-    let c7 = w3.next;
-    let semicolon = tag(rest_at(part, base, c7), c7, b';');
-    let Step::Next(c8) = semicolon else {
+    let semicolon = tag_behind(part, base, c4, b';');
+    let Step::Next(c5) = semicolon else {
         return AttributeInstanceRead::NoAttributeInstance(step_lost(semicolon));
     };
     let a = AttributeInstanceParts {
@@ -413,7 +395,7 @@ pub fn attribute_instantiation(part: &[u8], base: usize) -> AttributeInstanceRea
         end,
         default,
     };
-    AttributeInstanceRead::AttributeInstance(a, c8)
+    AttributeInstanceRead::AttributeInstance(a, c5)
 }
 
 pub fn attribute_instance_lost(r: AttributeInstanceRead) -> Lost
@@ -552,14 +534,13 @@ pub fn instantiation_head(part: &[u8], base: usize) -> Named
     requires { ⌜ base + length (now part) ≤ text-limit ⌝ }
     ensures { λ r. ⌜ NamedTo instantiation-head r base (now (part .entry)) ⌝ }
 {
-    let w1 = whitespace0(part, base);
-    let c1 = w1.next;
+    let c1 = blank_at(part, base, base);
     let named = name_behind(rest_at(part, base, c1), c1, b"server", b"cluster");
     let Named::Name(name, end, c2) = named else {
         return Named::NoName(named_lost(named));
     };
-    let w2 = whitespace0(rest_at(part, base, c2), c2);
-    Named::Name(name, end, w2.next)
+    let c3 = blank_at(part, base, c2);
+    Named::Name(name, end, c3)
 }
 
 // The first pass over a cluster instantiation: one word, and those of its instances.
@@ -583,8 +564,7 @@ fn blank_binding(part: &[u8], base: usize) -> Named
     requires { ⌜ base + length (now part) ≤ text-limit ⌝ }
     ensures { λ r. ⌜ NamedTo blank-binding r base (now (part .entry)) ⌝ }
 {
-    let w = whitespace0(part, base);
-    let c1 = w.next;
+    let c1 = blank_at(part, base, base);
     let named = named_after(rest_at(part, base, c1), c1, b"binding", b"cluster");
     let Named::Name(name, end, c2) = named else {
         return Named::NoName(named_lost(named));
@@ -666,23 +646,20 @@ pub fn endpoint_head(part: &[u8], base: usize) -> Number
     requires { ⌜ base + length (now part) ≤ text-limit ⌝ }
     ensures { λ r. ⌜ numberReply r base (now (part .entry)) ≡ endpoint-head base (now (part .entry)) ⌝ }
 {
-    let w1 = whitespace0(part, base);
-    let c1 = w1.next;
-    let key = keyword(rest_at(part, base, c1), c1, b"endpoint");
-    let Step::Next(c2) = key else {
+    let key = keyword_behind(part, base, base, b"endpoint");
+    let Step::Next(c1) = key else {
         return Number::NoNumber(step_lost(key));
     };
-    let gap = whitespace1(rest_at(part, base, c2), c2);
-    let Gap::Passed(w2) = gap else {
-        return Number::NoNumber(gap_lost(gap));
+    let gap = gap_at(part, base, c1);
+    let Step::Next(c2) = gap else {
+        return Number::NoNumber(step_lost(gap));
     };
-    let c3 = w2.next;
-    let number = positive_integer(rest_at(part, base, c3), c3);
-    let Number::Value(id, c4) = number else {
+    let number = positive_integer(rest_at(part, base, c2), c2);
+    let Number::Value(id, c3) = number else {
         return Number::NoNumber(number_lost(number));
     };
-    let w3 = whitespace0(rest_at(part, base, c4), c4);
-    Number::Value(id, w3.next)
+    let c4 = blank_at(part, base, c3);
+    Number::Value(id, c4)
 }
 
 // The first pass over an endpoint: two words, and those of its parts.

@@ -9,5 +9,6 @@ pub mod items;
 pub mod maturity;
 pub mod members;
 pub mod optional;
+pub mod steps;
 pub mod structs;
 pub mod writing;

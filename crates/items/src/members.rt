@@ -14,6 +14,11 @@ ghost use Rattle.items.specs.answers.members.{levelLost, LevelTo, levelO
 ghost use Rattle.items.specs.inner.members.{extentIf, commandFront, command-parts, event-first};
 use crate::counts::Count;
 use crate::optional::optional;
+use crate::steps::blank_at;
+use crate::steps::gap_at;
+use crate::steps::integer_behind;
+use crate::steps::keyword_behind;
+use crate::steps::tag_behind;
 use crate::structs::struct_fields;
 use crate::structs::write_struct_fields;
 use crate::writing::First;
@@ -28,13 +33,9 @@ use lexing::answers::Lost;
 use lexing::answers::Step;
 use lexing::answers::step_lost;
 use lexing::blanks::DocSpan;
-use lexing::blanks::Gap;
-use lexing::blanks::gap_lost;
 use lexing::blanks::whitespace0;
-use lexing::blanks::whitespace1;
 use lexing::integers::Number;
 use lexing::integers::number_lost;
-use lexing::integers::positive_integer;
 use lexing::parts::rest_at;
 use lexing::word_sets::keywords_set;
 use lexing::words::keyword;
@@ -194,35 +195,28 @@ pub fn access_to(part: &[u8], base: usize, key: &[u8]) -> Level
     let Step::Next(c1) = access else {
         return Level::NoLevel(step_lost(access));
     };
-    let w1 = whitespace0(rest_at(part, base, c1), c1);
-    let c2 = w1.next;
-    let opening = tag(rest_at(part, base, c2), c2, b'(');
-    let Step::Next(c3) = opening else {
+    let opening = tag_behind(part, base, c1, b'(');
+    let Step::Next(c2) = opening else {
         return Level::NoLevel(step_lost(opening));
     };
-    let w2 = whitespace0(rest_at(part, base, c3), c3);
-    let c4 = w2.next;
-    let operation = keyword(rest_at(part, base, c4), c4, key);
-    let Step::Next(c5) = operation else {
+    let operation = keyword_behind(part, base, c2, key);
+    let Step::Next(c3) = operation else {
         return Level::NoLevel(step_lost(operation));
     };
-    let colon = tag(rest_at(part, base, c5), c5, b':');
-    let Step::Next(c6) = colon else {
+    let colon = tag(rest_at(part, base, c3), c3, b':');
+    let Step::Next(c4) = colon else {
         return Level::NoLevel(step_lost(colon));
     };
-    let w3 = whitespace0(rest_at(part, base, c6), c6);
-    let c7 = w3.next;
-    let granted = access_privilege(rest_at(part, base, c7), c7);
-    let Level::Chosen(p, c8) = granted else {
+    let c5 = blank_at(part, base, c4);
+    let granted = access_privilege(rest_at(part, base, c5), c5);
+    let Level::Chosen(p, c6) = granted else {
         return Level::NoLevel(level_lost(granted));
     };
-    let w4 = whitespace0(rest_at(part, base, c8), c8);
-    let c9 = w4.next;
-    let closing = tag(rest_at(part, base, c9), c9, b')');
-    let Step::Next(c10) = closing else {
+    let closing = tag_behind(part, base, c6, b')');
+    let Step::Next(c7) = closing else {
         return Level::NoLevel(step_lost(closing));
     };
-    Level::Chosen(p, c10)
+    Level::Chosen(p, c7)
 }
 
 pub fn event_qualities(part: &[u8], base: usize) -> EventQualitiesRead
@@ -231,26 +225,23 @@ pub fn event_qualities(part: &[u8], base: usize) -> EventQualitiesRead
 {
     let q = keywords_set(part, base, 2);
     let c1 = q.next;
-    let w1 = whitespace0(rest_at(part, base, c1), c1);
-    let c2 = w1.next;
+    let c2 = blank_at(part, base, c1);
     let priority = event_priority(rest_at(part, base, c2), c2);
     let Level::Chosen(rank, c3) = priority else {
         return EventQualitiesRead::NoEventQualities(level_lost(priority));
     };
-    let gap1 = whitespace1(rest_at(part, base, c3), c3);
-    let Gap::Passed(w2) = gap1 else {
-        return EventQualitiesRead::NoEventQualities(gap_lost(gap1));
+    let gap1 = gap_at(part, base, c3);
+    let Step::Next(c4) = gap1 else {
+        return EventQualitiesRead::NoEventQualities(step_lost(gap1));
     };
-    let c4 = w2.next;
     let event = keyword(rest_at(part, base, c4), c4, b"event");
     let Step::Next(c5) = event else {
         return EventQualitiesRead::NoEventQualities(step_lost(event));
     };
-    let gap2 = whitespace1(rest_at(part, base, c5), c5);
-    let Gap::Passed(w3) = gap2 else {
-        return EventQualitiesRead::NoEventQualities(gap_lost(gap2));
+    let gap2 = gap_at(part, base, c5);
+    let Step::Next(c6) = gap2 else {
+        return EventQualitiesRead::NoEventQualities(step_lost(gap2));
     };
-    let c6 = w3.next;
     let access = level_or(access_to(rest_at(part, base, c6), c6, b"read"), 0, c6);
     let Level::Chosen(privilege, c7) = access else {
         return EventQualitiesRead::NoEventQualities(level_lost(access));
@@ -283,25 +274,20 @@ pub fn event_head(part: &[u8], base: usize) -> EventHeadRead
     let EventQualitiesRead::EventQualities(q, c1) = qualities else {
         return EventHeadRead::NoEventHead(event_qualities_lost(qualities));
     };
-    let w1 = whitespace0(rest_at(part, base, c1), c1);
-    let c2 = w1.next;
+    let c2 = blank_at(part, base, c1);
     let id = parse_id(rest_at(part, base, c2), c2);
     let Step::Next(c3) = id else {
         return EventHeadRead::NoEventHead(step_lost(id));
     };
-    let w2 = whitespace0(rest_at(part, base, c3), c3);
-    let c4 = w2.next;
-    let equals = tag(rest_at(part, base, c4), c4, b'=');
-    let Step::Next(c5) = equals else {
+    let equals = tag_behind(part, base, c3, b'=');
+    let Step::Next(c4) = equals else {
         return EventHeadRead::NoEventHead(step_lost(equals));
     };
-    let w3 = whitespace0(rest_at(part, base, c5), c5);
-    let c6 = w3.next;
-    let number = positive_integer(rest_at(part, base, c6), c6);
-    let Number::Value(code, c7) = number else {
+    let number = integer_behind(part, base, c4);
+    let Number::Value(code, c5) = number else {
         return EventHeadRead::NoEventHead(number_lost(number));
     };
-    let w4 = whitespace0(rest_at(part, base, c7), c7);
+    let c6 = blank_at(part, base, c5);
     EventHeadRead::EventHead(
         EventHeadParts {
             sensitive: q.sensitive,
@@ -311,7 +297,7 @@ pub fn event_head(part: &[u8], base: usize) -> EventHeadRead
             end: c3,
             code,
         },
-        w4.next,
+        c6,
     )
 }
 
@@ -355,20 +341,17 @@ pub fn command_head(part: &[u8], base: usize) -> CommandHeadRead
 {
     let q = keywords_set(part, base, 3);
     let c1 = q.next;
-    let w1 = whitespace0(rest_at(part, base, c1), c1);
-    let c2 = w1.next;
-    let command = keyword(rest_at(part, base, c2), c2, b"command");
-    let Step::Next(c3) = command else {
+    let command = keyword_behind(part, base, c1, b"command");
+    let Step::Next(c2) = command else {
         return CommandHeadRead::NoCommandHead(step_lost(command));
     };
-    let access = level_or(invoke_access(rest_at(part, base, c3), c3), 1, c3);
-    let Level::Chosen(privilege, c4) = access else {
+    let access = level_or(invoke_access(rest_at(part, base, c2), c2), 1, c2);
+    let Level::Chosen(privilege, c3) = access else {
         return CommandHeadRead::NoCommandHead(level_lost(access));
     };
-    let w2 = whitespace0(rest_at(part, base, c4), c4);
-    let c5 = w2.next;
-    let id = parse_id(rest_at(part, base, c5), c5);
-    let Step::Next(c6) = id else {
+    let c4 = blank_at(part, base, c3);
+    let id = parse_id(rest_at(part, base, c4), c4);
+    let Step::Next(c5) = id else {
         return CommandHeadRead::NoCommandHead(step_lost(id));
     };
     let qualities = q.flags;
@@ -376,10 +359,10 @@ pub fn command_head(part: &[u8], base: usize) -> CommandHeadRead
         CommandHeadParts {
             qualities,
             privilege,
-            name: c5,
-            end: c6,
+            name: c4,
+            end: c5,
         },
-        c6,
+        c5,
     )
 }
 
@@ -397,32 +380,24 @@ pub fn command_types(part: &[u8], base: usize) -> CommandTypesRead
     requires { ⌜ base + length (now part) ≤ text-limit ⌝ }
     ensures { λ r. ⌜ CommandTypesTo r base (now (part .entry)) ⌝ }
 {
-    let w1 = whitespace0(part, base);
-    let c1 = w1.next;
-    let opening = tag(rest_at(part, base, c1), c1, b'(');
-    let Step::Next(c2) = opening else {
+    let opening = tag_behind(part, base, base, b'(');
+    let Step::Next(c1) = opening else {
         return CommandTypesRead::NoCommandTypes(step_lost(opening));
     };
-    let w2 = whitespace0(rest_at(part, base, c2), c2);
-    let input = w2.next;
+    let input = blank_at(part, base, c1);
     let from = optional(parse_id(rest_at(part, base, input), input), input);
     let Step::Next(input_end) = from else {
         return CommandTypesRead::NoCommandTypes(step_lost(from));
     };
-    let w3 = whitespace0(rest_at(part, base, input_end), input_end);
-    let c5 = w3.next;
-    let closing = tag(rest_at(part, base, c5), c5, b')');
-    let Step::Next(c6) = closing else {
+    let closing = tag_behind(part, base, input_end, b')');
+    let Step::Next(c2) = closing else {
         return CommandTypesRead::NoCommandTypes(step_lost(closing));
     };
-    let w4 = whitespace0(rest_at(part, base, c6), c6);
-    let c7 = w4.next;
-    let colon = tag(rest_at(part, base, c7), c7, b':');
-    let Step::Next(c8) = colon else {
+    let colon = tag_behind(part, base, c2, b':');
+    let Step::Next(c3) = colon else {
         return CommandTypesRead::NoCommandTypes(step_lost(colon));
     };
-    let w5 = whitespace0(rest_at(part, base, c8), c8);
-    let output = w5.next;
+    let output = blank_at(part, base, c3);
     let to = parse_id(rest_at(part, base, output), output);
     let Step::Next(output_end) = to else {
         return CommandTypesRead::NoCommandTypes(step_lost(to));
@@ -464,22 +439,16 @@ pub fn parse_command_after_doc_maturity(
     let CommandTypesRead::CommandTypes(t, c2) = types else {
         return CommandRead::NoCommand(command_types_lost(types));
     };
-    let w1 = whitespace0(rest_at(part, base, c2), c2);
-    let c3 = w1.next;
-    let equals = tag(rest_at(part, base, c3), c3, b'=');
-    let Step::Next(c4) = equals else {
+    let equals = tag_behind(part, base, c2, b'=');
+    let Step::Next(c3) = equals else {
         return CommandRead::NoCommand(step_lost(equals));
     };
-    let w2 = whitespace0(rest_at(part, base, c4), c4);
-    let c5 = w2.next;
-    let number = positive_integer(rest_at(part, base, c5), c5);
-    let Number::Value(code, c6) = number else {
+    let number = integer_behind(part, base, c3);
+    let Number::Value(code, c4) = number else {
         return CommandRead::NoCommand(number_lost(number));
     };
-    let w3 = whitespace0(rest_at(part, base, c6), c6);
-    let c7 = w3.next;
-    let semicolon = tag(rest_at(part, base, c7), c7, b';');
-    let Step::Next(c8) = semicolon else {
+    let semicolon = tag_behind(part, base, c4, b';');
+    let Step::Next(c5) = semicolon else {
         return CommandRead::NoCommand(step_lost(semicolon));
     };
     CommandRead::Command(
@@ -496,7 +465,7 @@ pub fn parse_command_after_doc_maturity(
             output_end: t.output_end,
             code,
         },
-        c8,
+        c5,
     )
 }
 

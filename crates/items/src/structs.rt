@@ -16,6 +16,11 @@ ghost use Rattle.items.specs.inner.structs.{optionalLength, lengthLost, 
 use crate::counts::Count;
 use crate::counts::count_end;
 use crate::maturity::api_maturity;
+use crate::steps::blank_at;
+use crate::steps::gap_at;
+use crate::steps::integer_behind;
+use crate::steps::keyword_behind;
+use crate::steps::tag_behind;
 use crate::writing::First;
 use crate::writing::FrontParts;
 use crate::writing::Wrote;
@@ -28,13 +33,9 @@ use crate::writing::span_word;
 use lexing::answers::Lost;
 use lexing::answers::Step;
 use lexing::answers::step_lost;
-use lexing::blanks::Gap;
-use lexing::blanks::gap_lost;
 use lexing::blanks::whitespace0;
-use lexing::blanks::whitespace1;
 use lexing::integers::Number;
 use lexing::integers::number_lost;
-use lexing::integers::positive_integer;
 use lexing::parts::rest_at;
 use lexing::word_sets::is_lower;
 use lexing::word_sets::keywords_set;
@@ -115,25 +116,19 @@ fn max_length(part: &[u8], base: usize) -> Number
     requires { ⌜ base + length (now part) ≤ text-limit ⌝ }
     ensures { λ r. ⌜ numberReply r base (now (part .entry)) ≡ max-length base (now (part .entry)) ⌝ }
 {
-    let w1 = whitespace0(part, base);
-    let c1 = w1.next;
-    let less = tag(rest_at(part, base, c1), c1, b'<');
-    let Step::Next(c2) = less else {
+    let less = tag_behind(part, base, base, b'<');
+    let Step::Next(c1) = less else {
         return Number::NoNumber(step_lost(less));
     };
-    let w2 = whitespace0(rest_at(part, base, c2), c2);
-    let c3 = w2.next;
-    let number = positive_integer(rest_at(part, base, c3), c3);
-    let Number::Value(v, c4) = number else {
+    let number = integer_behind(part, base, c1);
+    let Number::Value(v, c2) = number else {
         return Number::NoNumber(number_lost(number));
     };
-    let w3 = whitespace0(rest_at(part, base, c4), c4);
-    let c5 = w3.next;
-    let greater = tag(rest_at(part, base, c5), c5, b'>');
-    let Step::Next(c6) = greater else {
+    let greater = tag_behind(part, base, c2, b'>');
+    let Step::Next(c3) = greater else {
         return Number::NoNumber(step_lost(greater));
     };
-    Number::Value(v, c6)
+    Number::Value(v, c3)
 }
 
 // A length that may be absent, at an offset: where it fails nothing is read, and a stop goes on.
@@ -189,8 +184,7 @@ pub fn parse_field(part: &[u8], base: usize) -> FieldRead
     requires { ⌜ base + length (now part) ≤ text-limit ⌝ }
     ensures { λ r. ⌜ FieldTo r base (now (part .entry)) ⌝ }
 {
-    let w1 = whitespace0(part, base);
-    let c1 = w1.next;
+    let c1 = blank_at(part, base, base);
     let data_type = parse_id(rest_at(part, base, c1), c1);
     let Step::Next(c2) = data_type else {
         return FieldRead::NoField(step_lost(data_type));
@@ -199,27 +193,23 @@ pub fn parse_field(part: &[u8], base: usize) -> FieldRead
     let MaxLength::Length(has_maximum, maximum, c3) = length else {
         return FieldRead::NoField(length_lost(length));
     };
-    let gap = whitespace1(rest_at(part, base, c3), c3);
-    let Gap::Passed(w2) = gap else {
-        return FieldRead::NoField(gap_lost(gap));
+    let gap = gap_at(part, base, c3);
+    let Step::Next(c4) = gap else {
+        return FieldRead::NoField(step_lost(gap));
     };
-    let c4 = w2.next;
     let name = parse_id(rest_at(part, base, c4), c4);
     let Step::Next(c5) = name else {
         return FieldRead::NoField(step_lost(name));
     };
-    let w3 = whitespace0(rest_at(part, base, c5), c5);
-    let c6 = w3.next;
+    let c6 = blank_at(part, base, c5);
     let marker = list_marker(rest_at(part, base, c6), c6);
     let c7 = marker.next;
     let equals = tag(rest_at(part, base, c7), c7, b'=');
     let Step::Next(c8) = equals else {
         return FieldRead::NoField(step_lost(equals));
     };
-    let w4 = whitespace0(rest_at(part, base, c8), c8);
-    let c9 = w4.next;
-    let number = positive_integer(rest_at(part, base, c9), c9);
-    let Number::Value(code, c10) = number else {
+    let number = integer_behind(part, base, c8);
+    let Number::Value(code, c9) = number else {
         return FieldRead::NoField(number_lost(number));
     };
     FieldRead::Field(
@@ -233,7 +223,7 @@ pub fn parse_field(part: &[u8], base: usize) -> FieldRead
             list: marker.list,
             code,
         },
-        c10,
+        c9,
     )
 }
 
@@ -250,12 +240,10 @@ pub fn parse_struct_field(part: &[u8], base: usize) -> StructFieldRead
     requires { ⌜ base + length (now part) ≤ text-limit ⌝ }
     ensures { λ r. ⌜ StructFieldTo parse-struct-field r base (now (part .entry)) ⌝ }
 {
-    let w1 = whitespace0(part, base);
-    let c1 = w1.next;
+    let c1 = blank_at(part, base, base);
     let m = api_maturity(rest_at(part, base, c1), c1);
     let c2 = m.next;
-    let w2 = whitespace0(rest_at(part, base, c2), c2);
-    let c3 = w2.next;
+    let c3 = blank_at(part, base, c2);
     let set = keywords_set(rest_at(part, base, c3), c3, 0);
     let c4 = set.next;
     let r = parse_field(rest_at(part, base, c4), c4);
@@ -286,19 +274,16 @@ fn closed_field(part: &[u8], base: usize) -> StructFieldRead
     requires { ⌜ base + length (now part) ≤ text-limit ⌝ }
     ensures { λ r. ⌜ StructFieldTo closed-field r base (now (part .entry)) ⌝ }
 {
-    let w1 = whitespace0(part, base);
-    let c1 = w1.next;
+    let c1 = blank_at(part, base, base);
     let r = parse_struct_field(rest_at(part, base, c1), c1);
     let StructFieldRead::StructField(field, c2) = r else {
         return StructFieldRead::NoStructField(struct_field_lost(r));
     };
-    let w2 = whitespace0(rest_at(part, base, c2), c2);
-    let c3 = w2.next;
-    let semicolon = tag(rest_at(part, base, c3), c3, b';');
-    let Step::Next(c4) = semicolon else {
+    let semicolon = tag_behind(part, base, c2, b';');
+    let Step::Next(c3) = semicolon else {
         return StructFieldRead::NoStructField(step_lost(semicolon));
     };
-    StructFieldRead::StructField(field, c4)
+    StructFieldRead::StructField(field, c3)
 }
 
 // The first pass over fields: four words each.
@@ -385,14 +370,12 @@ fn response_code(part: &[u8], base: usize) -> Number
     let Step::Next(c1) = equals else {
         return Number::NoNumber(step_lost(equals));
     };
-    let w1 = whitespace0(rest_at(part, base, c1), c1);
-    let c2 = w1.next;
-    let number = positive_integer(rest_at(part, base, c2), c2);
-    let Number::Value(code, c3) = number else {
+    let number = integer_behind(part, base, c1);
+    let Number::Value(code, c2) = number else {
         return Number::NoNumber(number_lost(number));
     };
-    let w2 = whitespace0(rest_at(part, base, c3), c3);
-    Number::Value(code, w2.next)
+    let c3 = blank_at(part, base, c2);
+    Number::Value(code, c3)
 }
 
 // The code of a response; other structs have none, and nothing is read.
@@ -416,40 +399,35 @@ pub fn struct_head(part: &[u8], base: usize) -> StructHeadRead
     let word = struct_word(part, base);
     let kind = word.kind;
     let c1 = word.next;
-    let w1 = whitespace0(rest_at(part, base, c1), c1);
-    let c2 = w1.next;
+    let c2 = blank_at(part, base, c1);
     let set = keywords_set(rest_at(part, base, c2), c2, 1);
     let c3 = set.next;
-    let w2 = whitespace0(rest_at(part, base, c3), c3);
-    let c4 = w2.next;
-    let key = keyword(rest_at(part, base, c4), c4, b"struct");
-    let Step::Next(c5) = key else {
+    let key = keyword_behind(part, base, c3, b"struct");
+    let Step::Next(c4) = key else {
         return StructHeadRead::NoHead(step_lost(key));
     };
-    let gap = whitespace1(rest_at(part, base, c5), c5);
-    let Gap::Passed(w3) = gap else {
-        return StructHeadRead::NoHead(gap_lost(gap));
+    let gap = gap_at(part, base, c4);
+    let Step::Next(c5) = gap else {
+        return StructHeadRead::NoHead(step_lost(gap));
     };
-    let c6 = w3.next;
-    let name = parse_id(rest_at(part, base, c6), c6);
-    let Step::Next(c7) = name else {
+    let name = parse_id(rest_at(part, base, c5), c5);
+    let Step::Next(c6) = name else {
         return StructHeadRead::NoHead(step_lost(name));
     };
-    let w4 = whitespace0(rest_at(part, base, c7), c7);
-    let c8 = w4.next;
-    let number = struct_code(rest_at(part, base, c8), c8, kind);
-    let Number::Value(code, c9) = number else {
+    let c7 = blank_at(part, base, c6);
+    let number = struct_code(rest_at(part, base, c7), c7, kind);
+    let Number::Value(code, c8) = number else {
         return StructHeadRead::NoHead(number_lost(number));
     };
     StructHeadRead::Head(
         StructHeadParts {
             kind,
             scoped: set.flags,
-            name: c6,
-            end: c7,
+            name: c5,
+            end: c6,
             code,
         },
-        c9,
+        c8,
     )
 }
 

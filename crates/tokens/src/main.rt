@@ -144,14 +144,6 @@ fn print_part(letter: u8, text: &[u8]) {
     print_answer(letter, text, 0);
 }
 
-// The first n bytes, or all where there are fewer.
-fn front(text: &[u8], n: usize) -> &[u8] {
-    if n < text.len() {
-        return &text[..n];
-    }
-    text
-}
-
 // A line without its line feed.
 fn print_line(line: &[u8]) {
     let mut text = [0u8; 256];
@@ -169,29 +161,15 @@ fn print_line(line: &[u8]) {
         io::write_all(OUT, b" no text\n");
         return;
     };
-    print_part(letter, front(&text, n));
+    print_part(letter, lines::front(&text, n));
     io::write_all(OUT, b"\n");
-}
-
-// How many bytes stand before the next line feed.
-fn line_length(part: &[u8]) -> usize
-    ensures { λ r. ⌜ r ≤ length (now (part .entry)) ⌝ }
-{
-    let mut i = 0;
-    while i < part.len() {
-        if part[i] == b'\n' {
-            return i;
-        }
-        i += 1;
-    }
-    i
 }
 
 fn print_lines(lines: &[u8]) {
     let mut at = 0;
     while at < lines.len() {
         let rest = lexing::parts::rest_at(lines, 0, at);
-        let n = line_length(rest);
+        let n = lines::line_length(rest);
         print_line(&rest[..n]);
         at += n;
         if at == lines.len() {

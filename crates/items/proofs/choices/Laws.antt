@@ -7,7 +7,7 @@ use Prim.Native.Nat.{ℕ, _+_, _-_, _*_, _≤_, _<_}
 use native.Mathlib.Omega.{arith}
 use lib.ListN.{length, drop}
 use Rattle.lexing.specs.reply.{ok, opt}
-use Rattle.lexing.specs.words.{Word, word, parse-id}
+use Rattle.lexing.specs.words.{Word, parse-id}
 use Rattle.lexing.specs.word_sets.{bit}
 use Rattle.lexing.specs.answers.{Rest, lostReply, lostOf}
 use Rattle.lexing.specs.declared.answers.Lost.{Lost}
@@ -33,9 +33,6 @@ use Rattle.items.proofs.WordBetween.{extent-between}
 use Rattle.items.proofs.writing.Laws.{documented-put}
 use Rattle.items.proofs.Locality.{shared-before-local, choice-head-local, constant-entries-list-local}
 use Rattle.items.proofs.optional.Laws.{optional-skips, optional-present, skip-took, skip-lost}
-
-pub no-word : Word
-no-word = word 0 []
 
 -- `shared`, which may be missing
 pub record Shared (b : ℕ) (u : List ℕ) (n c : ℕ) (x : Bool) : Type 0 where

@@ -43,10 +43,11 @@ use Rattle.items.specs.declared.clusters.ClusterHeadParts.{ClusterHeadPa
 use Rattle.items.specs.declared.clusters.MembersWrote.{MembersWrote}
 use Rattle.items.proofs.Answers.{read-took}
 use Rattle.items.proofs.Mapped.{mapped-ok}
+use Rattle.items.proofs.Pairs.{onward-bind}
 use Rattle.items.proofs.Headed.{Headed}
 use Rattle.items.proofs.Choice.{further-ok, ok-further}
 use Rattle.items.proofs.Tries.{maturity-words, bind-ok, then-ok, maturity-elsewhere}
-use Rattle.items.proofs.Braces.{Step as Taken, lost-not, brace-first, brace-keyword, brace-blank, rest-is, taken, then-value, follows, follows-with, close-took, close-lost, close-on, onward-bind, opened-room, opened-is}
+use Rattle.items.proofs.Braces.{Step as Taken, lost-not, brace-first, brace-keyword, brace-blank, rest-is, taken, then-value, follows, follows-with, close-took, close-lost, close-on, opened-room, opened-is}
 use Rattle.items.proofs.RecordWords.{Elementwise, each-elementwise, word-count-none, catalogue-bytes-none}
 use Rattle.items.proofs.Locality.{braces-chain, api-maturity-local, parse-revision-local, member-tries-inside, parse-cluster-member-inside, parse-cluster-member-consumes, side-local, cluster-head-local}
 use Rattle.items.proofs.WordBetween.{extent-between}

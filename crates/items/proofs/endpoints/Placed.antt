@@ -13,8 +13,7 @@ use Rattle.lexing.specs.blanks.{Doc, whitespace0}
 use Rattle.lexing.specs.answers.{Rest, lostReply}
 use Rattle.lexing.specs.declared.answers.Lost.{Lost}
 use Rattle.lexing.specs.declared.answers.Lost.the-variants.{Fail, Stop}
-use Rattle.lexing.proofs.Runs.{Suf, suf-trans}
-use Rattle.lexing.proofs.Onward.{Ends, Onward}
+use Rattle.lexing.proofs.Onward.{Onward}
 use Rattle.lexing.proofs.Locality.{Consumes, LocalInside, chain-ret}
 use Rattle.lexing.proofs.Slicing.{Took, took, walks, begin, go, on, done, fall, rest-self, rest-from}
 use Rattle.lexing.proofs.Repetition.{IterAt, iter-start, iter-step, iter-ends, iter-stop}
@@ -28,10 +27,11 @@ use Rattle.items.specs.answers.{Room, Written}
 use Rattle.items.specs.answers.endpoints.{TryRoom, TryWritten}
 use Rattle.items.specs.inner.endpoints.{deep-close, deep-tail, deep-rest}
 use Rattle.items.specs.declared.writing.Wrote.{Wrote}
+use Rattle.items.proofs.Pairs.{onward-bind}
 use Rattle.items.proofs.Mapped.{mapped-ok, mapped-not, value-as}
 use Rattle.items.proofs.Locality.{deep-step-consumes, deep-run-inside}
 use Rattle.items.proofs.RecordWords.{Elementwise, word-count-none, word-count-more, catalogue-bytes-none, catalogue-bytes-length, catalogue-bytes-more}
-use Rattle.items.proofs.Braces.{lost-not, brace-first, onward-bind, Step, rest-is, taken, then-value, follows, close-took, close-caught}
+use Rattle.items.proofs.Braces.{lost-not, brace-first, Step, rest-is, taken, then-value, follows, close-took, close-caught}
 use Rattle.items.proofs.endpoints.Deep.{intercept-found, intercept-last, next-at, stop-at, deep-close-on}
 use Rattle.items.proofs.writing.Laws.{put-length, put-nothing, put-on, no-room}
 

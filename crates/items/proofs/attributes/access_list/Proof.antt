@@ -6,22 +6,17 @@ use Rattle.items.proofs.attributes.Laws.{list-not, list-is, list-small,
 use mathlib.Core.Path.{refl}
 use native.Mathlib.Omega.{arith}
 use Rattle.lexing.specs.bytes.{ascii}
-use Rattle.lexing.specs.answers.{wordAt}
-use Rattle.lexing.proofs.Slicing.{rest-self, begin, go, on, lose, fall, done, blank-took, keyword-took, tag-took, step-lost}
+use Rattle.lexing.proofs.Slicing.{begin, go, on, lose, done}
+use Rattle.items.proofs.Pairs.{pair-on, pair-fall}
+use Rattle.items.proofs.steps.Laws.{blank-at-took, tag-behind-took, keyword-behind-took, skips-lost}
 use Rattle.items.specs.inner.attributes.{no-grants}
 use Rattle.items.proofs.Mapped.{read-as}
 
-whitespace0-requires : tie.Need-whitespace0-requires
-whitespace0-requires c κs = search needs
+slice-aggregate-keyword-behind : tie.Need-slice-aggregate-keyword-behind
+slice-aggregate-keyword-behind c = search needs
 
-rest-at-requires : tie.Need-rest-at-requires
-rest-at-requires c κs = omega (arith, (blank-took (rest-self _ _) (c .whitespace0 .ensures)) .up, (blank-took (rest-self _ _) (c .whitespace0 .ensures)) .inside)
-
-slice-aggregate-keyword : tie.Need-slice-aggregate-keyword
-slice-aggregate-keyword c = search needs
-
-keyword-requires : tie.Need-keyword-requires
-keyword-requires c κs = omega (arith, c .before .rest-at .ensures .size, c .before .before .before .before .pre)
+keyword-behind-requires : tie.Need-keyword-behind-requires
+keyword-behind-requires c κs = omega (arith, c .before .before .pre)
 
 enum-known-access : tie.Need-enum-known-access
 enum-known-access c = search needs
@@ -34,19 +29,10 @@ step-lost-requires c κs = search needs
 
 returns : tie.Need-returns
 unfolding access-list
-returns c = list-not no-grants _ _ _ _ (begin (access-list) _ _ (on _ (blank-took (rest-self _ _) (c .before .before .before .before .before .before .whitespace0 .ensures)) (fall _ _ (c .step-lost .result) (c .before .before .before .before .before .rest-at .ensures) (step-lost (wordAt _ _) (c .step-lost .ensures) (c .before .enum-told .given .1) _ _ _ (c .before .before .before .keyword .ensures)))))
+returns c = list-not no-grants _ _ _ _ (begin (access-list) _ _ (pair-fall _ _ _ (c .step-lost .result) (c .before .before .before .keyword-behind .ensures .at) (skips-lost (c .step-lost .ensures) (c .before .enum-told .given .1) (c .before .before .before .keyword-behind .ensures))))
 
-rest-at-requires-2 : tie.Need-rest-at-requires-2
-rest-at-requires-2 c κs = omega (arith, (keyword-took (c .before .before .before .before .before .rest-at .ensures) (c .before .access .given .1) (ascii "access") (c .before .before .before .keyword .ensures)) .up, (keyword-took (c .before .before .before .before .before .rest-at .ensures) (c .before .access .given .1) (ascii "access") (c .before .before .before .keyword .ensures)) .inside, c .before .before .before .before .before .rest-at .ensures .from)
-
-whitespace0-requires-2 : tie.Need-whitespace0-requires-2
-whitespace0-requires-2 c κs = omega (arith, c .rest-at2 .ensures .size, c .before .before .before .before .before .before .before .before .before .pre)
-
-rest-at-requires-3 : tie.Need-rest-at-requires-3
-rest-at-requires-3 c κs = omega (arith, (blank-took (c .before .rest-at2 .ensures) (c .whitespace02 .ensures)) .up, (blank-took (c .before .rest-at2 .ensures) (c .whitespace02 .ensures)) .inside, c .before .rest-at2 .ensures .from)
-
-tag-requires : tie.Need-tag-requires
-tag-requires c κs = omega (arith, c .rest-at3 .ensures .size, c .before .before .before .before .before .before .before .before .before .before .before .pre)
+tag-behind-requires : tie.Need-tag-behind-requires
+tag-behind-requires c κs = omega (arith, (keyword-behind-took (ascii "access") (c .before .access .given .1) (c .before .before .before .keyword-behind .ensures)) .up, (keyword-behind-took (ascii "access") (c .before .access .given .1) (c .before .before .before .keyword-behind .ensures)) .inside, c .before .before .before .before .before .before .pre)
 
 enum-known-opening : tie.Need-enum-known-opening
 enum-known-opening c = search needs
@@ -59,19 +45,16 @@ step-lost-requires-2 c κs = search needs
 
 returns-2 : tie.Need-returns-2
 unfolding access-list
-returns-2 c = list-not no-grants _ _ _ _ (begin (access-list) _ _ (on _ (blank-took (rest-self _ _) (c .before .before .before .before .before .before .before .before .before .before .before .before .before .whitespace0 .ensures)) (on _ (keyword-took (c .before .before .before .before .before .before .before .before .before .before .before .before .rest-at .ensures) (c .before .before .before .before .before .before .before .before .access .given .1) (ascii "access") (c .before .before .before .before .before .before .before .before .before .before .keyword .ensures)) (on _ (blank-took (c .before .before .before .before .before .before .rest-at2 .ensures) (c .before .before .before .before .before .whitespace02 .ensures)) (fall _ _ (c .step-lost2 .result) (c .before .before .before .before .rest-at3 .ensures) (step-lost (λ c. tt) (c .step-lost2 .ensures) (c .before .enum-told2 .given .1) _ _ _ (c .before .before .before .tag .ensures)))))))
+returns-2 c = list-not no-grants _ _ _ _ (begin (access-list) _ _ (pair-on _ _ _ (keyword-behind-took (ascii "access") (c .before .before .before .before .before .access .given .1) (c .before .before .before .before .before .before .before .keyword-behind .ensures)) (pair-fall _ _ _ (c .step-lost2 .result) (c .before .before .before .tag-behind .ensures .at) (skips-lost (c .step-lost2 .ensures) (c .before .enum-told2 .given .1) (c .before .before .before .tag-behind .ensures)))))
 
-rest-at-requires-4 : tie.Need-rest-at-requires-4
-rest-at-requires-4 c κs = omega (arith, (tag-took (c .before .before .before .before .rest-at3 .ensures) (c .before .opening .given .1) 40 (c .before .before .before .tag .ensures)) .up, (tag-took (c .before .before .before .before .rest-at3 .ensures) (c .before .opening .given .1) 40 (c .before .before .before .tag .ensures)) .inside, c .before .before .before .before .rest-at3 .ensures .from)
+blank-at-requires : tie.Need-blank-at-requires
+blank-at-requires c κs = omega (arith, (tag-behind-took 40 (c .before .opening .given .1) (c .before .before .before .tag-behind .ensures)) .up, (tag-behind-took 40 (c .before .opening .given .1) (c .before .before .before .tag-behind .ensures)) .inside, c .before .before .before .tag-behind .ensures .at .from, c .before .before .before .before .before .before .before .before .before .before .pre)
 
-whitespace0-requires-3 : tie.Need-whitespace0-requires-3
-whitespace0-requires-3 c κs = omega (arith, c .rest-at4 .ensures .size, c .before .before .before .before .before .before .before .before .before .before .before .before .before .before .before .before .pre)
-
-rest-at-requires-5 : tie.Need-rest-at-requires-5
-rest-at-requires-5 c κs = omega (arith, (blank-took (c .before .rest-at4 .ensures) (c .whitespace03 .ensures)) .up, (blank-took (c .before .rest-at4 .ensures) (c .whitespace03 .ensures)) .inside, c .before .rest-at4 .ensures .from)
+rest-at-requires : tie.Need-rest-at-requires
+rest-at-requires c κs = omega (arith, (blank-at-took (c .blank-at .ensures)) .up, (blank-at-took (c .blank-at .ensures)) .inside, c .blank-at .ensures .at .from)
 
 access-entries-requires : tie.Need-access-entries-requires
-access-entries-requires c κs = omega (arith, c .rest-at5 .ensures .size, c .before .before .before .before .before .before .before .before .before .before .before .before .before .before .before .before .before .before .pre)
+access-entries-requires c κs = omega (arith, c .rest-at .ensures .size, c .before .before .before .before .before .before .before .before .before .before .before .before .pre)
 
 enum-known-entries : tie.Need-enum-known-entries
 enum-known-entries c = search needs
@@ -84,19 +67,10 @@ list-lost-requires c κs = search needs
 
 returns-3 : tie.Need-returns-3
 unfolding access-list
-returns-3 c = list-not no-grants _ _ _ _ (begin (access-list) _ _ (on _ (blank-took (rest-self _ _) (c .before .before .before .before .before .before .before .before .before .before .before .before .before .before .before .before .before .before .before .before .whitespace0 .ensures)) (on _ (keyword-took (c .before .before .before .before .before .before .before .before .before .before .before .before .before .before .before .before .before .before .before .rest-at .ensures) (c .before .before .before .before .before .before .before .before .before .before .before .before .before .before .before .access .given .1) (ascii "access") (c .before .before .before .before .before .before .before .before .before .before .before .before .before .before .before .before .before .keyword .ensures)) (on _ (blank-took (c .before .before .before .before .before .before .before .before .before .before .before .before .before .rest-at2 .ensures) (c .before .before .before .before .before .before .before .before .before .before .before .before .whitespace02 .ensures)) (on _ (tag-took (c .before .before .before .before .before .before .before .before .before .before .before .rest-at3 .ensures) (c .before .before .before .before .before .before .before .before .opening .given .1) 40 (c .before .before .before .before .before .before .before .before .before .before .tag .ensures)) (on _ (blank-took (c .before .before .before .before .before .before .rest-at4 .ensures) (c .before .before .before .before .before .whitespace03 .ensures)) (lose _ _ (c .list-lost .result) (c .before .before .before .before .rest-at5 .ensures) (list-lost no-grants (separated-list0 comma access-entry) (c .before .before .before .access-entries .ensures) (c .list-lost .ensures) (c .before .enum-told3 .given .1)))))))))
+returns-3 c = list-not no-grants _ _ _ _ (begin (access-list) _ _ (pair-on _ _ _ (keyword-behind-took (ascii "access") (c .before .before .before .before .before .before .before .before .before .before .before .access .given .1) (c .before .before .before .before .before .before .before .before .before .before .before .before .before .keyword-behind .ensures)) (pair-on _ _ _ (tag-behind-took 40 (c .before .before .before .before .before .before .before .opening .given .1) (c .before .before .before .before .before .before .before .before .before .tag-behind .ensures)) (on _ (blank-at-took (c .before .before .before .before .before .blank-at .ensures)) (lose _ _ (c .list-lost .result) (c .before .before .before .before .rest-at .ensures) (list-lost no-grants (separated-list0 comma access-entry) (c .before .before .before .access-entries .ensures) (c .list-lost .ensures) (c .before .enum-told3 .given .1)))))))
 
-rest-at-requires-6 : tie.Need-rest-at-requires-6
-rest-at-requires-6 c κs = omega (arith, ((read-as (c .before .before .before .access-entries .ensures) (c .before .entries .given .1) entries-onward (c .before .before .before .before .rest-at5 .ensures) refl) .step) .up, ((read-as (c .before .before .before .access-entries .ensures) (c .before .entries .given .1) entries-onward (c .before .before .before .before .rest-at5 .ensures) refl) .step) .inside, c .before .before .before .before .rest-at5 .ensures .from)
-
-whitespace0-requires-4 : tie.Need-whitespace0-requires-4
-whitespace0-requires-4 c κs = omega (arith, c .rest-at6 .ensures .size, c .before .before .before .before .before .before .before .before .before .before .before .before .before .before .before .before .before .before .before .before .before .before .before .pre)
-
-rest-at-requires-7 : tie.Need-rest-at-requires-7
-rest-at-requires-7 c κs = omega (arith, (blank-took (c .before .rest-at6 .ensures) (c .whitespace04 .ensures)) .up, (blank-took (c .before .rest-at6 .ensures) (c .whitespace04 .ensures)) .inside, c .before .rest-at6 .ensures .from)
-
-tag-requires-2 : tie.Need-tag-requires-2
-tag-requires-2 c κs = omega (arith, c .rest-at7 .ensures .size, c .before .before .before .before .before .before .before .before .before .before .before .before .before .before .before .before .before .before .before .before .before .before .before .before .before .pre)
+tag-behind-requires-2 : tie.Need-tag-behind-requires-2
+tag-behind-requires-2 c κs = omega (arith, ((read-as (c .before .before .before .access-entries .ensures) (c .before .entries .given .1) entries-onward (c .before .before .before .before .rest-at .ensures) refl) .step) .up, ((read-as (c .before .before .before .access-entries .ensures) (c .before .entries .given .1) entries-onward (c .before .before .before .before .rest-at .ensures) refl) .step) .inside, c .before .before .before .before .rest-at .ensures .from, c .before .before .before .before .before .before .before .before .before .before .before .before .before .before .before .before .pre)
 
 enum-known-closing : tie.Need-enum-known-closing
 enum-known-closing c = search needs
@@ -109,46 +83,11 @@ step-lost-requires-3 c κs = search needs
 
 returns-4 : tie.Need-returns-4
 unfolding access-list
-returns-4 c = list-not no-grants _ _ _ _ (begin (access-list) _ _ (on _ (blank-took (rest-self _ _) (c .before .before .before .before .before .before .before .before .before .before .before .before .before .before .before .before .before .before .before .before .before .before .before .before .before .before .before .whitespace0 .ensures)) (on _ (keyword-took (c .before .before .before .before .before .before .before .before .before .before .before .before .before .before .before .before .before .before .before .before .before .before .before .before .before .before .rest-at .ensures) (c .before .before .before .before .before .before .before .before .before .before .before .before .before .before .before .before .before .before .before .before .before .before .access .given .1) (ascii "access") (c .before .before .before .before .before .before .before .before .before .before .before .before .before .before .before .before .before .before .before .before .before .before .before .before .keyword .ensures)) (on _ (blank-took (c .before .before .before .before .before .before .before .before .before .before .before .before .before .before .before .before .before .before .before .before .rest-at2 .ensures) (c .before .before .before .before .before .before .before .before .before .before .before .before .before .before .before .before .before .before .before .whitespace02 .ensures)) (on _ (tag-took (c .before .before .before .before .before .before .before .before .before .before .before .before .before .before .before .before .before .before .rest-at3 .ensures) (c .before .before .before .before .before .before .before .before .before .before .before .before .before .before .before .opening .given .1) 40 (c .before .before .before .before .before .before .before .before .before .before .before .before .before .before .before .before .before .tag .ensures)) (on _ (blank-took (c .before .before .before .before .before .before .before .before .before .before .before .before .before .rest-at4 .ensures) (c .before .before .before .before .before .before .before .before .before .before .before .before .whitespace03 .ensures)) (go _ ((read-as (c .before .before .before .before .before .before .before .before .before .before .access-entries .ensures) (c .before .before .before .before .before .before .before .before .entries .given .1) entries-onward (c .before .before .before .before .before .before .before .before .before .before .before .rest-at5 .ensures) refl) .step) (on _ (blank-took (c .before .before .before .before .before .before .rest-at6 .ensures) (c .before .before .before .before .before .whitespace04 .ensures)) (fall _ _ (c .step-lost3 .result) (c .before .before .before .before .rest-at7 .ensures) (step-lost (λ c. tt) (c .step-lost3 .ensures) (c .before .enum-told4 .given .1) _ _ _ (c .before .before .before .tag2 .ensures)))))))))))
+returns-4 c = list-not no-grants _ _ _ _ (begin (access-list) _ _ (pair-on _ _ _ (keyword-behind-took (ascii "access") (c .before .before .before .before .before .before .before .before .before .before .before .before .before .before .before .access .given .1) (c .before .before .before .before .before .before .before .before .before .before .before .before .before .before .before .before .before .keyword-behind .ensures)) (pair-on _ _ _ (tag-behind-took 40 (c .before .before .before .before .before .before .before .before .before .before .before .opening .given .1) (c .before .before .before .before .before .before .before .before .before .before .before .before .before .tag-behind .ensures)) (on _ (blank-at-took (c .before .before .before .before .before .before .before .before .before .blank-at .ensures)) (go _ ((read-as (c .before .before .before .before .before .before .before .access-entries .ensures) (c .before .before .before .before .before .entries .given .1) entries-onward (c .before .before .before .before .before .before .before .before .rest-at .ensures) refl) .step) (pair-fall _ _ _ (c .step-lost3 .result) (c .before .before .before .tag-behind2 .ensures .at) (skips-lost (c .step-lost3 .ensures) (c .before .enum-told4 .given .1) (c .before .before .before .tag-behind2 .ensures))))))))
 
 returns-5 : tie.Need-returns-5
 unfolding access-list
-returns-5 c = list-is no-grants _ (read-as (c .before .before .before .before .before .before .before .before .before .before .access-entries .ensures) (c .before .before .before .before .before .before .before .before .entries .given .1) entries-onward (c .before .before .before .before .before .before .before .before .before .before .before .rest-at5 .ensures) refl) (list-small no-grants (separated-list0 comma access-entry) (c .before .before .before .before .before .before .before .before .before .before .access-entries .ensures) (c .before .before .before .before .before .before .before .before .entries .given .1)) (begin (access-list) _ _ (on _ (blank-took (rest-self _ _) (c .before .before .before .before .before .before .before .before .before .before .before .before .before .before .before .before .before .before .before .before .before .before .before .before .before .before .before .whitespace0 .ensures)) (on _ (keyword-took (c .before .before .before .before .before .before .before .before .before .before .before .before .before .before .before .before .before .before .before .before .before .before .before .before .before .before .rest-at .ensures) (c .before .before .before .before .before .before .before .before .before .before .before .before .before .before .before .before .before .before .before .before .before .before .access .given .1) (ascii "access") (c .before .before .before .before .before .before .before .before .before .before .before .before .before .before .before .before .before .before .before .before .before .before .before .before .keyword .ensures)) (on _ (blank-took (c .before .before .before .before .before .before .before .before .before .before .before .before .before .before .before .before .before .before .before .before .rest-at2 .ensures) (c .before .before .before .before .before .before .before .before .before .before .before .before .before .before .before .before .before .before .before .whitespace02 .ensures)) (on _ (tag-took (c .before .before .before .before .before .before .before .before .before .before .before .before .before .before .before .before .before .before .rest-at3 .ensures) (c .before .before .before .before .before .before .before .before .before .before .before .before .before .before .before .opening .given .1) 40 (c .before .before .before .before .before .before .before .before .before .before .before .before .before .before .before .before .before .tag .ensures)) (on _ (blank-took (c .before .before .before .before .before .before .before .before .before .before .before .before .before .rest-at4 .ensures) (c .before .before .before .before .before .before .before .before .before .before .before .before .whitespace03 .ensures)) (go _ ((read-as (c .before .before .before .before .before .before .before .before .before .before .access-entries .ensures) (c .before .before .before .before .before .before .before .before .entries .given .1) entries-onward (c .before .before .before .before .before .before .before .before .before .before .before .rest-at5 .ensures) refl) .step) (on _ (blank-took (c .before .before .before .before .before .before .rest-at6 .ensures) (c .before .before .before .before .before .whitespace04 .ensures)) (on _ (tag-took (c .before .before .before .before .rest-at7 .ensures) (c .before .closing .given .1) 41 (c .before .before .before .tag2 .ensures)) (done _ _ _ _))))))))))
+returns-5 c = list-is no-grants _ (read-as (c .before .before .before .before .before .before .before .access-entries .ensures) (c .before .before .before .before .before .entries .given .1) entries-onward (c .before .before .before .before .before .before .before .before .rest-at .ensures) refl) (list-small no-grants (separated-list0 comma access-entry) (c .before .before .before .before .before .before .before .access-entries .ensures) (c .before .before .before .before .before .entries .given .1)) (begin (access-list) _ _ (pair-on _ _ _ (keyword-behind-took (ascii "access") (c .before .before .before .before .before .before .before .before .before .before .before .before .before .before .before .access .given .1) (c .before .before .before .before .before .before .before .before .before .before .before .before .before .before .before .before .before .keyword-behind .ensures)) (pair-on _ _ _ (tag-behind-took 40 (c .before .before .before .before .before .before .before .before .before .before .before .opening .given .1) (c .before .before .before .before .before .before .before .before .before .before .before .before .before .tag-behind .ensures)) (on _ (blank-at-took (c .before .before .before .before .before .before .before .before .before .blank-at .ensures)) (go _ ((read-as (c .before .before .before .before .before .before .before .access-entries .ensures) (c .before .before .before .before .before .entries .given .1) entries-onward (c .before .before .before .before .before .before .before .before .rest-at .ensures) refl) .step) (pair-on _ _ _ (tag-behind-took 41 (c .before .closing .given .1) (c .before .before .before .tag-behind2 .ensures)) (done _ _ _ _)))))))
 
 pub access-list-spec : {M : Type 1} → statement M
-access-list-spec =
-    tie.close
-    (tie.spec
-    whitespace0-requires
-    rest-at-requires
-    slice-aggregate-keyword
-    keyword-requires
-    enum-known-access
-    enum-told
-    step-lost-requires
-    returns
-    rest-at-requires-2
-    whitespace0-requires-2
-    rest-at-requires-3
-    tag-requires
-    enum-known-opening
-    enum-told-2
-    step-lost-requires-2
-    returns-2
-    rest-at-requires-4
-    whitespace0-requires-3
-    rest-at-requires-5
-    access-entries-requires
-    enum-known-entries
-    enum-told-3
-    list-lost-requires
-    returns-3
-    rest-at-requires-6
-    whitespace0-requires-4
-    rest-at-requires-7
-    tag-requires-2
-    enum-known-closing
-    enum-told-4
-    step-lost-requires-3
-    returns-4
-    returns-5)
+access-list-spec = tie.close (tie.spec slice-aggregate-keyword-behind keyword-behind-requires enum-known-access enum-told step-lost-requires returns tag-behind-requires enum-known-opening enum-told-2 step-lost-requires-2 returns-2 blank-at-requires rest-at-requires access-entries-requires enum-known-entries enum-told-3 list-lost-requires returns-3 tag-behind-requires-2 enum-known-closing enum-told-4 step-lost-requires-3 returns-4 returns-5)

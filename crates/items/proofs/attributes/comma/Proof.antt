@@ -3,16 +3,12 @@ use Rattle.items.proofs.attributes.comma.Statement.{statement}
 use Rattle.items.proofs.attributes.comma.Tie as tie
 use Rattle.items.specs.members.{comma}
 use native.Mathlib.Omega.{arith}
-use Rattle.lexing.proofs.Slicing.{rest-self, begin, on, fall, done, blank-took, tag-took, step-lost}
+use Rattle.lexing.proofs.Slicing.{begin, on, done}
+use Rattle.items.proofs.Pairs.{pair-on, pair-fall}
+use Rattle.items.proofs.steps.Laws.{blank-at-took, tag-behind-took, skips-lost}
 
-whitespace0-requires : tie.Need-whitespace0-requires
-whitespace0-requires c κs = search needs
-
-rest-at-requires : tie.Need-rest-at-requires
-rest-at-requires c κs = omega (arith, (blank-took (rest-self _ _) (c .whitespace0 .ensures)) .up, (blank-took (rest-self _ _) (c .whitespace0 .ensures)) .inside)
-
-tag-requires : tie.Need-tag-requires
-tag-requires c κs = omega (arith, c .rest-at .ensures .size, c .before .before .before .pre)
+tag-behind-requires : tie.Need-tag-behind-requires
+tag-behind-requires c κs = omega (arith, c .before .pre)
 
 enum-known-separator : tie.Need-enum-known-separator
 enum-known-separator c = search needs
@@ -25,29 +21,14 @@ step-lost-requires c κs = search needs
 
 returns : tie.Need-returns
 unfolding comma
-returns c = (begin (comma) _ _ (on _ (blank-took (rest-self _ _) (c .before .before .before .before .before .whitespace0 .ensures)) (fall _ _ (c .step-lost .result) (c .before .before .before .before .rest-at .ensures) (step-lost (λ c. tt) (c .step-lost .ensures) (c .before .enum-told .given .1) _ _ _ (c .before .before .before .tag .ensures)))))
+returns c = (begin (comma) _ _ (pair-fall _ _ _ (c .step-lost .result) (c .before .before .before .tag-behind .ensures .at) (skips-lost (c .step-lost .ensures) (c .before .enum-told .given .1) (c .before .before .before .tag-behind .ensures))))
 
-rest-at-requires-2 : tie.Need-rest-at-requires-2
-rest-at-requires-2 c κs = omega (arith, (tag-took (c .before .before .before .before .rest-at .ensures) (c .before .separator .given .1) 44 (c .before .before .before .tag .ensures)) .up, (tag-took (c .before .before .before .before .rest-at .ensures) (c .before .separator .given .1) 44 (c .before .before .before .tag .ensures)) .inside, c .before .before .before .before .rest-at .ensures .from)
-
-whitespace0-requires-2 : tie.Need-whitespace0-requires-2
-whitespace0-requires-2 c κs = omega (arith, c .rest-at2 .ensures .size, c .before .before .before .before .before .before .before .before .pre)
+blank-at-requires : tie.Need-blank-at-requires
+blank-at-requires c κs = omega (arith, (tag-behind-took 44 (c .before .separator .given .1) (c .before .before .before .tag-behind .ensures)) .up, (tag-behind-took 44 (c .before .separator .given .1) (c .before .before .before .tag-behind .ensures)) .inside, c .before .before .before .before .before .pre)
 
 returns-2 : tie.Need-returns-2
 unfolding comma
-returns-2 c = (begin (comma) _ _ (on _ (blank-took (rest-self _ _) (c .before .before .before .before .before .before .before .whitespace0 .ensures)) (on _ (tag-took (c .before .before .before .before .before .before .rest-at .ensures) (c .before .before .before .separator .given .1) 44 (c .before .before .before .before .before .tag .ensures)) (on _ (blank-took (c .before .rest-at2 .ensures) (c .whitespace02 .ensures)) (done _ _ _ _)))))
+returns-2 c = (begin (comma) _ _ (pair-on _ _ _ (tag-behind-took 44 (c .before .before .separator .given .1) (c .before .before .before .before .tag-behind .ensures)) (on _ (blank-at-took (c .blank-at .ensures)) (done _ _ _ _))))
 
 pub comma-spec : {M : Type 1} → statement M
-comma-spec =
-    tie.close
-    (tie.spec
-    whitespace0-requires
-    rest-at-requires
-    tag-requires
-    enum-known-separator
-    enum-told
-    step-lost-requires
-    returns
-    rest-at-requires-2
-    whitespace0-requires-2
-    returns-2)
+comma-spec = tie.close (tie.spec tag-behind-requires enum-known-separator enum-told step-lost-requires returns blank-at-requires returns-2)

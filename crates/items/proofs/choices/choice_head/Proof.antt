@@ -6,8 +6,10 @@ use Rattle.items.proofs.choices.Laws.{name-more, choice-head-is, shared
 use mathlib.Core.Path.{refl}
 use native.Mathlib.Omega.{arith}
 use Rattle.lexing.specs.answers.{wordAt}
-use Rattle.lexing.proofs.Slicing.{rest-self, begin, go, on, lose, fall, done, blank-took, gap-took, word-took, keyword-took, tag-took, step-lost, gap-lost}
+use Rattle.lexing.proofs.Slicing.{rest-self, begin, go, on, lose, fall, done, word-took, keyword-took, step-lost}
 use Rattle.items.proofs.Answers.{read-not}
+use Rattle.items.proofs.Pairs.{pair-on, pair-fall}
+use Rattle.items.proofs.steps.Laws.{blank-at-took, gap-at-took, tag-behind-took, skips-lost}
 
 shared-before-requires : tie.Need-shared-before-requires
 shared-before-requires c κs = search needs
@@ -50,11 +52,8 @@ returns-2 : tie.Need-returns-2
 unfolding choice-head
 returns-2 c = read-not _ refl tt (begin (choice-head (c .before .before .before .before .before .before .before .before .before .before .before .before .before .args .key .now)) _ _ (go _ ((shared-took (c .before .before .before .before .before .before .before .before .before .before .shared-before .ensures) (c .before .before .before .before .before .before .before .before .optional .ensures) (c .before .before .before .before .before .before .before .before .before .is-there .ensures) (rest-self _ _) (c .before .before .before .before .before .before .o .given .1)) .step) (fall _ _ (c .step-lost2 .result) (c .before .before .before .before .rest-at .ensures) (step-lost (wordAt _ _) (c .step-lost2 .ensures) (c .before .enum-told2 .given .1) _ _ _ (c .before .before .before .keyword .ensures)))))
 
-rest-at-requires-2 : tie.Need-rest-at-requires-2
-rest-at-requires-2 c κs = omega (arith, (keyword-took (c .before .before .before .before .rest-at .ensures) (c .before .word .given .1) _ (c .before .before .before .keyword .ensures)) .up, (keyword-took (c .before .before .before .before .rest-at .ensures) (c .before .word .given .1) _ (c .before .before .before .keyword .ensures)) .inside, c .before .before .before .before .rest-at .ensures .from)
-
-whitespace1-requires : tie.Need-whitespace1-requires
-whitespace1-requires c κs = omega (arith, c .rest-at2 .ensures .size, c .before .before .before .before .before .before .before .before .before .before .before .before .before .before .pre)
+gap-at-requires : tie.Need-gap-at-requires
+gap-at-requires c κs = omega (arith, (keyword-took (c .before .before .before .before .rest-at .ensures) (c .before .word .given .1) _ (c .before .before .before .keyword .ensures)) .up, (keyword-took (c .before .before .before .before .rest-at .ensures) (c .before .word .given .1) _ (c .before .before .before .keyword .ensures)) .inside, c .before .before .before .before .rest-at .ensures .from, c .before .before .before .before .before .before .before .before .before .before .before .before .before .pre)
 
 enum-known-gap : tie.Need-enum-known-gap
 enum-known-gap c = search needs
@@ -62,18 +61,18 @@ enum-known-gap c = search needs
 enum-told-3 : tie.Need-enum-told-3
 enum-told-3 c = search needs
 
-gap-lost-requires : tie.Need-gap-lost-requires
-gap-lost-requires c κs = search needs
+step-lost-requires-3 : tie.Need-step-lost-requires-3
+step-lost-requires-3 c κs = search needs
 
 returns-3 : tie.Need-returns-3
 unfolding choice-head
-returns-3 c = read-not _ refl tt (begin (choice-head (c .before .before .before .before .before .before .before .before .before .before .before .before .before .before .before .before .before .before .args .key .now)) _ _ (go _ ((shared-took (c .before .before .before .before .before .before .before .before .before .before .before .before .before .before .before .shared-before .ensures) (c .before .before .before .before .before .before .before .before .before .before .before .before .before .optional .ensures) (c .before .before .before .before .before .before .before .before .before .before .before .before .before .before .is-there .ensures) (rest-self _ _) (c .before .before .before .before .before .before .before .before .before .before .before .o .given .1)) .step) (on _ (keyword-took (c .before .before .before .before .before .before .before .before .before .rest-at .ensures) (c .before .before .before .before .before .before .word .given .1) _ (c .before .before .before .before .before .before .before .before .keyword .ensures)) (fall _ _ (c .gap-lost .result) (c .before .before .before .before .rest-at2 .ensures) (gap-lost (c .gap-lost .ensures) (c .before .enum-told3 .given .1) _ _ _ (c .before .before .before .whitespace1 .ensures))))))
+returns-3 c = read-not _ refl tt (begin (choice-head (c .before .before .before .before .before .before .before .before .before .before .before .before .before .before .before .before .before .args .key .now)) _ _ (go _ ((shared-took (c .before .before .before .before .before .before .before .before .before .before .before .before .before .before .shared-before .ensures) (c .before .before .before .before .before .before .before .before .before .before .before .before .optional .ensures) (c .before .before .before .before .before .before .before .before .before .before .before .before .before .is-there .ensures) (rest-self _ _) (c .before .before .before .before .before .before .before .before .before .before .o .given .1)) .step) (on _ (keyword-took (c .before .before .before .before .before .before .before .before .rest-at .ensures) (c .before .before .before .before .before .word .given .1) _ (c .before .before .before .before .before .before .before .keyword .ensures)) (fall _ _ (c .step-lost3 .result) (c .before .before .before .gap-at .ensures .at) (skips-lost (c .step-lost3 .ensures) (c .before .enum-told3 .given .1) (c .before .before .before .gap-at .ensures))))))
 
-rest-at-requires-3 : tie.Need-rest-at-requires-3
-rest-at-requires-3 c κs = omega (arith, (gap-took (c .before .before .before .before .rest-at2 .ensures) (c .before .gap .given .1) (c .before .before .before .whitespace1 .ensures)) .up, (gap-took (c .before .before .before .before .rest-at2 .ensures) (c .before .gap .given .1) (c .before .before .before .whitespace1 .ensures)) .inside, c .before .before .before .before .rest-at2 .ensures .from)
+rest-at-requires-2 : tie.Need-rest-at-requires-2
+rest-at-requires-2 c κs = omega (arith, (gap-at-took (c .before .gap .given .1) (c .before .before .before .gap-at .ensures)) .up, (gap-at-took (c .before .gap .given .1) (c .before .before .before .gap-at .ensures)) .inside, c .before .before .before .gap-at .ensures .at .from)
 
 parse-id-requires : tie.Need-parse-id-requires
-parse-id-requires c κs = omega (arith, c .rest-at3 .ensures .size, c .before .before .before .before .before .before .before .before .before .before .before .before .before .before .before .before .before .before .before .pre)
+parse-id-requires c κs = omega (arith, c .rest-at2 .ensures .size, c .before .before .before .before .before .before .before .before .before .before .before .before .before .before .before .before .before .before .pre)
 
 enum-known-name : tie.Need-enum-known-name
 enum-known-name c = search needs
@@ -81,24 +80,15 @@ enum-known-name c = search needs
 enum-told-4 : tie.Need-enum-told-4
 enum-told-4 c = search needs
 
-step-lost-requires-3 : tie.Need-step-lost-requires-3
-step-lost-requires-3 c κs = search needs
+step-lost-requires-4 : tie.Need-step-lost-requires-4
+step-lost-requires-4 c κs = search needs
 
 returns-4 : tie.Need-returns-4
 unfolding choice-head
-returns-4 c = read-not _ refl tt (begin (choice-head (c .before .before .before .before .before .before .before .before .before .before .before .before .before .before .before .before .before .before .before .before .before .before .before .args .key .now)) _ _ (go _ ((shared-took (c .before .before .before .before .before .before .before .before .before .before .before .before .before .before .before .before .before .before .before .before .shared-before .ensures) (c .before .before .before .before .before .before .before .before .before .before .before .before .before .before .before .before .before .before .optional .ensures) (c .before .before .before .before .before .before .before .before .before .before .before .before .before .before .before .before .before .before .before .is-there .ensures) (rest-self _ _) (c .before .before .before .before .before .before .before .before .before .before .before .before .before .before .before .before .o .given .1)) .step) (on _ (keyword-took (c .before .before .before .before .before .before .before .before .before .before .before .before .before .before .rest-at .ensures) (c .before .before .before .before .before .before .before .before .before .before .before .word .given .1) _ (c .before .before .before .before .before .before .before .before .before .before .before .before .before .keyword .ensures)) (on _ (gap-took (c .before .before .before .before .before .before .before .before .before .rest-at2 .ensures) (c .before .before .before .before .before .before .gap .given .1) (c .before .before .before .before .before .before .before .before .whitespace1 .ensures)) (lose _ _ (c .step-lost3 .result) (c .before .before .before .before .rest-at3 .ensures) (step-lost (wordAt _ _) (c .step-lost3 .ensures) (c .before .enum-told4 .given .1) _ _ _ (c .before .before .before .parse-id .ensures)))))))
+returns-4 c = read-not _ refl tt (begin (choice-head (c .before .before .before .before .before .before .before .before .before .before .before .before .before .before .before .before .before .before .before .before .before .before .args .key .now)) _ _ (go _ ((shared-took (c .before .before .before .before .before .before .before .before .before .before .before .before .before .before .before .before .before .before .before .shared-before .ensures) (c .before .before .before .before .before .before .before .before .before .before .before .before .before .before .before .before .before .optional .ensures) (c .before .before .before .before .before .before .before .before .before .before .before .before .before .before .before .before .before .before .is-there .ensures) (rest-self _ _) (c .before .before .before .before .before .before .before .before .before .before .before .before .before .before .before .o .given .1)) .step) (on _ (keyword-took (c .before .before .before .before .before .before .before .before .before .before .before .before .before .rest-at .ensures) (c .before .before .before .before .before .before .before .before .before .before .word .given .1) _ (c .before .before .before .before .before .before .before .before .before .before .before .before .keyword .ensures)) (on _ (gap-at-took (c .before .before .before .before .before .before .gap .given .1) (c .before .before .before .before .before .before .before .before .gap-at .ensures)) (lose _ _ (c .step-lost4 .result) (c .before .before .before .before .rest-at2 .ensures) (step-lost (wordAt _ _) (c .step-lost4 .ensures) (c .before .enum-told4 .given .1) _ _ _ (c .before .before .before .parse-id .ensures)))))))
 
-rest-at-requires-4 : tie.Need-rest-at-requires-4
-rest-at-requires-4 c κs = omega (arith, (word-took (c .before .before .before .before .rest-at3 .ensures) (c .before .name .given .1) (c .before .before .before .parse-id .ensures)) .up, (word-took (c .before .before .before .before .rest-at3 .ensures) (c .before .name .given .1) (c .before .before .before .parse-id .ensures)) .inside, c .before .before .before .before .rest-at3 .ensures .from)
-
-whitespace0-requires : tie.Need-whitespace0-requires
-whitespace0-requires c κs = omega (arith, c .rest-at4 .ensures .size, c .before .before .before .before .before .before .before .before .before .before .before .before .before .before .before .before .before .before .before .before .before .before .before .before .pre)
-
-rest-at-requires-5 : tie.Need-rest-at-requires-5
-rest-at-requires-5 c κs = omega (arith, (blank-took (c .before .rest-at4 .ensures) (c .whitespace0 .ensures)) .up, (blank-took (c .before .rest-at4 .ensures) (c .whitespace0 .ensures)) .inside, c .before .rest-at4 .ensures .from)
-
-tag-requires : tie.Need-tag-requires
-tag-requires c κs = omega (arith, c .rest-at5 .ensures .size, c .before .before .before .before .before .before .before .before .before .before .before .before .before .before .before .before .before .before .before .before .before .before .before .before .before .before .pre)
+tag-behind-requires : tie.Need-tag-behind-requires
+tag-behind-requires c κs = omega (arith, (word-took (c .before .before .before .before .rest-at2 .ensures) (c .before .name .given .1) (c .before .before .before .parse-id .ensures)) .up, (word-took (c .before .before .before .before .rest-at2 .ensures) (c .before .name .given .1) (c .before .before .before .parse-id .ensures)) .inside, c .before .before .before .before .rest-at2 .ensures .from, c .before .before .before .before .before .before .before .before .before .before .before .before .before .before .before .before .before .before .before .before .before .before .pre)
 
 enum-known-colon : tie.Need-enum-known-colon
 enum-known-colon c = search needs
@@ -106,24 +96,21 @@ enum-known-colon c = search needs
 enum-told-5 : tie.Need-enum-told-5
 enum-told-5 c = search needs
 
-step-lost-requires-4 : tie.Need-step-lost-requires-4
-step-lost-requires-4 c κs = search needs
+step-lost-requires-5 : tie.Need-step-lost-requires-5
+step-lost-requires-5 c κs = search needs
 
 returns-5 : tie.Need-returns-5
 unfolding choice-head
-returns-5 c = read-not _ refl tt (begin (choice-head (c .before .before .before .before .before .before .before .before .before .before .before .before .before .before .before .before .before .before .before .before .before .before .before .before .before .before .before .before .before .before .args .key .now)) _ _ (go _ ((shared-took (c .before .before .before .before .before .before .before .before .before .before .before .before .before .before .before .before .before .before .before .before .before .before .before .before .before .before .before .shared-before .ensures) (c .before .before .before .before .before .before .before .before .before .before .before .before .before .before .before .before .before .before .before .before .before .before .before .before .before .optional .ensures) (c .before .before .before .before .before .before .before .before .before .before .before .before .before .before .before .before .before .before .before .before .before .before .before .before .before .before .is-there .ensures) (rest-self _ _) (c .before .before .before .before .before .before .before .before .before .before .before .before .before .before .before .before .before .before .before .before .before .before .before .o .given .1)) .step) (on _ (keyword-took (c .before .before .before .before .before .before .before .before .before .before .before .before .before .before .before .before .before .before .before .before .before .rest-at .ensures) (c .before .before .before .before .before .before .before .before .before .before .before .before .before .before .before .before .before .before .word .given .1) _ (c .before .before .before .before .before .before .before .before .before .before .before .before .before .before .before .before .before .before .before .before .keyword .ensures)) (on _ (gap-took (c .before .before .before .before .before .before .before .before .before .before .before .before .before .before .before .before .rest-at2 .ensures) (c .before .before .before .before .before .before .before .before .before .before .before .before .before .gap .given .1) (c .before .before .before .before .before .before .before .before .before .before .before .before .before .before .before .whitespace1 .ensures)) (go _ (word-took (c .before .before .before .before .before .before .before .before .before .before .before .rest-at3 .ensures) (c .before .before .before .before .before .before .before .before .name .given .1) (c .before .before .before .before .before .before .before .before .before .before .parse-id .ensures)) (on _ (blank-took (c .before .before .before .before .before .before .rest-at4 .ensures) (c .before .before .before .before .before .whitespace0 .ensures)) (fall _ _ (c .step-lost4 .result) (c .before .before .before .before .rest-at5 .ensures) (step-lost (λ c. tt) (c .step-lost4 .ensures) (c .before .enum-told5 .given .1) _ _ _ (c .before .before .before .tag .ensures)))))))))
+returns-5 c = read-not _ refl tt (begin (choice-head (c .before .before .before .before .before .before .before .before .before .before .before .before .before .before .before .before .before .before .before .before .before .before .before .before .before .before .args .key .now)) _ _ (go _ ((shared-took (c .before .before .before .before .before .before .before .before .before .before .before .before .before .before .before .before .before .before .before .before .before .before .before .shared-before .ensures) (c .before .before .before .before .before .before .before .before .before .before .before .before .before .before .before .before .before .before .before .before .before .optional .ensures) (c .before .before .before .before .before .before .before .before .before .before .before .before .before .before .before .before .before .before .before .before .before .before .is-there .ensures) (rest-self _ _) (c .before .before .before .before .before .before .before .before .before .before .before .before .before .before .before .before .before .before .before .o .given .1)) .step) (on _ (keyword-took (c .before .before .before .before .before .before .before .before .before .before .before .before .before .before .before .before .before .rest-at .ensures) (c .before .before .before .before .before .before .before .before .before .before .before .before .before .before .word .given .1) _ (c .before .before .before .before .before .before .before .before .before .before .before .before .before .before .before .before .keyword .ensures)) (on _ (gap-at-took (c .before .before .before .before .before .before .before .before .before .before .gap .given .1) (c .before .before .before .before .before .before .before .before .before .before .before .before .gap-at .ensures)) (go _ (word-took (c .before .before .before .before .before .before .before .before .rest-at2 .ensures) (c .before .before .before .before .before .name .given .1) (c .before .before .before .before .before .before .before .parse-id .ensures)) (pair-fall _ _ _ (c .step-lost5 .result) (c .before .before .before .tag-behind .ensures .at) (skips-lost (c .step-lost5 .ensures) (c .before .enum-told5 .given .1) (c .before .before .before .tag-behind .ensures))))))))
 
-rest-at-requires-6 : tie.Need-rest-at-requires-6
-rest-at-requires-6 c κs = omega (arith, (tag-took (c .before .before .before .before .rest-at5 .ensures) (c .before .colon .given .1) 58 (c .before .before .before .tag .ensures)) .up, (tag-took (c .before .before .before .before .rest-at5 .ensures) (c .before .colon .given .1) 58 (c .before .before .before .tag .ensures)) .inside, c .before .before .before .before .rest-at5 .ensures .from)
+blank-at-requires : tie.Need-blank-at-requires
+blank-at-requires c κs = omega (arith, (tag-behind-took 58 (c .before .colon .given .1) (c .before .before .before .tag-behind .ensures)) .up, (tag-behind-took 58 (c .before .colon .given .1) (c .before .before .before .tag-behind .ensures)) .inside, c .before .before .before .tag-behind .ensures .at .from, c .before .before .before .before .before .before .before .before .before .before .before .before .before .before .before .before .before .before .before .before .before .before .before .before .before .before .pre)
 
-whitespace0-requires-2 : tie.Need-whitespace0-requires-2
-whitespace0-requires-2 c κs = omega (arith, c .rest-at6 .ensures .size, c .before .before .before .before .before .before .before .before .before .before .before .before .before .before .before .before .before .before .before .before .before .before .before .before .before .before .before .before .before .before .before .pre)
-
-rest-at-requires-7 : tie.Need-rest-at-requires-7
-rest-at-requires-7 c κs = omega (arith, (blank-took (c .before .rest-at6 .ensures) (c .whitespace02 .ensures)) .up, (blank-took (c .before .rest-at6 .ensures) (c .whitespace02 .ensures)) .inside, c .before .rest-at6 .ensures .from)
+rest-at-requires-3 : tie.Need-rest-at-requires-3
+rest-at-requires-3 c κs = omega (arith, (blank-at-took (c .blank-at .ensures)) .up, (blank-at-took (c .blank-at .ensures)) .inside, c .blank-at .ensures .at .from)
 
 parse-id-requires-2 : tie.Need-parse-id-requires-2
-parse-id-requires-2 c κs = omega (arith, c .rest-at7 .ensures .size, c .before .before .before .before .before .before .before .before .before .before .before .before .before .before .before .before .before .before .before .before .before .before .before .before .before .before .before .before .before .before .before .before .before .pre)
+parse-id-requires-2 c κs = omega (arith, c .rest-at3 .ensures .size, c .before .before .before .before .before .before .before .before .before .before .before .before .before .before .before .before .before .before .before .before .before .before .before .before .before .before .before .before .pre)
 
 enum-known-kind : tie.Need-enum-known-kind
 enum-known-kind c = search needs
@@ -131,68 +118,19 @@ enum-known-kind c = search needs
 enum-told-6 : tie.Need-enum-told-6
 enum-told-6 c = search needs
 
-step-lost-requires-5 : tie.Need-step-lost-requires-5
-step-lost-requires-5 c κs = search needs
+step-lost-requires-6 : tie.Need-step-lost-requires-6
+step-lost-requires-6 c κs = search needs
 
 returns-6 : tie.Need-returns-6
 unfolding choice-head
-returns-6 c = read-not _ refl tt (begin (choice-head (c .before .before .before .before .before .before .before .before .before .before .before .before .before .before .before .before .before .before .before .before .before .before .before .before .before .before .before .before .before .before .before .before .before .before .before .before .before .args .key .now)) _ _ (go _ ((shared-took (c .before .before .before .before .before .before .before .before .before .before .before .before .before .before .before .before .before .before .before .before .before .before .before .before .before .before .before .before .before .before .before .before .before .before .shared-before .ensures) (c .before .before .before .before .before .before .before .before .before .before .before .before .before .before .before .before .before .before .before .before .before .before .before .before .before .before .before .before .before .before .before .before .optional .ensures) (c .before .before .before .before .before .before .before .before .before .before .before .before .before .before .before .before .before .before .before .before .before .before .before .before .before .before .before .before .before .before .before .before .before .is-there .ensures) (rest-self _ _) (c .before .before .before .before .before .before .before .before .before .before .before .before .before .before .before .before .before .before .before .before .before .before .before .before .before .before .before .before .before .before .o .given .1)) .step) (on _ (keyword-took (c .before .before .before .before .before .before .before .before .before .before .before .before .before .before .before .before .before .before .before .before .before .before .before .before .before .before .before .before .rest-at .ensures) (c .before .before .before .before .before .before .before .before .before .before .before .before .before .before .before .before .before .before .before .before .before .before .before .before .before .word .given .1) _ (c .before .before .before .before .before .before .before .before .before .before .before .before .before .before .before .before .before .before .before .before .before .before .before .before .before .before .before .keyword .ensures)) (on _ (gap-took (c .before .before .before .before .before .before .before .before .before .before .before .before .before .before .before .before .before .before .before .before .before .before .before .rest-at2 .ensures) (c .before .before .before .before .before .before .before .before .before .before .before .before .before .before .before .before .before .before .before .before .gap .given .1) (c .before .before .before .before .before .before .before .before .before .before .before .before .before .before .before .before .before .before .before .before .before .before .whitespace1 .ensures)) (go _ (word-took (c .before .before .before .before .before .before .before .before .before .before .before .before .before .before .before .before .before .before .rest-at3 .ensures) (c .before .before .before .before .before .before .before .before .before .before .before .before .before .before .before .name .given .1) (c .before .before .before .before .before .before .before .before .before .before .before .before .before .before .before .before .before .parse-id .ensures)) (on _ (blank-took (c .before .before .before .before .before .before .before .before .before .before .before .before .before .rest-at4 .ensures) (c .before .before .before .before .before .before .before .before .before .before .before .before .whitespace0 .ensures)) (on _ (tag-took (c .before .before .before .before .before .before .before .before .before .before .before .rest-at5 .ensures) (c .before .before .before .before .before .before .before .before .colon .given .1) 58 (c .before .before .before .before .before .before .before .before .before .before .tag .ensures)) (on _ (blank-took (c .before .before .before .before .before .before .rest-at6 .ensures) (c .before .before .before .before .before .whitespace02 .ensures)) (lose _ _ (c .step-lost5 .result) (c .before .before .before .before .rest-at7 .ensures) (step-lost (wordAt _ _) (c .step-lost5 .ensures) (c .before .enum-told6 .given .1) _ _ _ (c .before .before .before .parse-id2 .ensures)))))))))))
+returns-6 c = read-not _ refl tt (begin (choice-head (c .before .before .before .before .before .before .before .before .before .before .before .before .before .before .before .before .before .before .before .before .before .before .before .before .before .before .before .before .before .before .before .before .args .key .now)) _ _ (go _ ((shared-took (c .before .before .before .before .before .before .before .before .before .before .before .before .before .before .before .before .before .before .before .before .before .before .before .before .before .before .before .before .before .shared-before .ensures) (c .before .before .before .before .before .before .before .before .before .before .before .before .before .before .before .before .before .before .before .before .before .before .before .before .before .before .before .optional .ensures) (c .before .before .before .before .before .before .before .before .before .before .before .before .before .before .before .before .before .before .before .before .before .before .before .before .before .before .before .before .is-there .ensures) (rest-self _ _) (c .before .before .before .before .before .before .before .before .before .before .before .before .before .before .before .before .before .before .before .before .before .before .before .before .before .o .given .1)) .step) (on _ (keyword-took (c .before .before .before .before .before .before .before .before .before .before .before .before .before .before .before .before .before .before .before .before .before .before .before .rest-at .ensures) (c .before .before .before .before .before .before .before .before .before .before .before .before .before .before .before .before .before .before .before .before .word .given .1) _ (c .before .before .before .before .before .before .before .before .before .before .before .before .before .before .before .before .before .before .before .before .before .before .keyword .ensures)) (on _ (gap-at-took (c .before .before .before .before .before .before .before .before .before .before .before .before .before .before .before .before .gap .given .1) (c .before .before .before .before .before .before .before .before .before .before .before .before .before .before .before .before .before .before .gap-at .ensures)) (go _ (word-took (c .before .before .before .before .before .before .before .before .before .before .before .before .before .before .rest-at2 .ensures) (c .before .before .before .before .before .before .before .before .before .before .before .name .given .1) (c .before .before .before .before .before .before .before .before .before .before .before .before .before .parse-id .ensures)) (pair-on _ _ _ (tag-behind-took 58 (c .before .before .before .before .before .before .before .colon .given .1) (c .before .before .before .before .before .before .before .before .before .tag-behind .ensures)) (on _ (blank-at-took (c .before .before .before .before .before .blank-at .ensures)) (lose _ _ (c .step-lost6 .result) (c .before .before .before .before .rest-at3 .ensures) (step-lost (wordAt _ _) (c .step-lost6 .ensures) (c .before .enum-told6 .given .1) _ _ _ (c .before .before .before .parse-id2 .ensures))))))))))
 
-rest-at-requires-8 : tie.Need-rest-at-requires-8
-rest-at-requires-8 c κs = omega (arith, (word-took (c .before .before .before .before .rest-at7 .ensures) (c .before .kind .given .1) (c .before .before .before .parse-id2 .ensures)) .up, (word-took (c .before .before .before .before .rest-at7 .ensures) (c .before .kind .given .1) (c .before .before .before .parse-id2 .ensures)) .inside, c .before .before .before .before .rest-at7 .ensures .from)
-
-whitespace0-requires-3 : tie.Need-whitespace0-requires-3
-whitespace0-requires-3 c κs = omega (arith, c .rest-at8 .ensures .size, c .before .before .before .before .before .before .before .before .before .before .before .before .before .before .before .before .before .before .before .before .before .before .before .before .before .before .before .before .before .before .before .before .before .before .before .before .before .before .pre)
+blank-at-requires-2 : tie.Need-blank-at-requires-2
+blank-at-requires-2 c κs = omega (arith, (word-took (c .before .before .before .before .rest-at3 .ensures) (c .before .kind .given .1) (c .before .before .before .parse-id2 .ensures)) .up, (word-took (c .before .before .before .before .rest-at3 .ensures) (c .before .kind .given .1) (c .before .before .before .parse-id2 .ensures)) .inside, c .before .before .before .before .rest-at3 .ensures .from, c .before .before .before .before .before .before .before .before .before .before .before .before .before .before .before .before .before .before .before .before .before .before .before .before .before .before .before .before .before .before .before .before .pre)
 
 returns-7 : tie.Need-returns-7
 unfolding choice-head
-returns-7 c = choice-head-is _ _ _ _ _ ((shared-took (c .before .before .before .before .before .before .before .before .before .before .before .before .before .before .before .before .before .before .before .before .before .before .before .before .before .before .before .before .before .before .before .before .before .before .before .before .shared-before .ensures) (c .before .before .before .before .before .before .before .before .before .before .before .before .before .before .before .before .before .before .before .before .before .before .before .before .before .before .before .before .before .before .before .before .before .before .optional .ensures) (c .before .before .before .before .before .before .before .before .before .before .before .before .before .before .before .before .before .before .before .before .before .before .before .before .before .before .before .before .before .before .before .before .before .before .before .is-there .ensures) (rest-self _ _) (c .before .before .before .before .before .before .before .before .before .before .before .before .before .before .before .before .before .before .before .before .before .before .before .before .before .before .before .before .before .before .before .before .o .given .1)) .value) ((shared-took (c .before .before .before .before .before .before .before .before .before .before .before .before .before .before .before .before .before .before .before .before .before .before .before .before .before .before .before .before .before .before .before .before .before .before .before .before .shared-before .ensures) (c .before .before .before .before .before .before .before .before .before .before .before .before .before .before .before .before .before .before .before .before .before .before .before .before .before .before .before .before .before .before .before .before .before .before .optional .ensures) (c .before .before .before .before .before .before .before .before .before .before .before .before .before .before .before .before .before .before .before .before .before .before .before .before .before .before .before .before .before .before .before .before .before .before .before .is-there .ensures) (rest-self _ _) (c .before .before .before .before .before .before .before .before .before .before .before .before .before .before .before .before .before .before .before .before .before .before .before .before .before .before .before .before .before .before .before .before .o .given .1)) .is) (begin (choice-head (c .before .before .before .before .before .before .before .before .before .before .before .before .before .before .before .before .before .before .before .before .before .before .before .before .before .before .before .before .before .before .before .before .before .before .before .before .before .before .before .args .key .now)) _ _ (go _ ((shared-took (c .before .before .before .before .before .before .before .before .before .before .before .before .before .before .before .before .before .before .before .before .before .before .before .before .before .before .before .before .before .before .before .before .before .before .before .before .shared-before .ensures) (c .before .before .before .before .before .before .before .before .before .before .before .before .before .before .before .before .before .before .before .before .before .before .before .before .before .before .before .before .before .before .before .before .before .before .optional .ensures) (c .before .before .before .before .before .before .before .before .before .before .before .before .before .before .before .before .before .before .before .before .before .before .before .before .before .before .before .before .before .before .before .before .before .before .before .is-there .ensures) (rest-self _ _) (c .before .before .before .before .before .before .before .before .before .before .before .before .before .before .before .before .before .before .before .before .before .before .before .before .before .before .before .before .before .before .before .before .o .given .1)) .step) (on _ (keyword-took (c .before .before .before .before .before .before .before .before .before .before .before .before .before .before .before .before .before .before .before .before .before .before .before .before .before .before .before .before .before .before .rest-at .ensures) (c .before .before .before .before .before .before .before .before .before .before .before .before .before .before .before .before .before .before .before .before .before .before .before .before .before .before .before .word .given .1) _ (c .before .before .before .before .before .before .before .before .before .before .before .before .before .before .before .before .before .before .before .before .before .before .before .before .before .before .before .before .before .keyword .ensures)) (on _ (gap-took (c .before .before .before .before .before .before .before .before .before .before .before .before .before .before .before .before .before .before .before .before .before .before .before .before .before .rest-at2 .ensures) (c .before .before .before .before .before .before .before .before .before .before .before .before .before .before .before .before .before .before .before .before .before .before .gap .given .1) (c .before .before .before .before .before .before .before .before .before .before .before .before .before .before .before .before .before .before .before .before .before .before .before .before .whitespace1 .ensures)) (go _ (word-took (c .before .before .before .before .before .before .before .before .before .before .before .before .before .before .before .before .before .before .before .before .rest-at3 .ensures) (c .before .before .before .before .before .before .before .before .before .before .before .before .before .before .before .before .before .name .given .1) (c .before .before .before .before .before .before .before .before .before .before .before .before .before .before .before .before .before .before .before .parse-id .ensures)) (on _ (blank-took (c .before .before .before .before .before .before .before .before .before .before .before .before .before .before .before .rest-at4 .ensures) (c .before .before .before .before .before .before .before .before .before .before .before .before .before .before .whitespace0 .ensures)) (on _ (tag-took (c .before .before .before .before .before .before .before .before .before .before .before .before .before .rest-at5 .ensures) (c .before .before .before .before .before .before .before .before .before .before .colon .given .1) 58 (c .before .before .before .before .before .before .before .before .before .before .before .before .tag .ensures)) (on _ (blank-took (c .before .before .before .before .before .before .before .before .rest-at6 .ensures) (c .before .before .before .before .before .before .before .whitespace02 .ensures)) (go _ (word-took (c .before .before .before .before .before .before .rest-at7 .ensures) (c .before .before .before .kind .given .1) (c .before .before .before .before .before .parse-id2 .ensures)) (on _ (blank-took (c .before .rest-at8 .ensures) (c .whitespace03 .ensures)) (done _ _ _ _))))))))))) (record { name-from = c .before .before .before .before .before .before .before .before .before .before .before .before .before .before .before .before .before .before .before .before .rest-at3 .ensures .from; name-to = name-more (word-took (c .before .before .before .before .before .before .before .before .before .before .before .before .before .before .before .before .before .before .before .before .rest-at3 .ensures) (c .before .before .before .before .before .before .before .before .before .before .before .before .before .before .before .before .before .name .given .1) (c .before .before .before .before .before .before .before .before .before .before .before .before .before .before .before .before .before .before .before .parse-id .ensures)); base-from = omega (arith, (blank-took (c .before .before .before .before .before .before .before .before .before .before .before .before .before .before .before .rest-at4 .ensures) (c .before .before .before .before .before .before .before .before .before .before .before .before .before .before .whitespace0 .ensures)) .up, (tag-took (c .before .before .before .before .before .before .before .before .before .before .before .before .before .rest-at5 .ensures) (c .before .before .before .before .before .before .before .before .before .before .colon .given .1) 58 (c .before .before .before .before .before .before .before .before .before .before .before .before .tag .ensures)) .up, (blank-took (c .before .before .before .before .before .before .before .before .rest-at6 .ensures) (c .before .before .before .before .before .before .before .whitespace02 .ensures)) .up); base-to = (word-took (c .before .before .before .before .before .before .rest-at7 .ensures) (c .before .before .before .kind .given .1) (c .before .before .before .before .before .parse-id2 .ensures)) .up; before = (blank-took (c .before .rest-at8 .ensures) (c .whitespace03 .ensures)) .up })
+returns-7 c = choice-head-is _ _ _ _ _ ((shared-took (c .before .before .before .before .before .before .before .before .before .before .before .before .before .before .before .before .before .before .before .before .before .before .before .before .before .before .before .before .before .before .shared-before .ensures) (c .before .before .before .before .before .before .before .before .before .before .before .before .before .before .before .before .before .before .before .before .before .before .before .before .before .before .before .before .optional .ensures) (c .before .before .before .before .before .before .before .before .before .before .before .before .before .before .before .before .before .before .before .before .before .before .before .before .before .before .before .before .before .is-there .ensures) (rest-self _ _) (c .before .before .before .before .before .before .before .before .before .before .before .before .before .before .before .before .before .before .before .before .before .before .before .before .before .before .o .given .1)) .value) ((shared-took (c .before .before .before .before .before .before .before .before .before .before .before .before .before .before .before .before .before .before .before .before .before .before .before .before .before .before .before .before .before .before .shared-before .ensures) (c .before .before .before .before .before .before .before .before .before .before .before .before .before .before .before .before .before .before .before .before .before .before .before .before .before .before .before .before .optional .ensures) (c .before .before .before .before .before .before .before .before .before .before .before .before .before .before .before .before .before .before .before .before .before .before .before .before .before .before .before .before .before .is-there .ensures) (rest-self _ _) (c .before .before .before .before .before .before .before .before .before .before .before .before .before .before .before .before .before .before .before .before .before .before .before .before .before .before .o .given .1)) .is) (begin (choice-head (c .before .before .before .before .before .before .before .before .before .before .before .before .before .before .before .before .before .before .before .before .before .before .before .before .before .before .before .before .before .before .before .before .before .args .key .now)) _ _ (go _ ((shared-took (c .before .before .before .before .before .before .before .before .before .before .before .before .before .before .before .before .before .before .before .before .before .before .before .before .before .before .before .before .before .before .shared-before .ensures) (c .before .before .before .before .before .before .before .before .before .before .before .before .before .before .before .before .before .before .before .before .before .before .before .before .before .before .before .before .optional .ensures) (c .before .before .before .before .before .before .before .before .before .before .before .before .before .before .before .before .before .before .before .before .before .before .before .before .before .before .before .before .before .is-there .ensures) (rest-self _ _) (c .before .before .before .before .before .before .before .before .before .before .before .before .before .before .before .before .before .before .before .before .before .before .before .before .before .before .o .given .1)) .step) (on _ (keyword-took (c .before .before .before .before .before .before .before .before .before .before .before .before .before .before .before .before .before .before .before .before .before .before .before .before .rest-at .ensures) (c .before .before .before .before .before .before .before .before .before .before .before .before .before .before .before .before .before .before .before .before .before .word .given .1) _ (c .before .before .before .before .before .before .before .before .before .before .before .before .before .before .before .before .before .before .before .before .before .before .before .keyword .ensures)) (on _ (gap-at-took (c .before .before .before .before .before .before .before .before .before .before .before .before .before .before .before .before .before .gap .given .1) (c .before .before .before .before .before .before .before .before .before .before .before .before .before .before .before .before .before .before .before .gap-at .ensures)) (go _ (word-took (c .before .before .before .before .before .before .before .before .before .before .before .before .before .before .before .rest-at2 .ensures) (c .before .before .before .before .before .before .before .before .before .before .before .before .name .given .1) (c .before .before .before .before .before .before .before .before .before .before .before .before .before .before .parse-id .ensures)) (pair-on _ _ _ (tag-behind-took 58 (c .before .before .before .before .before .before .before .before .colon .given .1) (c .before .before .before .before .before .before .before .before .before .before .tag-behind .ensures)) (on _ (blank-at-took (c .before .before .before .before .before .before .blank-at .ensures)) (go _ (word-took (c .before .before .before .before .before .rest-at3 .ensures) (c .before .before .kind .given .1) (c .before .before .before .before .parse-id2 .ensures)) (on _ (blank-at-took (c .blank-at2 .ensures)) (done _ _ _ _)))))))))) (record { name-from = c .before .before .before .before .before .before .before .before .before .before .before .before .before .before .before .rest-at2 .ensures .from; name-to = name-more (word-took (c .before .before .before .before .before .before .before .before .before .before .before .before .before .before .before .rest-at2 .ensures) (c .before .before .before .before .before .before .before .before .before .before .before .before .name .given .1) (c .before .before .before .before .before .before .before .before .before .before .before .before .before .before .parse-id .ensures)); base-from = omega (arith, (tag-behind-took 58 (c .before .before .before .before .before .before .before .before .colon .given .1) (c .before .before .before .before .before .before .before .before .before .before .tag-behind .ensures)) .up, (blank-at-took (c .before .before .before .before .before .before .blank-at .ensures)) .up); base-to = (word-took (c .before .before .before .before .before .rest-at3 .ensures) (c .before .before .kind .given .1) (c .before .before .before .before .parse-id2 .ensures)) .up; before = (blank-at-took (c .blank-at2 .ensures)) .up })
 
 pub choice-head-spec : {M : Type 1} → statement M
-choice-head-spec =
-    tie.close
-    (tie.spec
-    shared-before-requires
-    is-there-requires
-    optional-requires
-    enum-known-o
-    enum-told
-    step-lost-requires
-    returns
-    rest-at-requires
-    keyword-requires
-    enum-known-word
-    enum-told-2
-    step-lost-requires-2
-    returns-2
-    rest-at-requires-2
-    whitespace1-requires
-    enum-known-gap
-    enum-told-3
-    gap-lost-requires
-    returns-3
-    rest-at-requires-3
-    parse-id-requires
-    enum-known-name
-    enum-told-4
-    step-lost-requires-3
-    returns-4
-    rest-at-requires-4
-    whitespace0-requires
-    rest-at-requires-5
-    tag-requires
-    enum-known-colon
-    enum-told-5
-    step-lost-requires-4
-    returns-5
-    rest-at-requires-6
-    whitespace0-requires-2
-    rest-at-requires-7
-    parse-id-requires-2
-    enum-known-kind
-    enum-told-6
-    step-lost-requires-5
-    returns-6
-    rest-at-requires-8
-    whitespace0-requires-3
-    returns-7)
+choice-head-spec = tie.close (tie.spec shared-before-requires is-there-requires optional-requires enum-known-o enum-told step-lost-requires returns rest-at-requires keyword-requires enum-known-word enum-told-2 step-lost-requires-2 returns-2 gap-at-requires enum-known-gap enum-told-3 step-lost-requires-3 returns-3 rest-at-requires-2 parse-id-requires enum-known-name enum-told-4 step-lost-requires-4 returns-4 tag-behind-requires enum-known-colon enum-told-5 step-lost-requires-5 returns-5 blank-at-requires rest-at-requires-3 parse-id-requires-2 enum-known-kind enum-told-6 step-lost-requires-6 returns-6 blank-at-requires-2 returns-7)

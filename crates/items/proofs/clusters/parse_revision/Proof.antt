@@ -6,8 +6,10 @@ use mathlib.Core.Path.{refl}
 use native.Mathlib.Omega.{arith}
 use Rattle.lexing.specs.bytes.{ascii}
 use Rattle.lexing.specs.answers.{wordAt}
-use Rattle.lexing.proofs.Slicing.{rest-self, begin, go, on, lose, fall, done, blank-took, gap-took, keyword-took, tag-took, integer-took, step-lost, gap-lost, integer-lost}
+use Rattle.lexing.proofs.Slicing.{rest-self, begin, go, on, lose, fall, done, keyword-took, integer-took, step-lost, integer-lost}
 use Rattle.items.proofs.Answers.{read-is, read-not}
+use Rattle.items.proofs.Pairs.{pair-on, pair-fall}
+use Rattle.items.proofs.steps.Laws.{gap-at-took, tag-behind-took, skips-lost}
 
 slice-aggregate-keyword : tie.Need-slice-aggregate-keyword
 slice-aggregate-keyword c = search needs
@@ -28,11 +30,8 @@ returns : tie.Need-returns
 unfolding parse-revision
 returns c = read-not _ refl tt (begin (parse-revision) _ _ (fall _ _ (c .step-lost .result) (rest-self _ _) (step-lost (wordAt _ _) (c .step-lost .ensures) (c .before .enum-told .given .1) _ _ _ (c .before .before .before .keyword .ensures))))
 
-rest-at-requires : tie.Need-rest-at-requires
-rest-at-requires c κs = omega (arith, (keyword-took (rest-self _ _) (c .before .key .given .1) (ascii "revision") (c .before .before .before .keyword .ensures)) .up, (keyword-took (rest-self _ _) (c .before .key .given .1) (ascii "revision") (c .before .before .before .keyword .ensures)) .inside)
-
-whitespace1-requires : tie.Need-whitespace1-requires
-whitespace1-requires c κs = omega (arith, c .rest-at .ensures .size, c .before .before .before .before .before .before .before .pre)
+gap-at-requires : tie.Need-gap-at-requires
+gap-at-requires c κs = omega (arith, (keyword-took (rest-self _ _) (c .before .key .given .1) (ascii "revision") (c .before .before .before .keyword .ensures)) .up, (keyword-took (rest-self _ _) (c .before .key .given .1) (ascii "revision") (c .before .before .before .keyword .ensures)) .inside, c .before .before .before .before .before .before .pre)
 
 enum-known-gap : tie.Need-enum-known-gap
 enum-known-gap c = search needs
@@ -40,18 +39,18 @@ enum-known-gap c = search needs
 enum-told-2 : tie.Need-enum-told-2
 enum-told-2 c = search needs
 
-gap-lost-requires : tie.Need-gap-lost-requires
-gap-lost-requires c κs = search needs
+step-lost-requires-2 : tie.Need-step-lost-requires-2
+step-lost-requires-2 c κs = search needs
 
 returns-2 : tie.Need-returns-2
 unfolding parse-revision
-returns-2 c = read-not _ refl tt (begin (parse-revision) _ _ (on _ (keyword-took (rest-self _ _) (c .before .before .before .before .before .before .key .given .1) (ascii "revision") (c .before .before .before .before .before .before .before .before .keyword .ensures)) (fall _ _ (c .gap-lost .result) (c .before .before .before .before .rest-at .ensures) (gap-lost (c .gap-lost .ensures) (c .before .enum-told2 .given .1) _ _ _ (c .before .before .before .whitespace1 .ensures)))))
+returns-2 c = read-not _ refl tt (begin (parse-revision) _ _ (on _ (keyword-took (rest-self _ _) (c .before .before .before .before .before .key .given .1) (ascii "revision") (c .before .before .before .before .before .before .before .keyword .ensures)) (fall _ _ (c .step-lost2 .result) (c .before .before .before .gap-at .ensures .at) (skips-lost (c .step-lost2 .ensures) (c .before .enum-told2 .given .1) (c .before .before .before .gap-at .ensures)))))
 
-rest-at-requires-2 : tie.Need-rest-at-requires-2
-rest-at-requires-2 c κs = omega (arith, (gap-took (c .before .before .before .before .rest-at .ensures) (c .before .gap .given .1) (c .before .before .before .whitespace1 .ensures)) .up, (gap-took (c .before .before .before .before .rest-at .ensures) (c .before .gap .given .1) (c .before .before .before .whitespace1 .ensures)) .inside, c .before .before .before .before .rest-at .ensures .from)
+rest-at-requires : tie.Need-rest-at-requires
+rest-at-requires c κs = omega (arith, (gap-at-took (c .before .gap .given .1) (c .before .before .before .gap-at .ensures)) .up, (gap-at-took (c .before .gap .given .1) (c .before .before .before .gap-at .ensures)) .inside, c .before .before .before .gap-at .ensures .at .from)
 
 positive-integer-requires : tie.Need-positive-integer-requires
-positive-integer-requires c κs = omega (arith, c .rest-at2 .ensures .size, c .before .before .before .before .before .before .before .before .before .before .before .before .pre)
+positive-integer-requires c κs = omega (arith, c .rest-at .ensures .size, c .before .before .before .before .before .before .before .before .before .before .before .pre)
 
 enum-known-number : tie.Need-enum-known-number
 enum-known-number c = search needs
@@ -64,19 +63,10 @@ number-lost-requires c κs = search needs
 
 returns-3 : tie.Need-returns-3
 unfolding parse-revision
-returns-3 c = read-not _ refl tt (begin (parse-revision) _ _ (on _ (keyword-took (rest-self _ _) (c .before .before .before .before .before .before .before .before .before .before .before .key .given .1) (ascii "revision") (c .before .before .before .before .before .before .before .before .before .before .before .before .before .keyword .ensures)) (on _ (gap-took (c .before .before .before .before .before .before .before .before .before .rest-at .ensures) (c .before .before .before .before .before .before .gap .given .1) (c .before .before .before .before .before .before .before .before .whitespace1 .ensures)) (lose _ _ (c .number-lost .result) (c .before .before .before .before .rest-at2 .ensures) (integer-lost (c .number-lost .ensures) (c .before .enum-told3 .given .1) _ _ _ (c .before .before .before .positive-integer .ensures))))))
+returns-3 c = read-not _ refl tt (begin (parse-revision) _ _ (on _ (keyword-took (rest-self _ _) (c .before .before .before .before .before .before .before .before .before .before .key .given .1) (ascii "revision") (c .before .before .before .before .before .before .before .before .before .before .before .before .keyword .ensures)) (on _ (gap-at-took (c .before .before .before .before .before .before .gap .given .1) (c .before .before .before .before .before .before .before .before .gap-at .ensures)) (lose _ _ (c .number-lost .result) (c .before .before .before .before .rest-at .ensures) (integer-lost (c .number-lost .ensures) (c .before .enum-told3 .given .1) _ _ _ (c .before .before .before .positive-integer .ensures))))))
 
-rest-at-requires-3 : tie.Need-rest-at-requires-3
-rest-at-requires-3 c κs = omega (arith, (integer-took (c .before .before .before .before .rest-at2 .ensures) (c .before .number .given .1) (c .before .before .before .positive-integer .ensures)) .up, (integer-took (c .before .before .before .before .rest-at2 .ensures) (c .before .number .given .1) (c .before .before .before .positive-integer .ensures)) .inside, c .before .before .before .before .rest-at2 .ensures .from)
-
-whitespace0-requires : tie.Need-whitespace0-requires
-whitespace0-requires c κs = omega (arith, c .rest-at3 .ensures .size, c .before .before .before .before .before .before .before .before .before .before .before .before .before .before .before .before .before .pre)
-
-rest-at-requires-4 : tie.Need-rest-at-requires-4
-rest-at-requires-4 c κs = omega (arith, (blank-took (c .before .rest-at3 .ensures) (c .whitespace0 .ensures)) .up, (blank-took (c .before .rest-at3 .ensures) (c .whitespace0 .ensures)) .inside, c .before .rest-at3 .ensures .from)
-
-tag-requires : tie.Need-tag-requires
-tag-requires c κs = omega (arith, c .rest-at4 .ensures .size, c .before .before .before .before .before .before .before .before .before .before .before .before .before .before .before .before .before .before .before .pre)
+tag-behind-requires : tie.Need-tag-behind-requires
+tag-behind-requires c κs = omega (arith, (integer-took (c .before .before .before .before .rest-at .ensures) (c .before .number .given .1) (c .before .before .before .positive-integer .ensures)) .up, (integer-took (c .before .before .before .before .rest-at .ensures) (c .before .number .given .1) (c .before .before .before .positive-integer .ensures)) .inside, c .before .before .before .before .rest-at .ensures .from, c .before .before .before .before .before .before .before .before .before .before .before .before .before .before .before .pre)
 
 enum-known-semicolon : tie.Need-enum-known-semicolon
 enum-known-semicolon c = search needs
@@ -84,45 +74,16 @@ enum-known-semicolon c = search needs
 enum-told-4 : tie.Need-enum-told-4
 enum-told-4 c = search needs
 
-step-lost-requires-2 : tie.Need-step-lost-requires-2
-step-lost-requires-2 c κs = search needs
+step-lost-requires-3 : tie.Need-step-lost-requires-3
+step-lost-requires-3 c κs = search needs
 
 returns-4 : tie.Need-returns-4
 unfolding parse-revision
-returns-4 c = read-not _ refl tt (begin (parse-revision) _ _ (on _ (keyword-took (rest-self _ _) (c .before .before .before .before .before .before .before .before .before .before .before .before .before .before .before .before .before .before .key .given .1) (ascii "revision") (c .before .before .before .before .before .before .before .before .before .before .before .before .before .before .before .before .before .before .before .before .keyword .ensures)) (on _ (gap-took (c .before .before .before .before .before .before .before .before .before .before .before .before .before .before .before .before .rest-at .ensures) (c .before .before .before .before .before .before .before .before .before .before .before .before .before .gap .given .1) (c .before .before .before .before .before .before .before .before .before .before .before .before .before .before .before .whitespace1 .ensures)) (go _ (integer-took (c .before .before .before .before .before .before .before .before .before .before .before .rest-at2 .ensures) (c .before .before .before .before .before .before .before .before .number .given .1) (c .before .before .before .before .before .before .before .before .before .before .positive-integer .ensures)) (on _ (blank-took (c .before .before .before .before .before .before .rest-at3 .ensures) (c .before .before .before .before .before .whitespace0 .ensures)) (fall _ _ (c .step-lost2 .result) (c .before .before .before .before .rest-at4 .ensures) (step-lost (λ c. tt) (c .step-lost2 .ensures) (c .before .enum-told4 .given .1) _ _ _ (c .before .before .before .tag .ensures))))))))
+returns-4 c = read-not _ refl tt (begin (parse-revision) _ _ (on _ (keyword-took (rest-self _ _) (c .before .before .before .before .before .before .before .before .before .before .before .before .before .before .key .given .1) (ascii "revision") (c .before .before .before .before .before .before .before .before .before .before .before .before .before .before .before .before .keyword .ensures)) (on _ (gap-at-took (c .before .before .before .before .before .before .before .before .before .before .gap .given .1) (c .before .before .before .before .before .before .before .before .before .before .before .before .gap-at .ensures)) (go _ (integer-took (c .before .before .before .before .before .before .before .before .rest-at .ensures) (c .before .before .before .before .before .number .given .1) (c .before .before .before .before .before .before .before .positive-integer .ensures)) (pair-fall _ _ _ (c .step-lost3 .result) (c .before .before .before .tag-behind .ensures .at) (skips-lost (c .step-lost3 .ensures) (c .before .enum-told4 .given .1) (c .before .before .before .tag-behind .ensures)))))))
 
 returns-5 : tie.Need-returns-5
 unfolding parse-revision
-returns-5 c = read-is refl (begin (parse-revision) _ _ (on _ (keyword-took (rest-self _ _) (c .before .before .before .before .before .before .before .before .before .before .before .before .before .before .before .before .before .before .key .given .1) (ascii "revision") (c .before .before .before .before .before .before .before .before .before .before .before .before .before .before .before .before .before .before .before .before .keyword .ensures)) (on _ (gap-took (c .before .before .before .before .before .before .before .before .before .before .before .before .before .before .before .before .rest-at .ensures) (c .before .before .before .before .before .before .before .before .before .before .before .before .before .gap .given .1) (c .before .before .before .before .before .before .before .before .before .before .before .before .before .before .before .whitespace1 .ensures)) (go _ (integer-took (c .before .before .before .before .before .before .before .before .before .before .before .rest-at2 .ensures) (c .before .before .before .before .before .before .before .before .number .given .1) (c .before .before .before .before .before .before .before .before .before .before .positive-integer .ensures)) (on _ (blank-took (c .before .before .before .before .before .before .rest-at3 .ensures) (c .before .before .before .before .before .whitespace0 .ensures)) (on _ (tag-took (c .before .before .before .before .rest-at4 .ensures) (c .before .semicolon .given .1) 59 (c .before .before .before .tag .ensures)) (done _ _ _ _))))))) tt
+returns-5 c = read-is refl (begin (parse-revision) _ _ (on _ (keyword-took (rest-self _ _) (c .before .before .before .before .before .before .before .before .before .before .before .before .before .before .key .given .1) (ascii "revision") (c .before .before .before .before .before .before .before .before .before .before .before .before .before .before .before .before .keyword .ensures)) (on _ (gap-at-took (c .before .before .before .before .before .before .before .before .before .before .gap .given .1) (c .before .before .before .before .before .before .before .before .before .before .before .before .gap-at .ensures)) (go _ (integer-took (c .before .before .before .before .before .before .before .before .rest-at .ensures) (c .before .before .before .before .before .number .given .1) (c .before .before .before .before .before .before .before .positive-integer .ensures)) (pair-on _ _ _ (tag-behind-took 59 (c .before .semicolon .given .1) (c .before .before .before .tag-behind .ensures)) (done _ _ _ _)))))) tt
 
 pub parse-revision-spec : {M : Type 1} → statement M
-parse-revision-spec =
-    tie.close
-    (tie.spec
-    slice-aggregate-keyword
-    keyword-requires
-    enum-known-key
-    enum-told
-    step-lost-requires
-    returns
-    rest-at-requires
-    whitespace1-requires
-    enum-known-gap
-    enum-told-2
-    gap-lost-requires
-    returns-2
-    rest-at-requires-2
-    positive-integer-requires
-    enum-known-number
-    enum-told-3
-    number-lost-requires
-    returns-3
-    rest-at-requires-3
-    whitespace0-requires
-    rest-at-requires-4
-    tag-requires
-    enum-known-semicolon
-    enum-told-4
-    step-lost-requires-2
-    returns-4
-    returns-5)
+parse-revision-spec = tie.close (tie.spec slice-aggregate-keyword keyword-requires enum-known-key enum-told step-lost-requires returns gap-at-requires enum-known-gap enum-told-2 step-lost-requires-2 returns-2 rest-at-requires positive-integer-requires enum-known-number enum-told-3 number-lost-requires returns-3 tag-behind-requires enum-known-semicolon enum-told-4 step-lost-requires-3 returns-4 returns-5)

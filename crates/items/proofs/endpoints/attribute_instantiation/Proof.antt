@@ -9,7 +9,9 @@ use mathlib.Core.Path.{refl}
 use native.Mathlib.Omega.{arith}
 use Rattle.lexing.specs.bytes.{ascii}
 use Rattle.lexing.specs.answers.{wordAt}
-use Rattle.lexing.proofs.Slicing.{rest-self, begin, go, on, lose, fall, done, blank-took, gap-took, word-took, keyword-took, tag-took, step-lost, gap-lost}
+use Rattle.lexing.proofs.Slicing.{rest-self, begin, go, on, lose, fall, done, word-took, keyword-took, step-lost}
+use Rattle.items.proofs.Pairs.{pair-on, pair-fall}
+use Rattle.items.proofs.steps.Laws.{gap-at-took, tag-behind-took, skips-lost}
 
 attribute-handling-type-requires : tie.Need-attribute-handling-type-requires
 attribute-handling-type-requires c κs = search needs
@@ -27,11 +29,8 @@ returns : tie.Need-returns
 unfolding attribute-instantiation
 returns c = read-not _ refl tt (begin (attribute-instantiation) _ _ (lose _ _ (c .handling-lost .result) (rest-self _ _) (read-lost (c .before .before .before .attribute-handling-type .ensures) (c .before .enum-told .given .1) handlingLost (c .handling-lost .ensures) refl)))
 
-rest-at-requires : tie.Need-rest-at-requires
-rest-at-requires c κs = omega (arith, (read-took (c .before .before .before .attribute-handling-type .ensures) (c .before .held .given .1) handling-on (rest-self _ _) refl) .up, (read-took (c .before .before .before .attribute-handling-type .ensures) (c .before .held .given .1) handling-on (rest-self _ _) refl) .inside)
-
-whitespace1-requires : tie.Need-whitespace1-requires
-whitespace1-requires c κs = omega (arith, c .rest-at .ensures .size, c .before .before .before .before .before .before .pre)
+gap-at-requires : tie.Need-gap-at-requires
+gap-at-requires c κs = omega (arith, (read-took (c .before .before .before .attribute-handling-type .ensures) (c .before .held .given .1) handling-on (rest-self _ _) refl) .up, (read-took (c .before .before .before .attribute-handling-type .ensures) (c .before .held .given .1) handling-on (rest-self _ _) refl) .inside, c .before .before .before .before .before .pre)
 
 enum-known-gap1 : tie.Need-enum-known-gap1
 enum-known-gap1 c = search needs
@@ -39,21 +38,21 @@ enum-known-gap1 c = search needs
 enum-told-2 : tie.Need-enum-told-2
 enum-told-2 c = search needs
 
-gap-lost-requires : tie.Need-gap-lost-requires
-gap-lost-requires c κs = search needs
+step-lost-requires : tie.Need-step-lost-requires
+step-lost-requires c κs = search needs
 
 returns-2 : tie.Need-returns-2
 unfolding attribute-instantiation
-returns-2 c = read-not _ refl tt (begin (attribute-instantiation) _ _ (go _ (read-took (c .before .before .before .before .before .before .before .before .attribute-handling-type .ensures) (c .before .before .before .before .before .before .held .given .1) handling-on (rest-self _ _) refl) (fall _ _ (c .gap-lost .result) (c .before .before .before .before .rest-at .ensures) (gap-lost (c .gap-lost .ensures) (c .before .enum-told2 .given .1) _ _ _ (c .before .before .before .whitespace1 .ensures)))))
+returns-2 c = read-not _ refl tt (begin (attribute-instantiation) _ _ (go _ (read-took (c .before .before .before .before .before .before .before .attribute-handling-type .ensures) (c .before .before .before .before .before .held .given .1) handling-on (rest-self _ _) refl) (fall _ _ (c .step-lost .result) (c .before .before .before .gap-at .ensures .at) (skips-lost (c .step-lost .ensures) (c .before .enum-told2 .given .1) (c .before .before .before .gap-at .ensures)))))
 
-rest-at-requires-2 : tie.Need-rest-at-requires-2
-rest-at-requires-2 c κs = omega (arith, (gap-took (c .before .before .before .before .rest-at .ensures) (c .before .gap1 .given .1) (c .before .before .before .whitespace1 .ensures)) .up, (gap-took (c .before .before .before .before .rest-at .ensures) (c .before .gap1 .given .1) (c .before .before .before .whitespace1 .ensures)) .inside, c .before .before .before .before .rest-at .ensures .from)
+rest-at-requires : tie.Need-rest-at-requires
+rest-at-requires c κs = omega (arith, (gap-at-took (c .before .gap1 .given .1) (c .before .before .before .gap-at .ensures)) .up, (gap-at-took (c .before .gap1 .given .1) (c .before .before .before .gap-at .ensures)) .inside, c .before .before .before .gap-at .ensures .at .from)
 
 slice-aggregate-keyword : tie.Need-slice-aggregate-keyword
 slice-aggregate-keyword c = search needs
 
 keyword-requires : tie.Need-keyword-requires
-keyword-requires c κs = omega (arith, c .before .rest-at2 .ensures .size, c .before .before .before .before .before .before .before .before .before .before .before .before .pre)
+keyword-requires c κs = omega (arith, c .before .rest-at .ensures .size, c .before .before .before .before .before .before .before .before .before .before .before .pre)
 
 enum-known-key : tie.Need-enum-known-key
 enum-known-key c = search needs
@@ -61,18 +60,15 @@ enum-known-key c = search needs
 enum-told-3 : tie.Need-enum-told-3
 enum-told-3 c = search needs
 
-step-lost-requires : tie.Need-step-lost-requires
-step-lost-requires c κs = search needs
+step-lost-requires-2 : tie.Need-step-lost-requires-2
+step-lost-requires-2 c κs = search needs
 
 returns-3 : tie.Need-returns-3
 unfolding attribute-instantiation
-returns-3 c = read-not _ refl tt (begin (attribute-instantiation) _ _ (go _ (read-took (c .before .before .before .before .before .before .before .before .before .before .before .before .before .before .attribute-handling-type .ensures) (c .before .before .before .before .before .before .before .before .before .before .before .before .held .given .1) handling-on (rest-self _ _) refl) (on _ (gap-took (c .before .before .before .before .before .before .before .before .before .before .rest-at .ensures) (c .before .before .before .before .before .before .before .gap1 .given .1) (c .before .before .before .before .before .before .before .before .before .whitespace1 .ensures)) (fall _ _ (c .step-lost .result) (c .before .before .before .before .before .rest-at2 .ensures) (step-lost (wordAt _ _) (c .step-lost .ensures) (c .before .enum-told3 .given .1) _ _ _ (c .before .before .before .keyword .ensures))))))
+returns-3 c = read-not _ refl tt (begin (attribute-instantiation) _ _ (go _ (read-took (c .before .before .before .before .before .before .before .before .before .before .before .before .before .attribute-handling-type .ensures) (c .before .before .before .before .before .before .before .before .before .before .before .held .given .1) handling-on (rest-self _ _) refl) (on _ (gap-at-took (c .before .before .before .before .before .before .before .gap1 .given .1) (c .before .before .before .before .before .before .before .before .before .gap-at .ensures)) (fall _ _ (c .step-lost2 .result) (c .before .before .before .before .before .rest-at .ensures) (step-lost (wordAt _ _) (c .step-lost2 .ensures) (c .before .enum-told3 .given .1) _ _ _ (c .before .before .before .keyword .ensures))))))
 
-rest-at-requires-3 : tie.Need-rest-at-requires-3
-rest-at-requires-3 c κs = omega (arith, (keyword-took (c .before .before .before .before .before .rest-at2 .ensures) (c .before .key .given .1) (ascii "attribute") (c .before .before .before .keyword .ensures)) .up, (keyword-took (c .before .before .before .before .before .rest-at2 .ensures) (c .before .key .given .1) (ascii "attribute") (c .before .before .before .keyword .ensures)) .inside, c .before .before .before .before .before .rest-at2 .ensures .from)
-
-whitespace1-requires-2 : tie.Need-whitespace1-requires-2
-whitespace1-requires-2 c κs = omega (arith, c .rest-at3 .ensures .size, c .before .before .before .before .before .before .before .before .before .before .before .before .before .before .before .before .before .pre)
+gap-at-requires-2 : tie.Need-gap-at-requires-2
+gap-at-requires-2 c κs = omega (arith, (keyword-took (c .before .before .before .before .before .rest-at .ensures) (c .before .key .given .1) (ascii "attribute") (c .before .before .before .keyword .ensures)) .up, (keyword-took (c .before .before .before .before .before .rest-at .ensures) (c .before .key .given .1) (ascii "attribute") (c .before .before .before .keyword .ensures)) .inside, c .before .before .before .before .before .rest-at .ensures .from, c .before .before .before .before .before .before .before .before .before .before .before .before .before .before .before .pre)
 
 enum-known-gap2 : tie.Need-enum-known-gap2
 enum-known-gap2 c = search needs
@@ -80,18 +76,18 @@ enum-known-gap2 c = search needs
 enum-told-4 : tie.Need-enum-told-4
 enum-told-4 c = search needs
 
-gap-lost-requires-2 : tie.Need-gap-lost-requires-2
-gap-lost-requires-2 c κs = search needs
+step-lost-requires-3 : tie.Need-step-lost-requires-3
+step-lost-requires-3 c κs = search needs
 
 returns-4 : tie.Need-returns-4
 unfolding attribute-instantiation
-returns-4 c = read-not _ refl tt (begin (attribute-instantiation) _ _ (go _ (read-took (c .before .before .before .before .before .before .before .before .before .before .before .before .before .before .before .before .before .before .before .attribute-handling-type .ensures) (c .before .before .before .before .before .before .before .before .before .before .before .before .before .before .before .before .before .held .given .1) handling-on (rest-self _ _) refl) (on _ (gap-took (c .before .before .before .before .before .before .before .before .before .before .before .before .before .before .before .rest-at .ensures) (c .before .before .before .before .before .before .before .before .before .before .before .before .gap1 .given .1) (c .before .before .before .before .before .before .before .before .before .before .before .before .before .before .whitespace1 .ensures)) (on _ (keyword-took (c .before .before .before .before .before .before .before .before .before .before .rest-at2 .ensures) (c .before .before .before .before .before .before .key .given .1) (ascii "attribute") (c .before .before .before .before .before .before .before .before .keyword .ensures)) (fall _ _ (c .gap-lost2 .result) (c .before .before .before .before .rest-at3 .ensures) (gap-lost (c .gap-lost2 .ensures) (c .before .enum-told4 .given .1) _ _ _ (c .before .before .before .whitespace12 .ensures)))))))
+returns-4 c = read-not _ refl tt (begin (attribute-instantiation) _ _ (go _ (read-took (c .before .before .before .before .before .before .before .before .before .before .before .before .before .before .before .before .before .attribute-handling-type .ensures) (c .before .before .before .before .before .before .before .before .before .before .before .before .before .before .before .held .given .1) handling-on (rest-self _ _) refl) (on _ (gap-at-took (c .before .before .before .before .before .before .before .before .before .before .before .gap1 .given .1) (c .before .before .before .before .before .before .before .before .before .before .before .before .before .gap-at .ensures)) (on _ (keyword-took (c .before .before .before .before .before .before .before .before .before .rest-at .ensures) (c .before .before .before .before .before .key .given .1) (ascii "attribute") (c .before .before .before .before .before .before .before .keyword .ensures)) (fall _ _ (c .step-lost3 .result) (c .before .before .before .gap-at2 .ensures .at) (skips-lost (c .step-lost3 .ensures) (c .before .enum-told4 .given .1) (c .before .before .before .gap-at2 .ensures)))))))
 
-rest-at-requires-4 : tie.Need-rest-at-requires-4
-rest-at-requires-4 c κs = omega (arith, (gap-took (c .before .before .before .before .rest-at3 .ensures) (c .before .gap2 .given .1) (c .before .before .before .whitespace12 .ensures)) .up, (gap-took (c .before .before .before .before .rest-at3 .ensures) (c .before .gap2 .given .1) (c .before .before .before .whitespace12 .ensures)) .inside, c .before .before .before .before .rest-at3 .ensures .from)
+rest-at-requires-2 : tie.Need-rest-at-requires-2
+rest-at-requires-2 c κs = omega (arith, (gap-at-took (c .before .gap2 .given .1) (c .before .before .before .gap-at2 .ensures)) .up, (gap-at-took (c .before .gap2 .given .1) (c .before .before .before .gap-at2 .ensures)) .inside, c .before .before .before .gap-at2 .ensures .at .from)
 
 parse-id-requires : tie.Need-parse-id-requires
-parse-id-requires c κs = omega (arith, c .rest-at4 .ensures .size, c .before .before .before .before .before .before .before .before .before .before .before .before .before .before .before .before .before .before .before .before .before .before .pre)
+parse-id-requires c κs = omega (arith, c .rest-at2 .ensures .size, c .before .before .before .before .before .before .before .before .before .before .before .before .before .before .before .before .before .before .before .before .pre)
 
 enum-known-word : tie.Need-enum-known-word
 enum-known-word c = search needs
@@ -99,18 +95,18 @@ enum-known-word c = search needs
 enum-told-5 : tie.Need-enum-told-5
 enum-told-5 c = search needs
 
-step-lost-requires-2 : tie.Need-step-lost-requires-2
-step-lost-requires-2 c κs = search needs
+step-lost-requires-4 : tie.Need-step-lost-requires-4
+step-lost-requires-4 c κs = search needs
 
 returns-5 : tie.Need-returns-5
 unfolding attribute-instantiation
-returns-5 c = read-not _ refl tt (begin (attribute-instantiation) _ _ (go _ (read-took (c .before .before .before .before .before .before .before .before .before .before .before .before .before .before .before .before .before .before .before .before .before .before .before .before .attribute-handling-type .ensures) (c .before .before .before .before .before .before .before .before .before .before .before .before .before .before .before .before .before .before .before .before .before .before .held .given .1) handling-on (rest-self _ _) refl) (on _ (gap-took (c .before .before .before .before .before .before .before .before .before .before .before .before .before .before .before .before .before .before .before .before .rest-at .ensures) (c .before .before .before .before .before .before .before .before .before .before .before .before .before .before .before .before .before .gap1 .given .1) (c .before .before .before .before .before .before .before .before .before .before .before .before .before .before .before .before .before .before .before .whitespace1 .ensures)) (on _ (keyword-took (c .before .before .before .before .before .before .before .before .before .before .before .before .before .before .before .rest-at2 .ensures) (c .before .before .before .before .before .before .before .before .before .before .before .key .given .1) (ascii "attribute") (c .before .before .before .before .before .before .before .before .before .before .before .before .before .keyword .ensures)) (on _ (gap-took (c .before .before .before .before .before .before .before .before .before .rest-at3 .ensures) (c .before .before .before .before .before .before .gap2 .given .1) (c .before .before .before .before .before .before .before .before .whitespace12 .ensures)) (lose _ _ (c .step-lost2 .result) (c .before .before .before .before .rest-at4 .ensures) (step-lost (wordAt _ _) (c .step-lost2 .ensures) (c .before .enum-told5 .given .1) _ _ _ (c .before .before .before .parse-id .ensures))))))))
+returns-5 c = read-not _ refl tt (begin (attribute-instantiation) _ _ (go _ (read-took (c .before .before .before .before .before .before .before .before .before .before .before .before .before .before .before .before .before .before .before .before .before .before .attribute-handling-type .ensures) (c .before .before .before .before .before .before .before .before .before .before .before .before .before .before .before .before .before .before .before .before .held .given .1) handling-on (rest-self _ _) refl) (on _ (gap-at-took (c .before .before .before .before .before .before .before .before .before .before .before .before .before .before .before .before .gap1 .given .1) (c .before .before .before .before .before .before .before .before .before .before .before .before .before .before .before .before .before .before .gap-at .ensures)) (on _ (keyword-took (c .before .before .before .before .before .before .before .before .before .before .before .before .before .before .rest-at .ensures) (c .before .before .before .before .before .before .before .before .before .before .key .given .1) (ascii "attribute") (c .before .before .before .before .before .before .before .before .before .before .before .before .keyword .ensures)) (on _ (gap-at-took (c .before .before .before .before .before .before .gap2 .given .1) (c .before .before .before .before .before .before .before .before .gap-at2 .ensures)) (lose _ _ (c .step-lost4 .result) (c .before .before .before .before .rest-at2 .ensures) (step-lost (wordAt _ _) (c .step-lost4 .ensures) (c .before .enum-told5 .given .1) _ _ _ (c .before .before .before .parse-id .ensures))))))))
 
-rest-at-requires-5 : tie.Need-rest-at-requires-5
-rest-at-requires-5 c κs = omega (arith, (word-took (c .before .before .before .before .rest-at4 .ensures) (c .before .word .given .1) (c .before .before .before .parse-id .ensures)) .up, (word-took (c .before .before .before .before .rest-at4 .ensures) (c .before .word .given .1) (c .before .before .before .parse-id .ensures)) .inside, c .before .before .before .before .rest-at4 .ensures .from)
+rest-at-requires-3 : tie.Need-rest-at-requires-3
+rest-at-requires-3 c κs = omega (arith, (word-took (c .before .before .before .before .rest-at2 .ensures) (c .before .word .given .1) (c .before .before .before .parse-id .ensures)) .up, (word-took (c .before .before .before .before .rest-at2 .ensures) (c .before .word .given .1) (c .before .before .before .parse-id .ensures)) .inside, c .before .before .before .before .rest-at2 .ensures .from)
 
 optional-default-requires : tie.Need-optional-default-requires
-optional-default-requires c κs = omega (arith, c .rest-at5 .ensures .size, c .before .before .before .before .before .before .before .before .before .before .before .before .before .before .before .before .before .before .before .before .before .before .before .before .before .before .before .pre)
+optional-default-requires c κs = omega (arith, c .rest-at3 .ensures .size, c .before .before .before .before .before .before .before .before .before .before .before .before .before .before .before .before .before .before .before .before .before .before .before .before .before .pre)
 
 enum-known-optional : tie.Need-enum-known-optional
 enum-known-optional c = search needs
@@ -123,19 +119,10 @@ default-lost-requires c κs = search needs
 
 returns-6 : tie.Need-returns-6
 unfolding attribute-instantiation
-returns-6 c = read-not _ refl tt (begin (attribute-instantiation) _ _ (go _ (read-took (c .before .before .before .before .before .before .before .before .before .before .before .before .before .before .before .before .before .before .before .before .before .before .before .before .before .before .before .before .before .attribute-handling-type .ensures) (c .before .before .before .before .before .before .before .before .before .before .before .before .before .before .before .before .before .before .before .before .before .before .before .before .before .before .before .held .given .1) handling-on (rest-self _ _) refl) (on _ (gap-took (c .before .before .before .before .before .before .before .before .before .before .before .before .before .before .before .before .before .before .before .before .before .before .before .before .before .rest-at .ensures) (c .before .before .before .before .before .before .before .before .before .before .before .before .before .before .before .before .before .before .before .before .before .before .gap1 .given .1) (c .before .before .before .before .before .before .before .before .before .before .before .before .before .before .before .before .before .before .before .before .before .before .before .before .whitespace1 .ensures)) (on _ (keyword-took (c .before .before .before .before .before .before .before .before .before .before .before .before .before .before .before .before .before .before .before .before .rest-at2 .ensures) (c .before .before .before .before .before .before .before .before .before .before .before .before .before .before .before .before .key .given .1) (ascii "attribute") (c .before .before .before .before .before .before .before .before .before .before .before .before .before .before .before .before .before .before .keyword .ensures)) (on _ (gap-took (c .before .before .before .before .before .before .before .before .before .before .before .before .before .before .rest-at3 .ensures) (c .before .before .before .before .before .before .before .before .before .before .before .gap2 .given .1) (c .before .before .before .before .before .before .before .before .before .before .before .before .before .whitespace12 .ensures)) (go _ (word-took (c .before .before .before .before .before .before .before .before .before .rest-at4 .ensures) (c .before .before .before .before .before .before .word .given .1) (c .before .before .before .before .before .before .before .before .parse-id .ensures)) (lose _ _ (c .default-lost .result) (c .before .before .before .before .rest-at5 .ensures) (read-lost (c .before .before .before .optional-default .ensures) (c .before .enum-told6 .given .1) defaultLost (c .default-lost .ensures) refl))))))))
+returns-6 c = read-not _ refl tt (begin (attribute-instantiation) _ _ (go _ (read-took (c .before .before .before .before .before .before .before .before .before .before .before .before .before .before .before .before .before .before .before .before .before .before .before .before .before .before .before .attribute-handling-type .ensures) (c .before .before .before .before .before .before .before .before .before .before .before .before .before .before .before .before .before .before .before .before .before .before .before .before .before .held .given .1) handling-on (rest-self _ _) refl) (on _ (gap-at-took (c .before .before .before .before .before .before .before .before .before .before .before .before .before .before .before .before .before .before .before .before .before .gap1 .given .1) (c .before .before .before .before .before .before .before .before .before .before .before .before .before .before .before .before .before .before .before .before .before .before .before .gap-at .ensures)) (on _ (keyword-took (c .before .before .before .before .before .before .before .before .before .before .before .before .before .before .before .before .before .before .before .rest-at .ensures) (c .before .before .before .before .before .before .before .before .before .before .before .before .before .before .before .key .given .1) (ascii "attribute") (c .before .before .before .before .before .before .before .before .before .before .before .before .before .before .before .before .before .keyword .ensures)) (on _ (gap-at-took (c .before .before .before .before .before .before .before .before .before .before .before .gap2 .given .1) (c .before .before .before .before .before .before .before .before .before .before .before .before .before .gap-at2 .ensures)) (go _ (word-took (c .before .before .before .before .before .before .before .before .before .rest-at2 .ensures) (c .before .before .before .before .before .before .word .given .1) (c .before .before .before .before .before .before .before .before .parse-id .ensures)) (lose _ _ (c .default-lost .result) (c .before .before .before .before .rest-at3 .ensures) (read-lost (c .before .before .before .optional-default .ensures) (c .before .enum-told6 .given .1) defaultLost (c .default-lost .ensures) refl))))))))
 
-rest-at-requires-6 : tie.Need-rest-at-requires-6
-rest-at-requires-6 c κs = omega (arith, (read-took (c .before .before .before .optional-default .ensures) (c .before .optional .given .1) optional-on (c .before .before .before .before .rest-at5 .ensures) refl) .up, (read-took (c .before .before .before .optional-default .ensures) (c .before .optional .given .1) optional-on (c .before .before .before .before .rest-at5 .ensures) refl) .inside, c .before .before .before .before .rest-at5 .ensures .from)
-
-whitespace0-requires : tie.Need-whitespace0-requires
-whitespace0-requires c κs = omega (arith, c .rest-at6 .ensures .size, c .before .before .before .before .before .before .before .before .before .before .before .before .before .before .before .before .before .before .before .before .before .before .before .before .before .before .before .before .before .before .before .before .pre)
-
-rest-at-requires-7 : tie.Need-rest-at-requires-7
-rest-at-requires-7 c κs = omega (arith, (blank-took (c .before .rest-at6 .ensures) (c .whitespace0 .ensures)) .up, (blank-took (c .before .rest-at6 .ensures) (c .whitespace0 .ensures)) .inside, c .before .rest-at6 .ensures .from)
-
-tag-requires : tie.Need-tag-requires
-tag-requires c κs = omega (arith, c .rest-at7 .ensures .size, c .before .before .before .before .before .before .before .before .before .before .before .before .before .before .before .before .before .before .before .before .before .before .before .before .before .before .before .before .before .before .before .before .before .before .pre)
+tag-behind-requires : tie.Need-tag-behind-requires
+tag-behind-requires c κs = omega (arith, (read-took (c .before .before .before .optional-default .ensures) (c .before .optional .given .1) optional-on (c .before .before .before .before .rest-at3 .ensures) refl) .up, (read-took (c .before .before .before .optional-default .ensures) (c .before .optional .given .1) optional-on (c .before .before .before .before .rest-at3 .ensures) refl) .inside, c .before .before .before .before .rest-at3 .ensures .from, c .before .before .before .before .before .before .before .before .before .before .before .before .before .before .before .before .before .before .before .before .before .before .before .before .before .before .before .before .before .pre)
 
 enum-known-semicolon : tie.Need-enum-known-semicolon
 enum-known-semicolon c = search needs
@@ -143,63 +130,16 @@ enum-known-semicolon c = search needs
 enum-told-7 : tie.Need-enum-told-7
 enum-told-7 c = search needs
 
-step-lost-requires-3 : tie.Need-step-lost-requires-3
-step-lost-requires-3 c κs = search needs
+step-lost-requires-5 : tie.Need-step-lost-requires-5
+step-lost-requires-5 c κs = search needs
 
 returns-7 : tie.Need-returns-7
 unfolding attribute-instantiation
-returns-7 c = read-not _ refl tt (begin (attribute-instantiation) _ _ (go _ (read-took (c .before .before .before .before .before .before .before .before .before .before .before .before .before .before .before .before .before .before .before .before .before .before .before .before .before .before .before .before .before .before .before .before .before .before .before .before .attribute-handling-type .ensures) (c .before .before .before .before .before .before .before .before .before .before .before .before .before .before .before .before .before .before .before .before .before .before .before .before .before .before .before .before .before .before .before .before .before .before .held .given .1) handling-on (rest-self _ _) refl) (on _ (gap-took (c .before .before .before .before .before .before .before .before .before .before .before .before .before .before .before .before .before .before .before .before .before .before .before .before .before .before .before .before .before .before .before .before .rest-at .ensures) (c .before .before .before .before .before .before .before .before .before .before .before .before .before .before .before .before .before .before .before .before .before .before .before .before .before .before .before .before .before .gap1 .given .1) (c .before .before .before .before .before .before .before .before .before .before .before .before .before .before .before .before .before .before .before .before .before .before .before .before .before .before .before .before .before .before .before .whitespace1 .ensures)) (on _ (keyword-took (c .before .before .before .before .before .before .before .before .before .before .before .before .before .before .before .before .before .before .before .before .before .before .before .before .before .before .before .rest-at2 .ensures) (c .before .before .before .before .before .before .before .before .before .before .before .before .before .before .before .before .before .before .before .before .before .before .before .key .given .1) (ascii "attribute") (c .before .before .before .before .before .before .before .before .before .before .before .before .before .before .before .before .before .before .before .before .before .before .before .before .before .keyword .ensures)) (on _ (gap-took (c .before .before .before .before .before .before .before .before .before .before .before .before .before .before .before .before .before .before .before .before .before .rest-at3 .ensures) (c .before .before .before .before .before .before .before .before .before .before .before .before .before .before .before .before .before .before .gap2 .given .1) (c .before .before .before .before .before .before .before .before .before .before .before .before .before .before .before .before .before .before .before .before .whitespace12 .ensures)) (go _ (word-took (c .before .before .before .before .before .before .before .before .before .before .before .before .before .before .before .before .rest-at4 .ensures) (c .before .before .before .before .before .before .before .before .before .before .before .before .before .word .given .1) (c .before .before .before .before .before .before .before .before .before .before .before .before .before .before .before .parse-id .ensures)) (go _ (read-took (c .before .before .before .before .before .before .before .before .before .before .optional-default .ensures) (c .before .before .before .before .before .before .before .before .optional .given .1) optional-on (c .before .before .before .before .before .before .before .before .before .before .before .rest-at5 .ensures) refl) (on _ (blank-took (c .before .before .before .before .before .before .rest-at6 .ensures) (c .before .before .before .before .before .whitespace0 .ensures)) (fall _ _ (c .step-lost3 .result) (c .before .before .before .before .rest-at7 .ensures) (step-lost (λ c. tt) (c .step-lost3 .ensures) (c .before .enum-told7 .given .1) _ _ _ (c .before .before .before .tag .ensures)))))))))))
+returns-7 c = read-not _ refl tt (begin (attribute-instantiation) _ _ (go _ (read-took (c .before .before .before .before .before .before .before .before .before .before .before .before .before .before .before .before .before .before .before .before .before .before .before .before .before .before .before .before .before .before .before .attribute-handling-type .ensures) (c .before .before .before .before .before .before .before .before .before .before .before .before .before .before .before .before .before .before .before .before .before .before .before .before .before .before .before .before .before .held .given .1) handling-on (rest-self _ _) refl) (on _ (gap-at-took (c .before .before .before .before .before .before .before .before .before .before .before .before .before .before .before .before .before .before .before .before .before .before .before .before .before .gap1 .given .1) (c .before .before .before .before .before .before .before .before .before .before .before .before .before .before .before .before .before .before .before .before .before .before .before .before .before .before .before .gap-at .ensures)) (on _ (keyword-took (c .before .before .before .before .before .before .before .before .before .before .before .before .before .before .before .before .before .before .before .before .before .before .before .rest-at .ensures) (c .before .before .before .before .before .before .before .before .before .before .before .before .before .before .before .before .before .before .before .key .given .1) (ascii "attribute") (c .before .before .before .before .before .before .before .before .before .before .before .before .before .before .before .before .before .before .before .before .before .keyword .ensures)) (on _ (gap-at-took (c .before .before .before .before .before .before .before .before .before .before .before .before .before .before .before .gap2 .given .1) (c .before .before .before .before .before .before .before .before .before .before .before .before .before .before .before .before .before .gap-at2 .ensures)) (go _ (word-took (c .before .before .before .before .before .before .before .before .before .before .before .before .before .rest-at2 .ensures) (c .before .before .before .before .before .before .before .before .before .before .word .given .1) (c .before .before .before .before .before .before .before .before .before .before .before .before .parse-id .ensures)) (go _ (read-took (c .before .before .before .before .before .before .before .optional-default .ensures) (c .before .before .before .before .before .optional .given .1) optional-on (c .before .before .before .before .before .before .before .before .rest-at3 .ensures) refl) (pair-fall _ _ _ (c .step-lost5 .result) (c .before .before .before .tag-behind .ensures .at) (skips-lost (c .step-lost5 .ensures) (c .before .enum-told7 .given .1) (c .before .before .before .tag-behind .ensures))))))))))
 
 returns-8 : tie.Need-returns-8
 unfolding attribute-instantiation
-returns-8 c = read-is refl (begin (attribute-instantiation) _ _ (go _ (read-took (c .before .before .before .before .before .before .before .before .before .before .before .before .before .before .before .before .before .before .before .before .before .before .before .before .before .before .before .before .before .before .before .before .before .before .before .before .attribute-handling-type .ensures) (c .before .before .before .before .before .before .before .before .before .before .before .before .before .before .before .before .before .before .before .before .before .before .before .before .before .before .before .before .before .before .before .before .before .before .held .given .1) handling-on (rest-self _ _) refl) (on _ (gap-took (c .before .before .before .before .before .before .before .before .before .before .before .before .before .before .before .before .before .before .before .before .before .before .before .before .before .before .before .before .before .before .before .before .rest-at .ensures) (c .before .before .before .before .before .before .before .before .before .before .before .before .before .before .before .before .before .before .before .before .before .before .before .before .before .before .before .before .before .gap1 .given .1) (c .before .before .before .before .before .before .before .before .before .before .before .before .before .before .before .before .before .before .before .before .before .before .before .before .before .before .before .before .before .before .before .whitespace1 .ensures)) (on _ (keyword-took (c .before .before .before .before .before .before .before .before .before .before .before .before .before .before .before .before .before .before .before .before .before .before .before .before .before .before .before .rest-at2 .ensures) (c .before .before .before .before .before .before .before .before .before .before .before .before .before .before .before .before .before .before .before .before .before .before .before .key .given .1) (ascii "attribute") (c .before .before .before .before .before .before .before .before .before .before .before .before .before .before .before .before .before .before .before .before .before .before .before .before .before .keyword .ensures)) (on _ (gap-took (c .before .before .before .before .before .before .before .before .before .before .before .before .before .before .before .before .before .before .before .before .before .rest-at3 .ensures) (c .before .before .before .before .before .before .before .before .before .before .before .before .before .before .before .before .before .before .gap2 .given .1) (c .before .before .before .before .before .before .before .before .before .before .before .before .before .before .before .before .before .before .before .before .whitespace12 .ensures)) (go _ (word-took (c .before .before .before .before .before .before .before .before .before .before .before .before .before .before .before .before .rest-at4 .ensures) (c .before .before .before .before .before .before .before .before .before .before .before .before .before .word .given .1) (c .before .before .before .before .before .before .before .before .before .before .before .before .before .before .before .parse-id .ensures)) (go _ (read-took (c .before .before .before .before .before .before .before .before .before .before .optional-default .ensures) (c .before .before .before .before .before .before .before .before .optional .given .1) optional-on (c .before .before .before .before .before .before .before .before .before .before .before .rest-at5 .ensures) refl) (on _ (blank-took (c .before .before .before .before .before .before .rest-at6 .ensures) (c .before .before .before .before .before .whitespace0 .ensures)) (on _ (tag-took (c .before .before .before .before .rest-at7 .ensures) (c .before .semicolon .given .1) 59 (c .before .before .before .tag .ensures)) (done _ _ _ _)))))))))) (record { small = read-within (c .before .before .before .before .before .before .before .before .before .before .before .before .before .before .before .before .before .before .before .before .before .before .before .before .before .before .before .before .before .before .before .before .before .before .before .before .attribute-handling-type .ensures) (c .before .before .before .before .before .before .before .before .before .before .before .before .before .before .before .before .before .before .before .before .before .before .before .before .before .before .before .before .before .before .before .before .before .before .held .given .1); named = record { from = omega (arith, (gap-took (c .before .before .before .before .before .before .before .before .before .before .before .before .before .before .before .before .before .before .before .before .before .rest-at3 .ensures) (c .before .before .before .before .before .before .before .before .before .before .before .before .before .before .before .before .before .before .gap2 .given .1) (c .before .before .before .before .before .before .before .before .before .before .before .before .before .before .before .before .before .before .before .before .whitespace12 .ensures)) .up, c .before .before .before .before .before .before .before .before .before .before .before .before .before .before .before .before .before .before .before .before .before .rest-at3 .ensures .from); up = (word-took (c .before .before .before .before .before .before .before .before .before .before .before .before .before .before .before .before .rest-at4 .ensures) (c .before .before .before .before .before .before .before .before .before .before .before .before .before .word .given .1) (c .before .before .before .before .before .before .before .before .before .before .before .before .before .before .before .parse-id .ensures)) .up; inside = omega (arith, (read-took (c .before .before .before .before .before .before .before .before .before .before .optional-default .ensures) (c .before .before .before .before .before .before .before .before .optional .given .1) optional-on (c .before .before .before .before .before .before .before .before .before .before .before .rest-at5 .ensures) refl) .up, (blank-took (c .before .before .before .before .before .before .rest-at6 .ensures) (c .before .before .before .before .before .whitespace0 .ensures)) .up, (tag-took (c .before .before .before .before .rest-at7 .ensures) (c .before .semicolon .given .1) 59 (c .before .before .before .tag .ensures)) .up) }; spanned = default-within (c .before .before .before .before .before .before .before .before .optional .given .0 .0) (c .before .before .before .before .before .before .before .before .optional .given .0 .1 .0) (c .before .semicolon .given .0 .0) (read-within (c .before .before .before .before .before .before .before .before .before .before .optional-default .ensures) (c .before .before .before .before .before .before .before .before .optional .given .1)) (omega (arith, (blank-took (c .before .before .before .before .before .before .rest-at6 .ensures) (c .before .before .before .before .before .whitespace0 .ensures)) .up, (tag-took (c .before .before .before .before .rest-at7 .ensures) (c .before .semicolon .given .1) 59 (c .before .before .before .tag .ensures)) .up)) })
+returns-8 c = read-is refl (begin (attribute-instantiation) _ _ (go _ (read-took (c .before .before .before .before .before .before .before .before .before .before .before .before .before .before .before .before .before .before .before .before .before .before .before .before .before .before .before .before .before .before .before .attribute-handling-type .ensures) (c .before .before .before .before .before .before .before .before .before .before .before .before .before .before .before .before .before .before .before .before .before .before .before .before .before .before .before .before .before .held .given .1) handling-on (rest-self _ _) refl) (on _ (gap-at-took (c .before .before .before .before .before .before .before .before .before .before .before .before .before .before .before .before .before .before .before .before .before .before .before .before .before .gap1 .given .1) (c .before .before .before .before .before .before .before .before .before .before .before .before .before .before .before .before .before .before .before .before .before .before .before .before .before .before .before .gap-at .ensures)) (on _ (keyword-took (c .before .before .before .before .before .before .before .before .before .before .before .before .before .before .before .before .before .before .before .before .before .before .before .rest-at .ensures) (c .before .before .before .before .before .before .before .before .before .before .before .before .before .before .before .before .before .before .before .key .given .1) (ascii "attribute") (c .before .before .before .before .before .before .before .before .before .before .before .before .before .before .before .before .before .before .before .before .before .keyword .ensures)) (on _ (gap-at-took (c .before .before .before .before .before .before .before .before .before .before .before .before .before .before .before .gap2 .given .1) (c .before .before .before .before .before .before .before .before .before .before .before .before .before .before .before .before .before .gap-at2 .ensures)) (go _ (word-took (c .before .before .before .before .before .before .before .before .before .before .before .before .before .rest-at2 .ensures) (c .before .before .before .before .before .before .before .before .before .before .word .given .1) (c .before .before .before .before .before .before .before .before .before .before .before .before .parse-id .ensures)) (go _ (read-took (c .before .before .before .before .before .before .before .optional-default .ensures) (c .before .before .before .before .before .optional .given .1) optional-on (c .before .before .before .before .before .before .before .before .rest-at3 .ensures) refl) (pair-on _ _ _ (tag-behind-took 59 (c .before .semicolon .given .1) (c .before .before .before .tag-behind .ensures)) (done _ _ _ _))))))))) (record { small = read-within (c .before .before .before .before .before .before .before .before .before .before .before .before .before .before .before .before .before .before .before .before .before .before .before .before .before .before .before .before .before .before .before .attribute-handling-type .ensures) (c .before .before .before .before .before .before .before .before .before .before .before .before .before .before .before .before .before .before .before .before .before .before .before .before .before .before .before .before .before .held .given .1); named = record { from = omega (arith, (gap-at-took (c .before .before .before .before .before .before .before .before .before .before .before .before .before .before .before .gap2 .given .1) (c .before .before .before .before .before .before .before .before .before .before .before .before .before .before .before .before .before .gap-at2 .ensures)) .up, c .before .before .before .before .before .before .before .before .before .before .before .before .before .before .before .before .before .gap-at2 .ensures .at .from); up = (word-took (c .before .before .before .before .before .before .before .before .before .before .before .before .before .rest-at2 .ensures) (c .before .before .before .before .before .before .before .before .before .before .word .given .1) (c .before .before .before .before .before .before .before .before .before .before .before .before .parse-id .ensures)) .up; inside = omega (arith, (read-took (c .before .before .before .before .before .before .before .optional-default .ensures) (c .before .before .before .before .before .optional .given .1) optional-on (c .before .before .before .before .before .before .before .before .rest-at3 .ensures) refl) .up, (tag-behind-took 59 (c .before .semicolon .given .1) (c .before .before .before .tag-behind .ensures)) .up) }; spanned = default-within (c .before .before .before .before .before .optional .given .0 .0) (c .before .before .before .before .before .optional .given .0 .1 .0) (c .before .semicolon .given .0 .0) (read-within (c .before .before .before .before .before .before .before .optional-default .ensures) (c .before .before .before .before .before .optional .given .1)) (omega (arith, (tag-behind-took 59 (c .before .semicolon .given .1) (c .before .before .before .tag-behind .ensures)) .up)) })
 
 pub attribute-instantiation-spec : {M : Type 1} → statement M
-attribute-instantiation-spec =
-    tie.close
-    (tie.spec
-    attribute-handling-type-requires
-    enum-known-held
-    enum-told
-    handling-lost-requires
-    returns
-    rest-at-requires
-    whitespace1-requires
-    enum-known-gap1
-    enum-told-2
-    gap-lost-requires
-    returns-2
-    rest-at-requires-2
-    slice-aggregate-keyword
-    keyword-requires
-    enum-known-key
-    enum-told-3
-    step-lost-requires
-    returns-3
-    rest-at-requires-3
-    whitespace1-requires-2
-    enum-known-gap2
-    enum-told-4
-    gap-lost-requires-2
-    returns-4
-    rest-at-requires-4
-    parse-id-requires
-    enum-known-word
-    enum-told-5
-    step-lost-requires-2
-    returns-5
-    rest-at-requires-5
-    optional-default-requires
-    enum-known-optional
-    enum-told-6
-    default-lost-requires
-    returns-6
-    rest-at-requires-6
-    whitespace0-requires
-    rest-at-requires-7
-    tag-requires
-    enum-known-semicolon
-    enum-told-7
-    step-lost-requires-3
-    returns-7
-    returns-8)
+attribute-instantiation-spec = tie.close (tie.spec attribute-handling-type-requires enum-known-held enum-told handling-lost-requires returns gap-at-requires enum-known-gap1 enum-told-2 step-lost-requires returns-2 rest-at-requires slice-aggregate-keyword keyword-requires enum-known-key enum-told-3 step-lost-requires-2 returns-3 gap-at-requires-2 enum-known-gap2 enum-told-4 step-lost-requires-3 returns-4 rest-at-requires-2 parse-id-requires enum-known-word enum-told-5 step-lost-requires-4 returns-5 rest-at-requires-3 optional-default-requires enum-known-optional enum-told-6 default-lost-requires returns-6 tag-behind-requires enum-known-semicolon enum-told-7 step-lost-requires-5 returns-7 returns-8)

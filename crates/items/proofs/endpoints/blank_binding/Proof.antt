@@ -7,15 +7,16 @@ use Rattle.items.proofs.endpoints.Laws.{named-in, named-took, named-aft
 use mathlib.Core.Path.{refl, sym}
 use native.Mathlib.Omega.{arith}
 use Rattle.lexing.specs.bytes.{ascii}
-use Rattle.lexing.proofs.Slicing.{rest-self, begin, on, blank-took}
+use Rattle.lexing.proofs.Slicing.{begin, on}
 use Rattle.items.proofs.Answers.{read-is, read-not, last-lost, read-lost}
+use Rattle.items.proofs.steps.Laws.{blank-at-took}
 use Rattle.items.specs.answers.endpoints.{namedLost}
 
-whitespace0-requires : tie.Need-whitespace0-requires
-whitespace0-requires c κs = search needs
+blank-at-requires : tie.Need-blank-at-requires
+blank-at-requires c κs = omega (arith, c .before .pre)
 
 rest-at-requires : tie.Need-rest-at-requires
-rest-at-requires c κs = omega (arith, (blank-took (rest-self _ _) (c .whitespace0 .ensures)) .up, (blank-took (rest-self _ _) (c .whitespace0 .ensures)) .inside)
+rest-at-requires c κs = omega (arith, (blank-at-took (c .blank-at .ensures)) .up, (blank-at-took (c .blank-at .ensures)) .inside)
 
 slice-aggregate-named-after : tie.Need-slice-aggregate-named-after
 slice-aggregate-named-after c = search needs
@@ -37,11 +38,11 @@ named-lost-requires c κs = search needs
 
 returns : tie.Need-returns
 unfolding blank-binding
-returns c = read-not _ refl tt (begin (blank-binding) _ _ (on _ (blank-took (rest-self _ _) (c .before .before .before .before .before .before .before .whitespace0 .ensures)) (last-lost (named-after (ascii "binding") (ascii "cluster")) (c .named-lost .result) (c .before .before .before .before .before .before .rest-at .ensures) (read-lost (c .before .before .before .named-after .ensures) (c .before .enum-told .given .1) namedLost (c .named-lost .ensures) refl))))
+returns c = read-not _ refl tt (begin (blank-binding) _ _ (on _ (blank-at-took (c .before .before .before .before .before .before .before .blank-at .ensures)) (last-lost (named-after (ascii "binding") (ascii "cluster")) (c .named-lost .result) (c .before .before .before .before .before .before .rest-at .ensures) (read-lost (c .before .before .before .named-after .ensures) (c .before .enum-told .given .1) namedLost (c .named-lost .ensures) refl))))
 
 returns-2 : tie.Need-returns-2
 unfolding blank-binding
-returns-2 c = read-is refl (begin (blank-binding) _ _ (on _ (blank-took (rest-self _ _) (c .before .before .before .before .before .before .before .whitespace0 .ensures)) (sym ((named-took (c .before .before .before .named-after .ensures) (c .before .named .given .1) (named-after-on _ _) (c .before .before .before .before .before .before .rest-at .ensures)) .goes)))) (let w = named-in (c .before .before .before .named-after .ensures) (c .before .named .given .1) in record { from = omega (arith, w .from, c .before .before .before .before .before .before .rest-at .ensures .from); up = w .up; inside = w .inside })
+returns-2 c = read-is refl (begin (blank-binding) _ _ (on _ (blank-at-took (c .before .before .before .before .before .before .before .blank-at .ensures)) (sym ((named-took (c .before .before .before .named-after .ensures) (c .before .named .given .1) (named-after-on _ _) (c .before .before .before .before .before .before .rest-at .ensures)) .goes)))) (let w = named-in (c .before .before .before .named-after .ensures) (c .before .named .given .1) in record { from = omega (arith, w .from, c .before .before .before .before .before .before .rest-at .ensures .from); up = w .up; inside = w .inside })
 
 pub blank-binding-spec : {M : Type 1} → statement M
-blank-binding-spec = tie.close (tie.spec whitespace0-requires rest-at-requires slice-aggregate-named-after slice-aggregate-named-after-2 named-after-requires enum-known-named enum-told named-lost-requires returns returns-2)
+blank-binding-spec = tie.close (tie.spec blank-at-requires rest-at-requires slice-aggregate-named-after slice-aggregate-named-after-2 named-after-requires enum-known-named enum-told named-lost-requires returns returns-2)

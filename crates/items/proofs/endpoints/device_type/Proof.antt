@@ -6,8 +6,10 @@ use Rattle.items.proofs.endpoints.Laws.{named-in, named-took, name-behi
 use mathlib.Core.Path.{refl}
 use native.Mathlib.Omega.{arith}
 use Rattle.lexing.specs.bytes.{ascii}
-use Rattle.lexing.proofs.Slicing.{rest-self, begin, go, on, lose, fall, done, blank-took, tag-took, integer-took, step-lost, integer-lost}
+use Rattle.lexing.proofs.Slicing.{rest-self, begin, go, lose, done, integer-lost}
 use Rattle.items.proofs.Answers.{read-is, read-not, read-lost}
+use Rattle.items.proofs.Pairs.{pair-go, pair-on, pair-lose, pair-fall}
+use Rattle.items.proofs.steps.Laws.{tag-behind-took, integer-behind-took, skips-lost, integer-behind-lost}
 use Rattle.items.specs.answers.endpoints.{namedLost}
 
 slice-aggregate-name-behind : tie.Need-slice-aggregate-name-behind
@@ -32,17 +34,8 @@ returns : tie.Need-returns
 unfolding device-type
 returns c = read-not _ refl tt (begin (device-type) _ _ (lose _ _ (c .named-lost .result) (rest-self _ _) (read-lost (c .before .before .before .name-behind .ensures) (c .before .enum-told .given .1) namedLost (c .named-lost .ensures) refl)))
 
-rest-at-requires : tie.Need-rest-at-requires
-rest-at-requires c κs = omega (arith, (named-took (c .before .before .before .name-behind .ensures) (c .before .named .given .1) (name-behind-on (ascii "device") (ascii "type")) (rest-self _ _)) .up, (named-took (c .before .before .before .name-behind .ensures) (c .before .named .given .1) (name-behind-on (ascii "device") (ascii "type")) (rest-self _ _)) .inside)
-
-whitespace0-requires : tie.Need-whitespace0-requires
-whitespace0-requires c κs = omega (arith, c .rest-at .ensures .size, c .before .before .before .before .before .before .before .before .pre)
-
-rest-at-requires-2 : tie.Need-rest-at-requires-2
-rest-at-requires-2 c κs = omega (arith, (blank-took (c .before .rest-at .ensures) (c .whitespace0 .ensures)) .up, (blank-took (c .before .rest-at .ensures) (c .whitespace0 .ensures)) .inside, c .before .rest-at .ensures .from)
-
-tag-requires : tie.Need-tag-requires
-tag-requires c κs = omega (arith, c .rest-at2 .ensures .size, c .before .before .before .before .before .before .before .before .before .before .pre)
+tag-behind-requires : tie.Need-tag-behind-requires
+tag-behind-requires c κs = omega (arith, (named-took (c .before .before .before .name-behind .ensures) (c .before .named .given .1) (name-behind-on (ascii "device") (ascii "type")) (rest-self _ _)) .up, (named-took (c .before .before .before .name-behind .ensures) (c .before .named .given .1) (name-behind-on (ascii "device") (ascii "type")) (rest-self _ _)) .inside, c .before .before .before .before .before .before .before .pre)
 
 enum-known-equals : tie.Need-enum-known-equals
 enum-known-equals c = search needs
@@ -55,19 +48,10 @@ step-lost-requires c κs = search needs
 
 returns-2 : tie.Need-returns-2
 unfolding device-type
-returns-2 c = read-not _ refl tt (begin (device-type) _ _ (go _ (named-took (c .before .before .before .before .before .before .before .before .before .before .name-behind .ensures) (c .before .before .before .before .before .before .before .before .named .given .1) (name-behind-on (ascii "device") (ascii "type")) (rest-self _ _)) (on _ (blank-took (c .before .before .before .before .before .before .rest-at .ensures) (c .before .before .before .before .before .whitespace0 .ensures)) (fall _ _ (c .step-lost .result) (c .before .before .before .before .rest-at2 .ensures) (step-lost (λ c. tt) (c .step-lost .ensures) (c .before .enum-told2 .given .1) _ _ _ (c .before .before .before .tag .ensures))))))
+returns-2 c = read-not _ refl tt (begin (device-type) _ _ (go _ (named-took (c .before .before .before .before .before .before .before .name-behind .ensures) (c .before .before .before .before .before .named .given .1) (name-behind-on (ascii "device") (ascii "type")) (rest-self _ _)) (pair-fall _ _ _ (c .step-lost .result) (c .before .before .before .tag-behind .ensures .at) (skips-lost (c .step-lost .ensures) (c .before .enum-told2 .given .1) (c .before .before .before .tag-behind .ensures)))))
 
-rest-at-requires-3 : tie.Need-rest-at-requires-3
-rest-at-requires-3 c κs = omega (arith, (tag-took (c .before .before .before .before .rest-at2 .ensures) (c .before .equals .given .1) 61 (c .before .before .before .tag .ensures)) .up, (tag-took (c .before .before .before .before .rest-at2 .ensures) (c .before .equals .given .1) 61 (c .before .before .before .tag .ensures)) .inside, c .before .before .before .before .rest-at2 .ensures .from)
-
-whitespace0-requires-2 : tie.Need-whitespace0-requires-2
-whitespace0-requires-2 c κs = omega (arith, c .rest-at3 .ensures .size, c .before .before .before .before .before .before .before .before .before .before .before .before .before .before .before .pre)
-
-rest-at-requires-4 : tie.Need-rest-at-requires-4
-rest-at-requires-4 c κs = omega (arith, (blank-took (c .before .rest-at3 .ensures) (c .whitespace02 .ensures)) .up, (blank-took (c .before .rest-at3 .ensures) (c .whitespace02 .ensures)) .inside, c .before .rest-at3 .ensures .from)
-
-positive-integer-requires : tie.Need-positive-integer-requires
-positive-integer-requires c κs = omega (arith, c .rest-at4 .ensures .size, c .before .before .before .before .before .before .before .before .before .before .before .before .before .before .before .before .before .pre)
+integer-behind-requires : tie.Need-integer-behind-requires
+integer-behind-requires c κs = omega (arith, (tag-behind-took 61 (c .before .equals .given .1) (c .before .before .before .tag-behind .ensures)) .up, (tag-behind-took 61 (c .before .equals .given .1) (c .before .before .before .tag-behind .ensures)) .inside, c .before .before .before .tag-behind .ensures .at .from, c .before .before .before .before .before .before .before .before .before .before .before .pre)
 
 enum-known-number : tie.Need-enum-known-number
 enum-known-number c = search needs
@@ -80,13 +64,13 @@ number-lost-requires c κs = search needs
 
 returns-3 : tie.Need-returns-3
 unfolding device-type
-returns-3 c = read-not _ refl tt (begin (device-type) _ _ (go _ (named-took (c .before .before .before .before .before .before .before .before .before .before .before .before .before .before .before .before .before .name-behind .ensures) (c .before .before .before .before .before .before .before .before .before .before .before .before .before .before .before .named .given .1) (name-behind-on (ascii "device") (ascii "type")) (rest-self _ _)) (on _ (blank-took (c .before .before .before .before .before .before .before .before .before .before .before .before .before .rest-at .ensures) (c .before .before .before .before .before .before .before .before .before .before .before .before .whitespace0 .ensures)) (on _ (tag-took (c .before .before .before .before .before .before .before .before .before .before .before .rest-at2 .ensures) (c .before .before .before .before .before .before .before .before .equals .given .1) 61 (c .before .before .before .before .before .before .before .before .before .before .tag .ensures)) (on _ (blank-took (c .before .before .before .before .before .before .rest-at3 .ensures) (c .before .before .before .before .before .whitespace02 .ensures)) (lose _ _ (c .number-lost .result) (c .before .before .before .before .rest-at4 .ensures) (integer-lost (c .number-lost .ensures) (c .before .enum-told3 .given .1) _ _ _ (c .before .before .before .positive-integer .ensures))))))))
+returns-3 c = read-not _ refl tt (begin (device-type) _ _ (go _ (named-took (c .before .before .before .before .before .before .before .before .before .before .before .name-behind .ensures) (c .before .before .before .before .before .before .before .before .before .named .given .1) (name-behind-on (ascii "device") (ascii "type")) (rest-self _ _)) (pair-on _ _ _ (tag-behind-took 61 (c .before .before .before .before .before .equals .given .1) (c .before .before .before .before .before .before .before .tag-behind .ensures)) (pair-lose _ _ _ (c .number-lost .result) (c .before .before .before .integer-behind .ensures .at) (integer-behind-lost (c .before .before .before .integer-behind .ensures) (c .number-lost .ensures) (c .before .enum-told3 .given .1))))))
 
-rest-at-requires-5 : tie.Need-rest-at-requires-5
-rest-at-requires-5 c κs = omega (arith, (integer-took (c .before .before .before .before .rest-at4 .ensures) (c .before .number .given .1) (c .before .before .before .positive-integer .ensures)) .up, (integer-took (c .before .before .before .before .rest-at4 .ensures) (c .before .number .given .1) (c .before .before .before .positive-integer .ensures)) .inside, c .before .before .before .before .rest-at4 .ensures .from)
+rest-at-requires : tie.Need-rest-at-requires
+rest-at-requires c κs = omega (arith, (integer-behind-took (c .before .before .before .integer-behind .ensures) (c .before .number .given .1)) .up, (integer-behind-took (c .before .before .before .integer-behind .ensures) (c .before .number .given .1)) .inside, c .before .before .before .integer-behind .ensures .at .from)
 
 device-version-requires : tie.Need-device-version-requires
-device-version-requires c κs = omega (arith, c .rest-at5 .ensures .size, c .before .before .before .before .before .before .before .before .before .before .before .before .before .before .before .before .before .before .before .before .before .before .pre)
+device-version-requires c κs = omega (arith, c .rest-at .ensures .size, c .before .before .before .before .before .before .before .before .before .before .before .before .before .before .before .before .pre)
 
 enum-known-last : tie.Need-enum-known-last
 enum-known-last c = search needs
@@ -99,43 +83,11 @@ number-lost-requires-2 c κs = search needs
 
 returns-4 : tie.Need-returns-4
 unfolding device-type
-returns-4 c = read-not _ refl tt (begin (device-type) _ _ (go _ (named-took (c .before .before .before .before .before .before .before .before .before .before .before .before .before .before .before .before .before .before .before .before .before .before .name-behind .ensures) (c .before .before .before .before .before .before .before .before .before .before .before .before .before .before .before .before .before .before .before .before .named .given .1) (name-behind-on (ascii "device") (ascii "type")) (rest-self _ _)) (on _ (blank-took (c .before .before .before .before .before .before .before .before .before .before .before .before .before .before .before .before .before .before .rest-at .ensures) (c .before .before .before .before .before .before .before .before .before .before .before .before .before .before .before .before .before .whitespace0 .ensures)) (on _ (tag-took (c .before .before .before .before .before .before .before .before .before .before .before .before .before .before .before .before .rest-at2 .ensures) (c .before .before .before .before .before .before .before .before .before .before .before .before .before .equals .given .1) 61 (c .before .before .before .before .before .before .before .before .before .before .before .before .before .before .before .tag .ensures)) (on _ (blank-took (c .before .before .before .before .before .before .before .before .before .before .before .rest-at3 .ensures) (c .before .before .before .before .before .before .before .before .before .before .whitespace02 .ensures)) (go _ (integer-took (c .before .before .before .before .before .before .before .before .before .rest-at4 .ensures) (c .before .before .before .before .before .before .number .given .1) (c .before .before .before .before .before .before .before .before .positive-integer .ensures)) (lose _ _ (c .number-lost2 .result) (c .before .before .before .before .rest-at5 .ensures) (integer-lost (c .number-lost2 .ensures) (c .before .enum-told4 .given .1) _ _ _ (c .before .before .before .device-version .ensures)))))))))
+returns-4 c = read-not _ refl tt (begin (device-type) _ _ (go _ (named-took (c .before .before .before .before .before .before .before .before .before .before .before .before .before .before .before .before .name-behind .ensures) (c .before .before .before .before .before .before .before .before .before .before .before .before .before .before .named .given .1) (name-behind-on (ascii "device") (ascii "type")) (rest-self _ _)) (pair-on _ _ _ (tag-behind-took 61 (c .before .before .before .before .before .before .before .before .before .before .equals .given .1) (c .before .before .before .before .before .before .before .before .before .before .before .before .tag-behind .ensures)) (pair-go _ _ _ (integer-behind-took (c .before .before .before .before .before .before .before .before .integer-behind .ensures) (c .before .before .before .before .before .before .number .given .1)) (lose _ _ (c .number-lost2 .result) (c .before .before .before .before .rest-at .ensures) (integer-lost (c .number-lost2 .ensures) (c .before .enum-told4 .given .1) _ _ _ (c .before .before .before .device-version .ensures)))))))
 
 returns-5 : tie.Need-returns-5
 unfolding device-type
-returns-5 c = read-is refl (begin (device-type) _ _ (go _ (named-took (c .before .before .before .before .before .before .before .before .before .before .before .before .before .before .before .before .before .before .before .before .before .before .name-behind .ensures) (c .before .before .before .before .before .before .before .before .before .before .before .before .before .before .before .before .before .before .before .before .named .given .1) (name-behind-on (ascii "device") (ascii "type")) (rest-self _ _)) (on _ (blank-took (c .before .before .before .before .before .before .before .before .before .before .before .before .before .before .before .before .before .before .rest-at .ensures) (c .before .before .before .before .before .before .before .before .before .before .before .before .before .before .before .before .before .whitespace0 .ensures)) (on _ (tag-took (c .before .before .before .before .before .before .before .before .before .before .before .before .before .before .before .before .rest-at2 .ensures) (c .before .before .before .before .before .before .before .before .before .before .before .before .before .equals .given .1) 61 (c .before .before .before .before .before .before .before .before .before .before .before .before .before .before .before .tag .ensures)) (on _ (blank-took (c .before .before .before .before .before .before .before .before .before .before .before .rest-at3 .ensures) (c .before .before .before .before .before .before .before .before .before .before .whitespace02 .ensures)) (go _ (integer-took (c .before .before .before .before .before .before .before .before .before .rest-at4 .ensures) (c .before .before .before .before .before .before .number .given .1) (c .before .before .before .before .before .before .before .before .positive-integer .ensures)) (go _ (number-took device-version-on (c .before .before .before .before .rest-at5 .ensures) (c .before .last .given .1) (c .before .before .before .device-version .ensures)) (done _ _ _ _)))))))) (let w = named-in (c .before .before .before .before .before .before .before .before .before .before .before .before .before .before .before .before .before .before .before .before .before .before .name-behind .ensures) (c .before .before .before .before .before .before .before .before .before .before .before .before .before .before .before .before .before .before .before .before .named .given .1) in record { from = w .from; up = w .up; inside = omega (arith, w .inside, (blank-took (c .before .before .before .before .before .before .before .before .before .before .before .before .before .before .before .before .before .before .rest-at .ensures) (c .before .before .before .before .before .before .before .before .before .before .before .before .before .before .before .before .before .whitespace0 .ensures)) .up, (tag-took (c .before .before .before .before .before .before .before .before .before .before .before .before .before .before .before .before .rest-at2 .ensures) (c .before .before .before .before .before .before .before .before .before .before .before .before .before .equals .given .1) 61 (c .before .before .before .before .before .before .before .before .before .before .before .before .before .before .before .tag .ensures)) .up, (blank-took (c .before .before .before .before .before .before .before .before .before .before .before .rest-at3 .ensures) (c .before .before .before .before .before .before .before .before .before .before .whitespace02 .ensures)) .up, (integer-took (c .before .before .before .before .before .before .before .before .before .rest-at4 .ensures) (c .before .before .before .before .before .before .number .given .1) (c .before .before .before .before .before .before .before .before .positive-integer .ensures)) .up, (number-took device-version-on (c .before .before .before .before .rest-at5 .ensures) (c .before .last .given .1) (c .before .before .before .device-version .ensures)) .up) })
+returns-5 c = read-is refl (begin (device-type) _ _ (go _ (named-took (c .before .before .before .before .before .before .before .before .before .before .before .before .before .before .before .before .name-behind .ensures) (c .before .before .before .before .before .before .before .before .before .before .before .before .before .before .named .given .1) (name-behind-on (ascii "device") (ascii "type")) (rest-self _ _)) (pair-on _ _ _ (tag-behind-took 61 (c .before .before .before .before .before .before .before .before .before .before .equals .given .1) (c .before .before .before .before .before .before .before .before .before .before .before .before .tag-behind .ensures)) (pair-go _ _ _ (integer-behind-took (c .before .before .before .before .before .before .before .before .integer-behind .ensures) (c .before .before .before .before .before .before .number .given .1)) (go _ (number-took device-version-on (c .before .before .before .before .rest-at .ensures) (c .before .last .given .1) (c .before .before .before .device-version .ensures)) (done _ _ _ _)))))) (let w = named-in (c .before .before .before .before .before .before .before .before .before .before .before .before .before .before .before .before .name-behind .ensures) (c .before .before .before .before .before .before .before .before .before .before .before .before .before .before .named .given .1) in record { from = w .from; up = w .up; inside = omega (arith, w .inside, (tag-behind-took 61 (c .before .before .before .before .before .before .before .before .before .before .equals .given .1) (c .before .before .before .before .before .before .before .before .before .before .before .before .tag-behind .ensures)) .up, (integer-behind-took (c .before .before .before .before .before .before .before .before .integer-behind .ensures) (c .before .before .before .before .before .before .number .given .1)) .up, (number-took device-version-on (c .before .before .before .before .rest-at .ensures) (c .before .last .given .1) (c .before .before .before .device-version .ensures)) .up) })
 
 pub device-type-spec : {M : Type 1} → statement M
-device-type-spec =
-    tie.close
-    (tie.spec
-    slice-aggregate-name-behind
-    slice-aggregate-name-behind-2
-    name-behind-requires
-    enum-known-named
-    enum-told
-    named-lost-requires
-    returns
-    rest-at-requires
-    whitespace0-requires
-    rest-at-requires-2
-    tag-requires
-    enum-known-equals
-    enum-told-2
-    step-lost-requires
-    returns-2
-    rest-at-requires-3
-    whitespace0-requires-2
-    rest-at-requires-4
-    positive-integer-requires
-    enum-known-number
-    enum-told-3
-    number-lost-requires
-    returns-3
-    rest-at-requires-5
-    device-version-requires
-    enum-known-last
-    enum-told-4
-    number-lost-requires-2
-    returns-4
-    returns-5)
+device-type-spec = tie.close (tie.spec slice-aggregate-name-behind slice-aggregate-name-behind-2 name-behind-requires enum-known-named enum-told named-lost-requires returns tag-behind-requires enum-known-equals enum-told-2 step-lost-requires returns-2 integer-behind-requires enum-known-number enum-told-3 number-lost-requires returns-3 rest-at-requires device-version-requires enum-known-last enum-told-4 number-lost-requires-2 returns-4 returns-5)

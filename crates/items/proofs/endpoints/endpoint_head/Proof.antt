@@ -4,20 +4,15 @@ use Rattle.items.proofs.endpoints.endpoint_head.Tie as tie
 use Rattle.items.specs.endpoints.{endpoint-head}
 use native.Mathlib.Omega.{arith}
 use Rattle.lexing.specs.bytes.{ascii}
-use Rattle.lexing.specs.answers.{wordAt}
-use Rattle.lexing.proofs.Slicing.{rest-self, begin, go, on, lose, fall, done, blank-took, gap-took, keyword-took, integer-took, step-lost, gap-lost, integer-lost}
+use Rattle.lexing.proofs.Slicing.{begin, go, on, lose, fall, done, integer-took, integer-lost}
+use Rattle.items.proofs.Pairs.{pair-on, pair-fall}
+use Rattle.items.proofs.steps.Laws.{blank-at-took, gap-at-took, keyword-behind-took, skips-lost}
 
-whitespace0-requires : tie.Need-whitespace0-requires
-whitespace0-requires c κs = search needs
+slice-aggregate-keyword-behind : tie.Need-slice-aggregate-keyword-behind
+slice-aggregate-keyword-behind c = search needs
 
-rest-at-requires : tie.Need-rest-at-requires
-rest-at-requires c κs = omega (arith, (blank-took (rest-self _ _) (c .whitespace0 .ensures)) .up, (blank-took (rest-self _ _) (c .whitespace0 .ensures)) .inside)
-
-slice-aggregate-keyword : tie.Need-slice-aggregate-keyword
-slice-aggregate-keyword c = search needs
-
-keyword-requires : tie.Need-keyword-requires
-keyword-requires c κs = omega (arith, c .before .rest-at .ensures .size, c .before .before .before .before .pre)
+keyword-behind-requires : tie.Need-keyword-behind-requires
+keyword-behind-requires c κs = omega (arith, c .before .before .pre)
 
 enum-known-key : tie.Need-enum-known-key
 enum-known-key c = search needs
@@ -30,13 +25,10 @@ step-lost-requires c κs = search needs
 
 returns : tie.Need-returns
 unfolding endpoint-head
-returns c = (begin (endpoint-head) _ _ (on _ (blank-took (rest-self _ _) (c .before .before .before .before .before .before .whitespace0 .ensures)) (fall _ _ (c .step-lost .result) (c .before .before .before .before .before .rest-at .ensures) (step-lost (wordAt _ _) (c .step-lost .ensures) (c .before .enum-told .given .1) _ _ _ (c .before .before .before .keyword .ensures)))))
+returns c = (begin (endpoint-head) _ _ (pair-fall _ _ _ (c .step-lost .result) (c .before .before .before .keyword-behind .ensures .at) (skips-lost (c .step-lost .ensures) (c .before .enum-told .given .1) (c .before .before .before .keyword-behind .ensures))))
 
-rest-at-requires-2 : tie.Need-rest-at-requires-2
-rest-at-requires-2 c κs = omega (arith, (keyword-took (c .before .before .before .before .before .rest-at .ensures) (c .before .key .given .1) (ascii "endpoint") (c .before .before .before .keyword .ensures)) .up, (keyword-took (c .before .before .before .before .before .rest-at .ensures) (c .before .key .given .1) (ascii "endpoint") (c .before .before .before .keyword .ensures)) .inside, c .before .before .before .before .before .rest-at .ensures .from)
-
-whitespace1-requires : tie.Need-whitespace1-requires
-whitespace1-requires c κs = omega (arith, c .rest-at2 .ensures .size, c .before .before .before .before .before .before .before .before .before .pre)
+gap-at-requires : tie.Need-gap-at-requires
+gap-at-requires c κs = omega (arith, (keyword-behind-took (ascii "endpoint") (c .before .key .given .1) (c .before .before .before .keyword-behind .ensures)) .up, (keyword-behind-took (ascii "endpoint") (c .before .key .given .1) (c .before .before .before .keyword-behind .ensures)) .inside, c .before .before .before .before .before .before .pre)
 
 enum-known-gap : tie.Need-enum-known-gap
 enum-known-gap c = search needs
@@ -44,18 +36,18 @@ enum-known-gap c = search needs
 enum-told-2 : tie.Need-enum-told-2
 enum-told-2 c = search needs
 
-gap-lost-requires : tie.Need-gap-lost-requires
-gap-lost-requires c κs = search needs
+step-lost-requires-2 : tie.Need-step-lost-requires-2
+step-lost-requires-2 c κs = search needs
 
 returns-2 : tie.Need-returns-2
 unfolding endpoint-head
-returns-2 c = (begin (endpoint-head) _ _ (on _ (blank-took (rest-self _ _) (c .before .before .before .before .before .before .before .before .before .before .before .whitespace0 .ensures)) (on _ (keyword-took (c .before .before .before .before .before .before .before .before .before .before .rest-at .ensures) (c .before .before .before .before .before .before .key .given .1) (ascii "endpoint") (c .before .before .before .before .before .before .before .before .keyword .ensures)) (fall _ _ (c .gap-lost .result) (c .before .before .before .before .rest-at2 .ensures) (gap-lost (c .gap-lost .ensures) (c .before .enum-told2 .given .1) _ _ _ (c .before .before .before .whitespace1 .ensures))))))
+returns-2 c = (begin (endpoint-head) _ _ (pair-on _ _ _ (keyword-behind-took (ascii "endpoint") (c .before .before .before .before .before .key .given .1) (c .before .before .before .before .before .before .before .keyword-behind .ensures)) (fall _ _ (c .step-lost2 .result) (c .before .before .before .gap-at .ensures .at) (skips-lost (c .step-lost2 .ensures) (c .before .enum-told2 .given .1) (c .before .before .before .gap-at .ensures)))))
 
-rest-at-requires-3 : tie.Need-rest-at-requires-3
-rest-at-requires-3 c κs = omega (arith, (gap-took (c .before .before .before .before .rest-at2 .ensures) (c .before .gap .given .1) (c .before .before .before .whitespace1 .ensures)) .up, (gap-took (c .before .before .before .before .rest-at2 .ensures) (c .before .gap .given .1) (c .before .before .before .whitespace1 .ensures)) .inside, c .before .before .before .before .rest-at2 .ensures .from)
+rest-at-requires : tie.Need-rest-at-requires
+rest-at-requires c κs = omega (arith, (gap-at-took (c .before .gap .given .1) (c .before .before .before .gap-at .ensures)) .up, (gap-at-took (c .before .gap .given .1) (c .before .before .before .gap-at .ensures)) .inside, c .before .before .before .gap-at .ensures .at .from)
 
 positive-integer-requires : tie.Need-positive-integer-requires
-positive-integer-requires c κs = omega (arith, c .rest-at3 .ensures .size, c .before .before .before .before .before .before .before .before .before .before .before .before .before .before .pre)
+positive-integer-requires c κs = omega (arith, c .rest-at .ensures .size, c .before .before .before .before .before .before .before .before .before .before .before .pre)
 
 enum-known-number : tie.Need-enum-known-number
 enum-known-number c = search needs
@@ -68,17 +60,14 @@ number-lost-requires c κs = search needs
 
 returns-3 : tie.Need-returns-3
 unfolding endpoint-head
-returns-3 c = (begin (endpoint-head) _ _ (on _ (blank-took (rest-self _ _) (c .before .before .before .before .before .before .before .before .before .before .before .before .before .before .before .before .whitespace0 .ensures)) (on _ (keyword-took (c .before .before .before .before .before .before .before .before .before .before .before .before .before .before .before .rest-at .ensures) (c .before .before .before .before .before .before .before .before .before .before .before .key .given .1) (ascii "endpoint") (c .before .before .before .before .before .before .before .before .before .before .before .before .before .keyword .ensures)) (on _ (gap-took (c .before .before .before .before .before .before .before .before .before .rest-at2 .ensures) (c .before .before .before .before .before .before .gap .given .1) (c .before .before .before .before .before .before .before .before .whitespace1 .ensures)) (lose _ _ (c .number-lost .result) (c .before .before .before .before .rest-at3 .ensures) (integer-lost (c .number-lost .ensures) (c .before .enum-told3 .given .1) _ _ _ (c .before .before .before .positive-integer .ensures)))))))
+returns-3 c = (begin (endpoint-head) _ _ (pair-on _ _ _ (keyword-behind-took (ascii "endpoint") (c .before .before .before .before .before .before .before .before .before .before .key .given .1) (c .before .before .before .before .before .before .before .before .before .before .before .before .keyword-behind .ensures)) (on _ (gap-at-took (c .before .before .before .before .before .before .gap .given .1) (c .before .before .before .before .before .before .before .before .gap-at .ensures)) (lose _ _ (c .number-lost .result) (c .before .before .before .before .rest-at .ensures) (integer-lost (c .number-lost .ensures) (c .before .enum-told3 .given .1) _ _ _ (c .before .before .before .positive-integer .ensures))))))
 
-rest-at-requires-4 : tie.Need-rest-at-requires-4
-rest-at-requires-4 c κs = omega (arith, (integer-took (c .before .before .before .before .rest-at3 .ensures) (c .before .number .given .1) (c .before .before .before .positive-integer .ensures)) .up, (integer-took (c .before .before .before .before .rest-at3 .ensures) (c .before .number .given .1) (c .before .before .before .positive-integer .ensures)) .inside, c .before .before .before .before .rest-at3 .ensures .from)
-
-whitespace0-requires-2 : tie.Need-whitespace0-requires-2
-whitespace0-requires-2 c κs = omega (arith, c .rest-at4 .ensures .size, c .before .before .before .before .before .before .before .before .before .before .before .before .before .before .before .before .before .before .before .pre)
+blank-at-requires : tie.Need-blank-at-requires
+blank-at-requires c κs = omega (arith, (integer-took (c .before .before .before .before .rest-at .ensures) (c .before .number .given .1) (c .before .before .before .positive-integer .ensures)) .up, (integer-took (c .before .before .before .before .rest-at .ensures) (c .before .number .given .1) (c .before .before .before .positive-integer .ensures)) .inside, c .before .before .before .before .rest-at .ensures .from, c .before .before .before .before .before .before .before .before .before .before .before .before .before .before .before .pre)
 
 returns-4 : tie.Need-returns-4
 unfolding endpoint-head
-returns-4 c = (begin (endpoint-head) _ _ (on _ (blank-took (rest-self _ _) (c .before .before .before .before .before .before .before .before .before .before .before .before .before .before .before .before .before .before .whitespace0 .ensures)) (on _ (keyword-took (c .before .before .before .before .before .before .before .before .before .before .before .before .before .before .before .before .before .rest-at .ensures) (c .before .before .before .before .before .before .before .before .before .before .before .before .before .key .given .1) (ascii "endpoint") (c .before .before .before .before .before .before .before .before .before .before .before .before .before .before .before .keyword .ensures)) (on _ (gap-took (c .before .before .before .before .before .before .before .before .before .before .before .rest-at2 .ensures) (c .before .before .before .before .before .before .before .before .gap .given .1) (c .before .before .before .before .before .before .before .before .before .before .whitespace1 .ensures)) (go _ (integer-took (c .before .before .before .before .before .before .rest-at3 .ensures) (c .before .before .before .number .given .1) (c .before .before .before .before .before .positive-integer .ensures)) (on _ (blank-took (c .before .rest-at4 .ensures) (c .whitespace02 .ensures)) (done _ _ _ _)))))))
+returns-4 c = (begin (endpoint-head) _ _ (pair-on _ _ _ (keyword-behind-took (ascii "endpoint") (c .before .before .before .before .before .before .before .before .before .before .before .key .given .1) (c .before .before .before .before .before .before .before .before .before .before .before .before .before .keyword-behind .ensures)) (on _ (gap-at-took (c .before .before .before .before .before .before .before .gap .given .1) (c .before .before .before .before .before .before .before .before .before .gap-at .ensures)) (go _ (integer-took (c .before .before .before .before .before .rest-at .ensures) (c .before .before .number .given .1) (c .before .before .before .before .positive-integer .ensures)) (on _ (blank-at-took (c .blank-at .ensures)) (done _ _ _ _))))))
 
 pub endpoint-head-spec : {M : Type 1} → statement M
-endpoint-head-spec = tie.close (tie.spec whitespace0-requires rest-at-requires slice-aggregate-keyword keyword-requires enum-known-key enum-told step-lost-requires returns rest-at-requires-2 whitespace1-requires enum-known-gap enum-told-2 gap-lost-requires returns-2 rest-at-requires-3 positive-integer-requires enum-known-number enum-told-3 number-lost-requires returns-3 rest-at-requires-4 whitespace0-requires-2 returns-4)
+endpoint-head-spec = tie.close (tie.spec slice-aggregate-keyword-behind keyword-behind-requires enum-known-key enum-told step-lost-requires returns gap-at-requires enum-known-gap enum-told-2 step-lost-requires-2 returns-2 rest-at-requires positive-integer-requires enum-known-number enum-told-3 number-lost-requires returns-3 blank-at-requires returns-4)

@@ -6,15 +6,16 @@ use Rattle.items.proofs.endpoints.Laws.{named-in, named-took, name-behi
 use mathlib.Core.Path.{refl}
 use native.Mathlib.Omega.{arith}
 use Rattle.lexing.specs.bytes.{ascii}
-use Rattle.lexing.proofs.Slicing.{rest-self, begin, go, on, lose, done, blank-took}
+use Rattle.lexing.proofs.Slicing.{begin, go, on, lose, done}
 use Rattle.items.proofs.Answers.{read-is, read-not, read-lost}
+use Rattle.items.proofs.steps.Laws.{blank-at-took}
 use Rattle.items.specs.answers.endpoints.{namedLost}
 
-whitespace0-requires : tie.Need-whitespace0-requires
-whitespace0-requires c κs = search needs
+blank-at-requires : tie.Need-blank-at-requires
+blank-at-requires c κs = omega (arith, c .before .pre)
 
 rest-at-requires : tie.Need-rest-at-requires
-rest-at-requires c κs = omega (arith, (blank-took (rest-self _ _) (c .whitespace0 .ensures)) .up, (blank-took (rest-self _ _) (c .whitespace0 .ensures)) .inside)
+rest-at-requires c κs = omega (arith, (blank-at-took (c .blank-at .ensures)) .up, (blank-at-took (c .blank-at .ensures)) .inside)
 
 slice-aggregate-name-behind : tie.Need-slice-aggregate-name-behind
 slice-aggregate-name-behind c = search needs
@@ -36,17 +37,14 @@ named-lost-requires c κs = search needs
 
 returns : tie.Need-returns
 unfolding instantiation-head
-returns c = read-not _ refl tt (begin (instantiation-head) _ _ (on _ (blank-took (rest-self _ _) (c .before .before .before .before .before .before .before .whitespace0 .ensures)) (lose _ _ (c .named-lost .result) (c .before .before .before .before .before .before .rest-at .ensures) (read-lost (c .before .before .before .name-behind .ensures) (c .before .enum-told .given .1) namedLost (c .named-lost .ensures) refl))))
+returns c = read-not _ refl tt (begin (instantiation-head) _ _ (on _ (blank-at-took (c .before .before .before .before .before .before .before .blank-at .ensures)) (lose _ _ (c .named-lost .result) (c .before .before .before .before .before .before .rest-at .ensures) (read-lost (c .before .before .before .name-behind .ensures) (c .before .enum-told .given .1) namedLost (c .named-lost .ensures) refl))))
 
-rest-at-requires-2 : tie.Need-rest-at-requires-2
-rest-at-requires-2 c κs = omega (arith, (named-took (c .before .before .before .name-behind .ensures) (c .before .named .given .1) (name-behind-on (ascii "server") (ascii "cluster")) (c .before .before .before .before .before .before .rest-at .ensures)) .up, (named-took (c .before .before .before .name-behind .ensures) (c .before .named .given .1) (name-behind-on (ascii "server") (ascii "cluster")) (c .before .before .before .before .before .before .rest-at .ensures)) .inside, c .before .before .before .before .before .before .rest-at .ensures .from)
-
-whitespace0-requires-2 : tie.Need-whitespace0-requires-2
-whitespace0-requires-2 c κs = omega (arith, c .rest-at2 .ensures .size, c .before .before .before .before .before .before .before .before .before .before .pre)
+blank-at-requires-2 : tie.Need-blank-at-requires-2
+blank-at-requires-2 c κs = omega (arith, (named-took (c .before .before .before .name-behind .ensures) (c .before .named .given .1) (name-behind-on (ascii "server") (ascii "cluster")) (c .before .before .before .before .before .before .rest-at .ensures)) .up, (named-took (c .before .before .before .name-behind .ensures) (c .before .named .given .1) (name-behind-on (ascii "server") (ascii "cluster")) (c .before .before .before .before .before .before .rest-at .ensures)) .inside, c .before .before .before .before .before .before .rest-at .ensures .from, c .before .before .before .before .before .before .before .before .before .pre)
 
 returns-2 : tie.Need-returns-2
 unfolding instantiation-head
-returns-2 c = read-is refl (begin (instantiation-head) _ _ (on _ (blank-took (rest-self _ _) (c .before .before .before .before .before .before .before .before .before .whitespace0 .ensures)) (go _ (named-took (c .before .before .before .before .before .name-behind .ensures) (c .before .before .before .named .given .1) (name-behind-on (ascii "server") (ascii "cluster")) (c .before .before .before .before .before .before .before .before .rest-at .ensures)) (on _ (blank-took (c .before .rest-at2 .ensures) (c .whitespace02 .ensures)) (done _ _ _ _))))) (let w = named-in (c .before .before .before .before .before .name-behind .ensures) (c .before .before .before .named .given .1) in record { from = omega (arith, w .from, c .before .before .before .before .before .before .before .before .rest-at .ensures .from); up = w .up; inside = omega (arith, w .inside, (blank-took (c .before .rest-at2 .ensures) (c .whitespace02 .ensures)) .up) })
+returns-2 c = read-is refl (begin (instantiation-head) _ _ (on _ (blank-at-took (c .before .before .before .before .before .before .before .before .blank-at .ensures)) (go _ (named-took (c .before .before .before .before .name-behind .ensures) (c .before .before .named .given .1) (name-behind-on (ascii "server") (ascii "cluster")) (c .before .before .before .before .before .before .before .rest-at .ensures)) (on _ (blank-at-took (c .blank-at2 .ensures)) (done _ _ _ _))))) (let w = named-in (c .before .before .before .before .name-behind .ensures) (c .before .before .named .given .1) in record { from = omega (arith, w .from, c .before .before .before .before .before .before .before .rest-at .ensures .from); up = w .up; inside = omega (arith, w .inside, (blank-at-took (c .blank-at2 .ensures)) .up) })
 
 pub instantiation-head-spec : {M : Type 1} → statement M
-instantiation-head-spec = tie.close (tie.spec whitespace0-requires rest-at-requires slice-aggregate-name-behind slice-aggregate-name-behind-2 name-behind-requires enum-known-named enum-told named-lost-requires returns rest-at-requires-2 whitespace0-requires-2 returns-2)
+instantiation-head-spec = tie.close (tie.spec blank-at-requires rest-at-requires slice-aggregate-name-behind slice-aggregate-name-behind-2 name-behind-requires enum-known-named enum-told named-lost-requires returns blank-at-requires-2 returns-2)

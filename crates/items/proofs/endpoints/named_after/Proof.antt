@@ -5,8 +5,10 @@ use Rattle.items.specs.endpoints.{named-after}
 use Rattle.items.proofs.endpoints.Laws.{named-in, named-took, name-behind-on}
 use mathlib.Core.Path.{refl}
 use native.Mathlib.Omega.{arith}
-use Rattle.lexing.proofs.Slicing.{rest-self, begin, go, on, lose, fall, done, blank-took, tag-took, step-lost}
+use Rattle.lexing.proofs.Slicing.{rest-self, begin, go, lose, done}
 use Rattle.items.proofs.Answers.{read-is, read-not, read-lost}
+use Rattle.items.proofs.Pairs.{pair-on, pair-fall}
+use Rattle.items.proofs.steps.Laws.{tag-behind-took, skips-lost}
 use Rattle.items.specs.answers.endpoints.{namedLost}
 
 name-behind-requires : tie.Need-name-behind-requires
@@ -25,17 +27,8 @@ returns : tie.Need-returns
 unfolding named-after
 returns c = read-not _ refl tt (begin (named-after _ _) _ _ (lose _ _ (c .named-lost .result) (rest-self _ _) (read-lost (c .before .before .before .name-behind .ensures) (c .before .enum-told .given .1) namedLost (c .named-lost .ensures) refl)))
 
-rest-at-requires : tie.Need-rest-at-requires
-rest-at-requires c κs = omega (arith, (named-took (c .before .before .before .name-behind .ensures) (c .before .named .given .1) (name-behind-on _ _) (rest-self _ _)) .up, (named-took (c .before .before .before .name-behind .ensures) (c .before .named .given .1) (name-behind-on _ _) (rest-self _ _)) .inside)
-
-whitespace0-requires : tie.Need-whitespace0-requires
-whitespace0-requires c κs = omega (arith, c .rest-at .ensures .size, c .before .before .before .before .before .before .before .before .pre)
-
-rest-at-requires-2 : tie.Need-rest-at-requires-2
-rest-at-requires-2 c κs = omega (arith, (blank-took (c .before .rest-at .ensures) (c .whitespace0 .ensures)) .up, (blank-took (c .before .rest-at .ensures) (c .whitespace0 .ensures)) .inside, c .before .rest-at .ensures .from)
-
-tag-requires : tie.Need-tag-requires
-tag-requires c κs = omega (arith, c .rest-at2 .ensures .size, c .before .before .before .before .before .before .before .before .before .before .pre)
+tag-behind-requires : tie.Need-tag-behind-requires
+tag-behind-requires c κs = omega (arith, (named-took (c .before .before .before .name-behind .ensures) (c .before .named .given .1) (name-behind-on _ _) (rest-self _ _)) .up, (named-took (c .before .before .before .name-behind .ensures) (c .before .named .given .1) (name-behind-on _ _) (rest-self _ _)) .inside, c .before .before .before .before .before .before .before .pre)
 
 enum-known-semicolon : tie.Need-enum-known-semicolon
 enum-known-semicolon c = search needs
@@ -48,27 +41,11 @@ step-lost-requires c κs = search needs
 
 returns-2 : tie.Need-returns-2
 unfolding named-after
-returns-2 c = read-not _ refl tt (begin (named-after _ _) _ _ (go _ (named-took (c .before .before .before .before .before .before .before .before .before .before .name-behind .ensures) (c .before .before .before .before .before .before .before .before .named .given .1) (name-behind-on _ _) (rest-self _ _)) (on _ (blank-took (c .before .before .before .before .before .before .rest-at .ensures) (c .before .before .before .before .before .whitespace0 .ensures)) (fall _ _ (c .step-lost .result) (c .before .before .before .before .rest-at2 .ensures) (step-lost (λ c. tt) (c .step-lost .ensures) (c .before .enum-told2 .given .1) _ _ _ (c .before .before .before .tag .ensures))))))
+returns-2 c = read-not _ refl tt (begin (named-after _ _) _ _ (go _ (named-took (c .before .before .before .before .before .before .before .name-behind .ensures) (c .before .before .before .before .before .named .given .1) (name-behind-on _ _) (rest-self _ _)) (pair-fall _ _ _ (c .step-lost .result) (c .before .before .before .tag-behind .ensures .at) (skips-lost (c .step-lost .ensures) (c .before .enum-told2 .given .1) (c .before .before .before .tag-behind .ensures)))))
 
 returns-3 : tie.Need-returns-3
 unfolding named-after
-returns-3 c = read-is refl (begin (named-after _ _) _ _ (go _ (named-took (c .before .before .before .before .before .before .before .before .before .before .name-behind .ensures) (c .before .before .before .before .before .before .before .before .named .given .1) (name-behind-on _ _) (rest-self _ _)) (on _ (blank-took (c .before .before .before .before .before .before .rest-at .ensures) (c .before .before .before .before .before .whitespace0 .ensures)) (on _ (tag-took (c .before .before .before .before .rest-at2 .ensures) (c .before .semicolon .given .1) 59 (c .before .before .before .tag .ensures)) (done _ _ _ _))))) (let w = named-in (c .before .before .before .before .before .before .before .before .before .before .name-behind .ensures) (c .before .before .before .before .before .before .before .before .named .given .1) in record { from = w .from; up = w .up; inside = omega (arith, w .inside, (blank-took (c .before .before .before .before .before .before .rest-at .ensures) (c .before .before .before .before .before .whitespace0 .ensures)) .up, (tag-took (c .before .before .before .before .rest-at2 .ensures) (c .before .semicolon .given .1) 59 (c .before .before .before .tag .ensures)) .up) })
+returns-3 c = read-is refl (begin (named-after _ _) _ _ (go _ (named-took (c .before .before .before .before .before .before .before .name-behind .ensures) (c .before .before .before .before .before .named .given .1) (name-behind-on _ _) (rest-self _ _)) (pair-on _ _ _ (tag-behind-took 59 (c .before .semicolon .given .1) (c .before .before .before .tag-behind .ensures)) (done _ _ _ _)))) (let w = named-in (c .before .before .before .before .before .before .before .name-behind .ensures) (c .before .before .before .before .before .named .given .1) in record { from = w .from; up = w .up; inside = omega (arith, w .inside, (tag-behind-took 59 (c .before .semicolon .given .1) (c .before .before .before .tag-behind .ensures)) .up) })
 
 pub named-after-spec : {M : Type 1} → statement M
-named-after-spec =
-    tie.close
-    (tie.spec
-    name-behind-requires
-    enum-known-named
-    enum-told
-    named-lost-requires
-    returns
-    rest-at-requires
-    whitespace0-requires
-    rest-at-requires-2
-    tag-requires
-    enum-known-semicolon
-    enum-told-2
-    step-lost-requires
-    returns-2
-    returns-3)
+named-after-spec = tie.close (tie.spec name-behind-requires enum-known-named enum-told named-lost-requires returns tag-behind-requires enum-known-semicolon enum-told-2 step-lost-requires returns-2 returns-3)

@@ -8,29 +8,22 @@ use mathlib.Core.Path.{refl}
 use native.Mathlib.Omega.{arith}
 use Rattle.lexing.specs.bytes.{ascii}
 use Rattle.lexing.specs.answers.{wordAt}
-use Rattle.lexing.proofs.Slicing.{rest-self, begin, go, on, lose, fall, done, blank-took, set-took, word-took, keyword-took, step-lost}
+use Rattle.lexing.proofs.Slicing.{rest-self, begin, go, on, lose, done, set-took, word-took, step-lost}
 use Rattle.items.proofs.Answers.{read-not}
+use Rattle.items.proofs.Pairs.{pair-on, pair-fall}
 use Rattle.items.proofs.Locality.{access-to-inside}
+use Rattle.items.proofs.steps.Laws.{blank-at-took, keyword-behind-took, skips-lost}
 use Rattle.lexing.proofs.Locality.{chain-inside, chain-then}
 use Rattle.lexing.proofs.TokenLocality.{whitespace0-chain}
 
 keywords-set-requires : tie.Need-keywords-set-requires
 keywords-set-requires c κs = search needs
 
-rest-at-requires : tie.Need-rest-at-requires
-rest-at-requires c κs = omega (arith, (set-took (rest-self _ _) (c .keywords-set .ensures)) .up, (set-took (rest-self _ _) (c .keywords-set .ensures)) .inside)
+slice-aggregate-keyword-behind : tie.Need-slice-aggregate-keyword-behind
+slice-aggregate-keyword-behind c = search needs
 
-whitespace0-requires : tie.Need-whitespace0-requires
-whitespace0-requires c κs = omega (arith, c .rest-at .ensures .size, c .before .before .before .pre)
-
-rest-at-requires-2 : tie.Need-rest-at-requires-2
-rest-at-requires-2 c κs = omega (arith, (blank-took (c .before .rest-at .ensures) (c .whitespace0 .ensures)) .up, (blank-took (c .before .rest-at .ensures) (c .whitespace0 .ensures)) .inside, c .before .rest-at .ensures .from)
-
-slice-aggregate-keyword : tie.Need-slice-aggregate-keyword
-slice-aggregate-keyword c = search needs
-
-keyword-requires : tie.Need-keyword-requires
-keyword-requires c κs = omega (arith, c .before .rest-at2 .ensures .size, c .before .before .before .before .before .before .pre)
+keyword-behind-requires : tie.Need-keyword-behind-requires
+keyword-behind-requires c κs = omega (arith, (set-took (rest-self _ _) (c .before .keywords-set .ensures)) .up, (set-took (rest-self _ _) (c .before .keywords-set .ensures)) .inside, c .before .before .before .pre)
 
 enum-known-command : tie.Need-enum-known-command
 enum-known-command c = search needs
@@ -43,13 +36,13 @@ step-lost-requires c κs = search needs
 
 returns : tie.Need-returns
 unfolding command-head
-returns c = read-not _ refl tt (begin (command-head) _ _ (go _ (set-took (rest-self _ _) (c .before .before .before .before .before .before .before .before .keywords-set .ensures)) (on _ (blank-took (c .before .before .before .before .before .before .before .rest-at .ensures) (c .before .before .before .before .before .before .whitespace0 .ensures)) (fall _ _ (c .step-lost .result) (c .before .before .before .before .before .rest-at2 .ensures) (step-lost (wordAt _ _) (c .step-lost .ensures) (c .before .enum-told .given .1) _ _ _ (c .before .before .before .keyword .ensures))))))
+returns c = read-not _ refl tt (begin (command-head) _ _ (go _ (set-took (rest-self _ _) (c .before .before .before .before .before .keywords-set .ensures)) (pair-fall _ _ _ (c .step-lost .result) (c .before .before .before .keyword-behind .ensures .at) (skips-lost (c .step-lost .ensures) (c .before .enum-told .given .1) (c .before .before .before .keyword-behind .ensures)))))
 
-rest-at-requires-3 : tie.Need-rest-at-requires-3
-rest-at-requires-3 c κs = omega (arith, (keyword-took (c .before .before .before .before .before .rest-at2 .ensures) (c .before .command .given .1) (ascii "command") (c .before .before .before .keyword .ensures)) .up, (keyword-took (c .before .before .before .before .before .rest-at2 .ensures) (c .before .command .given .1) (ascii "command") (c .before .before .before .keyword .ensures)) .inside, c .before .before .before .before .before .rest-at2 .ensures .from)
+rest-at-requires : tie.Need-rest-at-requires
+rest-at-requires c κs = omega (arith, (keyword-behind-took (ascii "command") (c .before .command .given .1) (c .before .before .before .keyword-behind .ensures)) .up, (keyword-behind-took (ascii "command") (c .before .command .given .1) (c .before .before .before .keyword-behind .ensures)) .inside, c .before .before .before .keyword-behind .ensures .at .from)
 
 invoke-access-requires : tie.Need-invoke-access-requires
-invoke-access-requires c κs = omega (arith, c .rest-at3 .ensures .size, c .before .before .before .before .before .before .before .before .before .before .before .pre)
+invoke-access-requires c κs = omega (arith, c .rest-at .ensures .size, c .before .before .before .before .before .before .before .before .pre)
 
 level-or-requires : tie.Need-level-or-requires
 level-or-requires c κs = search needs
@@ -65,19 +58,16 @@ level-lost-requires c κs = search needs
 
 returns-2 : tie.Need-returns-2
 unfolding command-head
-returns-2 c = read-not _ refl tt (begin (command-head) _ _ (go _ (set-took (rest-self _ _) (c .before .before .before .before .before .before .before .before .before .before .before .before .before .before .keywords-set .ensures)) (on _ (blank-took (c .before .before .before .before .before .before .before .before .before .before .before .before .before .rest-at .ensures) (c .before .before .before .before .before .before .before .before .before .before .before .before .whitespace0 .ensures)) (on _ (keyword-took (c .before .before .before .before .before .before .before .before .before .before .before .rest-at2 .ensures) (c .before .before .before .before .before .before .before .command .given .1) (ascii "command") (c .before .before .before .before .before .before .before .before .before .keyword .ensures)) (lose _ _ (c .level-lost .result) (c .before .before .before .before .before .rest-at3 .ensures) (level-or-lost 1 (c .before .before .before .before .invoke-access .ensures) (c .before .before .before .level-or .ensures) (c .level-lost .ensures) (c .before .enum-told2 .given .1)))))))
+returns-2 c = read-not _ refl tt (begin (command-head) _ _ (go _ (set-took (rest-self _ _) (c .before .before .before .before .before .before .before .before .before .before .before .keywords-set .ensures)) (pair-on _ _ _ (keyword-behind-took (ascii "command") (c .before .before .before .before .before .before .before .command .given .1) (c .before .before .before .before .before .before .before .before .before .keyword-behind .ensures)) (lose _ _ (c .level-lost .result) (c .before .before .before .before .before .rest-at .ensures) (level-or-lost 1 (c .before .before .before .before .invoke-access .ensures) (c .before .before .before .level-or .ensures) (c .level-lost .ensures) (c .before .enum-told2 .given .1))))))
 
-rest-at-requires-4 : tie.Need-rest-at-requires-4
-rest-at-requires-4 c κs = omega (arith, ((level-or-took 1 (c .before .before .before .before .invoke-access .ensures) (c .before .before .before .level-or .ensures) (chain-then whitespace0-chain (chain-inside (access-to-inside (ascii "invoke")))) (omega arith) (c .before .before .before .before .before .rest-at3 .ensures) (c .before .access .given .1)) .step) .up, ((level-or-took 1 (c .before .before .before .before .invoke-access .ensures) (c .before .before .before .level-or .ensures) (chain-then whitespace0-chain (chain-inside (access-to-inside (ascii "invoke")))) (omega arith) (c .before .before .before .before .before .rest-at3 .ensures) (c .before .access .given .1)) .step) .inside, c .before .before .before .before .before .rest-at3 .ensures .from)
+blank-at-requires : tie.Need-blank-at-requires
+blank-at-requires c κs = omega (arith, ((level-or-took 1 (c .before .before .before .before .invoke-access .ensures) (c .before .before .before .level-or .ensures) (chain-then whitespace0-chain (chain-inside (access-to-inside (ascii "invoke")))) (omega arith) (c .before .before .before .before .before .rest-at .ensures) (c .before .access .given .1)) .step) .up, ((level-or-took 1 (c .before .before .before .before .invoke-access .ensures) (c .before .before .before .level-or .ensures) (chain-then whitespace0-chain (chain-inside (access-to-inside (ascii "invoke")))) (omega arith) (c .before .before .before .before .before .rest-at .ensures) (c .before .access .given .1)) .step) .inside, c .before .before .before .before .before .rest-at .ensures .from, c .before .before .before .before .before .before .before .before .before .before .before .before .before .pre)
 
-whitespace0-requires-2 : tie.Need-whitespace0-requires-2
-whitespace0-requires-2 c κs = omega (arith, c .rest-at4 .ensures .size, c .before .before .before .before .before .before .before .before .before .before .before .before .before .before .before .before .before .pre)
-
-rest-at-requires-5 : tie.Need-rest-at-requires-5
-rest-at-requires-5 c κs = omega (arith, (blank-took (c .before .rest-at4 .ensures) (c .whitespace02 .ensures)) .up, (blank-took (c .before .rest-at4 .ensures) (c .whitespace02 .ensures)) .inside, c .before .rest-at4 .ensures .from)
+rest-at-requires-2 : tie.Need-rest-at-requires-2
+rest-at-requires-2 c κs = omega (arith, (blank-at-took (c .blank-at .ensures)) .up, (blank-at-took (c .blank-at .ensures)) .inside, c .blank-at .ensures .at .from)
 
 parse-id-requires : tie.Need-parse-id-requires
-parse-id-requires c κs = omega (arith, c .rest-at5 .ensures .size, c .before .before .before .before .before .before .before .before .before .before .before .before .before .before .before .before .before .before .before .pre)
+parse-id-requires c κs = omega (arith, c .rest-at2 .ensures .size, c .before .before .before .before .before .before .before .before .before .before .before .before .before .before .before .pre)
 
 enum-known-id : tie.Need-enum-known-id
 enum-known-id c = search needs
@@ -90,39 +80,11 @@ step-lost-requires-2 c κs = search needs
 
 returns-3 : tie.Need-returns-3
 unfolding command-head
-returns-3 c = read-not _ refl tt (begin (command-head) _ _ (go _ (set-took (rest-self _ _) (c .before .before .before .before .before .before .before .before .before .before .before .before .before .before .before .before .before .before .before .before .before .keywords-set .ensures)) (on _ (blank-took (c .before .before .before .before .before .before .before .before .before .before .before .before .before .before .before .before .before .before .before .before .rest-at .ensures) (c .before .before .before .before .before .before .before .before .before .before .before .before .before .before .before .before .before .before .before .whitespace0 .ensures)) (on _ (keyword-took (c .before .before .before .before .before .before .before .before .before .before .before .before .before .before .before .before .before .before .rest-at2 .ensures) (c .before .before .before .before .before .before .before .before .before .before .before .before .before .before .command .given .1) (ascii "command") (c .before .before .before .before .before .before .before .before .before .before .before .before .before .before .before .before .keyword .ensures)) (go _ ((level-or-took 1 (c .before .before .before .before .before .before .before .before .before .before .before .invoke-access .ensures) (c .before .before .before .before .before .before .before .before .before .before .level-or .ensures) (chain-then whitespace0-chain (chain-inside (access-to-inside (ascii "invoke")))) (omega arith) (c .before .before .before .before .before .before .before .before .before .before .before .before .rest-at3 .ensures) (c .before .before .before .before .before .before .before .before .access .given .1)) .step) (on _ (blank-took (c .before .before .before .before .before .before .rest-at4 .ensures) (c .before .before .before .before .before .whitespace02 .ensures)) (lose _ _ (c .step-lost2 .result) (c .before .before .before .before .rest-at5 .ensures) (step-lost (wordAt _ _) (c .step-lost2 .ensures) (c .before .enum-told3 .given .1) _ _ _ (c .before .before .before .parse-id .ensures)))))))))
+returns-3 c = read-not _ refl tt (begin (command-head) _ _ (go _ (set-took (rest-self _ _) (c .before .before .before .before .before .before .before .before .before .before .before .before .before .before .before .before .before .keywords-set .ensures)) (pair-on _ _ _ (keyword-behind-took (ascii "command") (c .before .before .before .before .before .before .before .before .before .before .before .before .before .command .given .1) (c .before .before .before .before .before .before .before .before .before .before .before .before .before .before .before .keyword-behind .ensures)) (go _ ((level-or-took 1 (c .before .before .before .before .before .before .before .before .before .before .invoke-access .ensures) (c .before .before .before .before .before .before .before .before .before .level-or .ensures) (chain-then whitespace0-chain (chain-inside (access-to-inside (ascii "invoke")))) (omega arith) (c .before .before .before .before .before .before .before .before .before .before .before .rest-at .ensures) (c .before .before .before .before .before .before .before .access .given .1)) .step) (on _ (blank-at-took (c .before .before .before .before .before .blank-at .ensures)) (lose _ _ (c .step-lost2 .result) (c .before .before .before .before .rest-at2 .ensures) (step-lost (wordAt _ _) (c .step-lost2 .ensures) (c .before .enum-told3 .given .1) _ _ _ (c .before .before .before .parse-id .ensures))))))))
 
 returns-4 : tie.Need-returns-4
 unfolding command-head
-returns-4 c = command-head-is _ 1 _ ((level-or-took 1 (c .before .before .before .before .before .before .before .before .before .before .before .invoke-access .ensures) (c .before .before .before .before .before .before .before .before .before .before .level-or .ensures) (chain-then whitespace0-chain (chain-inside (access-to-inside (ascii "invoke")))) (omega arith) (c .before .before .before .before .before .before .before .before .before .before .before .before .rest-at3 .ensures) (c .before .before .before .before .before .before .before .before .access .given .1)) .granted) _ _ _ _ (fits-3 (c .before .before .before .before .before .before .before .before .before .before .before .before .before .before .before .before .before .before .before .before .before .keywords-set .ensures)) ((level-or-took 1 (c .before .before .before .before .before .before .before .before .before .before .before .invoke-access .ensures) (c .before .before .before .before .before .before .before .before .before .before .level-or .ensures) (chain-then whitespace0-chain (chain-inside (access-to-inside (ascii "invoke")))) (omega arith) (c .before .before .before .before .before .before .before .before .before .before .before .before .rest-at3 .ensures) (c .before .before .before .before .before .before .before .before .access .given .1)) .small) (omega (arith, (blank-took (c .before .before .before .before .before .before .rest-at4 .ensures) (c .before .before .before .before .before .whitespace02 .ensures)) .up, c .before .before .before .before .before .before .rest-at4 .ensures .from)) (omega (arith, (word-took (c .before .before .before .before .rest-at5 .ensures) (c .before .id .given .1) (c .before .before .before .parse-id .ensures)) .up)) ((level-or-took 1 (c .before .before .before .before .before .before .before .before .before .before .before .invoke-access .ensures) (c .before .before .before .before .before .before .before .before .before .before .level-or .ensures) (chain-then whitespace0-chain (chain-inside (access-to-inside (ascii "invoke")))) (omega arith) (c .before .before .before .before .before .before .before .before .before .before .before .before .rest-at3 .ensures) (c .before .before .before .before .before .before .before .before .access .given .1)) .is) (begin (command-head) _ _ (go _ (set-took (rest-self _ _) (c .before .before .before .before .before .before .before .before .before .before .before .before .before .before .before .before .before .before .before .before .before .keywords-set .ensures)) (on _ (blank-took (c .before .before .before .before .before .before .before .before .before .before .before .before .before .before .before .before .before .before .before .before .rest-at .ensures) (c .before .before .before .before .before .before .before .before .before .before .before .before .before .before .before .before .before .before .before .whitespace0 .ensures)) (on _ (keyword-took (c .before .before .before .before .before .before .before .before .before .before .before .before .before .before .before .before .before .before .rest-at2 .ensures) (c .before .before .before .before .before .before .before .before .before .before .before .before .before .before .command .given .1) (ascii "command") (c .before .before .before .before .before .before .before .before .before .before .before .before .before .before .before .before .keyword .ensures)) (go _ ((level-or-took 1 (c .before .before .before .before .before .before .before .before .before .before .before .invoke-access .ensures) (c .before .before .before .before .before .before .before .before .before .before .level-or .ensures) (chain-then whitespace0-chain (chain-inside (access-to-inside (ascii "invoke")))) (omega arith) (c .before .before .before .before .before .before .before .before .before .before .before .before .rest-at3 .ensures) (c .before .before .before .before .before .before .before .before .access .given .1)) .step) (on _ (blank-took (c .before .before .before .before .before .before .rest-at4 .ensures) (c .before .before .before .before .before .whitespace02 .ensures)) (go _ (word-took (c .before .before .before .before .rest-at5 .ensures) (c .before .id .given .1) (c .before .before .before .parse-id .ensures)) (done _ _ _ _))))))))
+returns-4 c = command-head-is _ 1 _ ((level-or-took 1 (c .before .before .before .before .before .before .before .before .before .before .invoke-access .ensures) (c .before .before .before .before .before .before .before .before .before .level-or .ensures) (chain-then whitespace0-chain (chain-inside (access-to-inside (ascii "invoke")))) (omega arith) (c .before .before .before .before .before .before .before .before .before .before .before .rest-at .ensures) (c .before .before .before .before .before .before .before .access .given .1)) .granted) _ _ _ _ (fits-3 (c .before .before .before .before .before .before .before .before .before .before .before .before .before .before .before .before .before .keywords-set .ensures)) ((level-or-took 1 (c .before .before .before .before .before .before .before .before .before .before .invoke-access .ensures) (c .before .before .before .before .before .before .before .before .before .level-or .ensures) (chain-then whitespace0-chain (chain-inside (access-to-inside (ascii "invoke")))) (omega arith) (c .before .before .before .before .before .before .before .before .before .before .before .rest-at .ensures) (c .before .before .before .before .before .before .before .access .given .1)) .small) (omega (arith, (blank-at-took (c .before .before .before .before .before .blank-at .ensures)) .up, c .before .before .before .before .before .blank-at .ensures .at .from)) (omega (arith, (word-took (c .before .before .before .before .rest-at2 .ensures) (c .before .id .given .1) (c .before .before .before .parse-id .ensures)) .up)) ((level-or-took 1 (c .before .before .before .before .before .before .before .before .before .before .invoke-access .ensures) (c .before .before .before .before .before .before .before .before .before .level-or .ensures) (chain-then whitespace0-chain (chain-inside (access-to-inside (ascii "invoke")))) (omega arith) (c .before .before .before .before .before .before .before .before .before .before .before .rest-at .ensures) (c .before .before .before .before .before .before .before .access .given .1)) .is) (begin (command-head) _ _ (go _ (set-took (rest-self _ _) (c .before .before .before .before .before .before .before .before .before .before .before .before .before .before .before .before .before .keywords-set .ensures)) (pair-on _ _ _ (keyword-behind-took (ascii "command") (c .before .before .before .before .before .before .before .before .before .before .before .before .before .command .given .1) (c .before .before .before .before .before .before .before .before .before .before .before .before .before .before .before .keyword-behind .ensures)) (go _ ((level-or-took 1 (c .before .before .before .before .before .before .before .before .before .before .invoke-access .ensures) (c .before .before .before .before .before .before .before .before .before .level-or .ensures) (chain-then whitespace0-chain (chain-inside (access-to-inside (ascii "invoke")))) (omega arith) (c .before .before .before .before .before .before .before .before .before .before .before .rest-at .ensures) (c .before .before .before .before .before .before .before .access .given .1)) .step) (on _ (blank-at-took (c .before .before .before .before .before .blank-at .ensures)) (go _ (word-took (c .before .before .before .before .rest-at2 .ensures) (c .before .id .given .1) (c .before .before .before .parse-id .ensures)) (done _ _ _ _)))))))
 
 pub command-head-spec : {M : Type 1} → statement M
-command-head-spec =
-    tie.close
-    (tie.spec
-    keywords-set-requires
-    rest-at-requires
-    whitespace0-requires
-    rest-at-requires-2
-    slice-aggregate-keyword
-    keyword-requires
-    enum-known-command
-    enum-told
-    step-lost-requires
-    returns
-    rest-at-requires-3
-    invoke-access-requires
-    level-or-requires
-    enum-known-access
-    enum-told-2
-    level-lost-requires
-    returns-2
-    rest-at-requires-4
-    whitespace0-requires-2
-    rest-at-requires-5
-    parse-id-requires
-    enum-known-id
-    enum-told-3
-    step-lost-requires-2
-    returns-3
-    returns-4)
+command-head-spec = tie.close (tie.spec keywords-set-requires slice-aggregate-keyword-behind keyword-behind-requires enum-known-command enum-told step-lost-requires returns rest-at-requires invoke-access-requires level-or-requires enum-known-access enum-told-2 level-lost-requires returns-2 blank-at-requires rest-at-requires-2 parse-id-requires enum-known-id enum-told-3 step-lost-requires-2 returns-3 returns-4)

@@ -6,9 +6,11 @@ use Rattle.items.proofs.members.Laws.{event-qualities-small}
 use mathlib.Core.Path.{refl}
 use native.Mathlib.Omega.{arith}
 use Rattle.lexing.specs.answers.{wordAt}
-use Rattle.lexing.proofs.Slicing.{walks, rest-self, begin, go, on, lose, fall, done, blank-took, word-took, tag-took, integer-took, step-lost, integer-lost}
+use Rattle.lexing.proofs.Slicing.{walks, rest-self, begin, go, on, lose, done, word-took, step-lost}
 use Rattle.items.proofs.Answers.{read-is, read-not, read-took, read-lost}
+use Rattle.items.proofs.Pairs.{pair-go, pair-on, pair-lose, pair-fall}
 use Rattle.items.proofs.Locality.{event-qualities-inside}
+use Rattle.items.proofs.steps.Laws.{blank-at-took, tag-behind-took, integer-behind-took, skips-lost, integer-behind-lost}
 use Rattle.lexing.proofs.Locality.{chain-inside}
 use Rattle.items.specs.answers.members.{eventQualitiesLost}
 
@@ -28,17 +30,14 @@ returns : tie.Need-returns
 unfolding event-head
 returns c = read-not _ refl tt (begin (event-head) _ _ (lose _ _ (c .event-qualities-lost .result) (rest-self _ _) (read-lost (c .before .before .before .event-qualities .ensures) (c .before .enum-told .given .1) eventQualitiesLost (c .event-qualities-lost .ensures) refl)))
 
+blank-at-requires : tie.Need-blank-at-requires
+blank-at-requires c κs = omega (arith, (read-took (c .before .before .before .event-qualities .ensures) (c .before .qualities .given .1) (walks (chain-inside event-qualities-inside)) (rest-self _ _) refl) .up, (read-took (c .before .before .before .event-qualities .ensures) (c .before .qualities .given .1) (walks (chain-inside event-qualities-inside)) (rest-self _ _) refl) .inside, c .before .before .before .before .before .pre)
+
 rest-at-requires : tie.Need-rest-at-requires
-rest-at-requires c κs = omega (arith, (read-took (c .before .before .before .event-qualities .ensures) (c .before .qualities .given .1) (walks (chain-inside event-qualities-inside)) (rest-self _ _) refl) .up, (read-took (c .before .before .before .event-qualities .ensures) (c .before .qualities .given .1) (walks (chain-inside event-qualities-inside)) (rest-self _ _) refl) .inside)
-
-whitespace0-requires : tie.Need-whitespace0-requires
-whitespace0-requires c κs = omega (arith, c .rest-at .ensures .size, c .before .before .before .before .before .before .pre)
-
-rest-at-requires-2 : tie.Need-rest-at-requires-2
-rest-at-requires-2 c κs = omega (arith, (blank-took (c .before .rest-at .ensures) (c .whitespace0 .ensures)) .up, (blank-took (c .before .rest-at .ensures) (c .whitespace0 .ensures)) .inside, c .before .rest-at .ensures .from)
+rest-at-requires c κs = omega (arith, (blank-at-took (c .blank-at .ensures)) .up, (blank-at-took (c .blank-at .ensures)) .inside, c .blank-at .ensures .at .from)
 
 parse-id-requires : tie.Need-parse-id-requires
-parse-id-requires c κs = omega (arith, c .rest-at2 .ensures .size, c .before .before .before .before .before .before .before .before .pre)
+parse-id-requires c κs = omega (arith, c .rest-at .ensures .size, c .before .before .before .before .before .before .before .pre)
 
 enum-known-id : tie.Need-enum-known-id
 enum-known-id c = search needs
@@ -51,19 +50,10 @@ step-lost-requires c κs = search needs
 
 returns-2 : tie.Need-returns-2
 unfolding event-head
-returns-2 c = read-not _ refl tt (begin (event-head) _ _ (go _ (read-took (c .before .before .before .before .before .before .before .before .before .before .event-qualities .ensures) (c .before .before .before .before .before .before .before .before .qualities .given .1) (walks (chain-inside event-qualities-inside)) (rest-self _ _) refl) (on _ (blank-took (c .before .before .before .before .before .before .rest-at .ensures) (c .before .before .before .before .before .whitespace0 .ensures)) (lose _ _ (c .step-lost .result) (c .before .before .before .before .rest-at2 .ensures) (step-lost (wordAt _ _) (c .step-lost .ensures) (c .before .enum-told2 .given .1) _ _ _ (c .before .before .before .parse-id .ensures))))))
+returns-2 c = read-not _ refl tt (begin (event-head) _ _ (go _ (read-took (c .before .before .before .before .before .before .before .before .before .event-qualities .ensures) (c .before .before .before .before .before .before .before .qualities .given .1) (walks (chain-inside event-qualities-inside)) (rest-self _ _) refl) (on _ (blank-at-took (c .before .before .before .before .before .blank-at .ensures)) (lose _ _ (c .step-lost .result) (c .before .before .before .before .rest-at .ensures) (step-lost (wordAt _ _) (c .step-lost .ensures) (c .before .enum-told2 .given .1) _ _ _ (c .before .before .before .parse-id .ensures))))))
 
-rest-at-requires-3 : tie.Need-rest-at-requires-3
-rest-at-requires-3 c κs = omega (arith, (word-took (c .before .before .before .before .rest-at2 .ensures) (c .before .id .given .1) (c .before .before .before .parse-id .ensures)) .up, (word-took (c .before .before .before .before .rest-at2 .ensures) (c .before .id .given .1) (c .before .before .before .parse-id .ensures)) .inside, c .before .before .before .before .rest-at2 .ensures .from)
-
-whitespace0-requires-2 : tie.Need-whitespace0-requires-2
-whitespace0-requires-2 c κs = omega (arith, c .rest-at3 .ensures .size, c .before .before .before .before .before .before .before .before .before .before .before .before .before .pre)
-
-rest-at-requires-4 : tie.Need-rest-at-requires-4
-rest-at-requires-4 c κs = omega (arith, (blank-took (c .before .rest-at3 .ensures) (c .whitespace02 .ensures)) .up, (blank-took (c .before .rest-at3 .ensures) (c .whitespace02 .ensures)) .inside, c .before .rest-at3 .ensures .from)
-
-tag-requires : tie.Need-tag-requires
-tag-requires c κs = omega (arith, c .rest-at4 .ensures .size, c .before .before .before .before .before .before .before .before .before .before .before .before .before .before .before .pre)
+tag-behind-requires : tie.Need-tag-behind-requires
+tag-behind-requires c κs = omega (arith, (word-took (c .before .before .before .before .rest-at .ensures) (c .before .id .given .1) (c .before .before .before .parse-id .ensures)) .up, (word-took (c .before .before .before .before .rest-at .ensures) (c .before .id .given .1) (c .before .before .before .parse-id .ensures)) .inside, c .before .before .before .before .rest-at .ensures .from, c .before .before .before .before .before .before .before .before .before .before .before .pre)
 
 enum-known-equals : tie.Need-enum-known-equals
 enum-known-equals c = search needs
@@ -76,19 +66,10 @@ step-lost-requires-2 c κs = search needs
 
 returns-3 : tie.Need-returns-3
 unfolding event-head
-returns-3 c = read-not _ refl tt (begin (event-head) _ _ (go _ (read-took (c .before .before .before .before .before .before .before .before .before .before .before .before .before .before .before .before .before .event-qualities .ensures) (c .before .before .before .before .before .before .before .before .before .before .before .before .before .before .before .qualities .given .1) (walks (chain-inside event-qualities-inside)) (rest-self _ _) refl) (on _ (blank-took (c .before .before .before .before .before .before .before .before .before .before .before .before .before .rest-at .ensures) (c .before .before .before .before .before .before .before .before .before .before .before .before .whitespace0 .ensures)) (go _ (word-took (c .before .before .before .before .before .before .before .before .before .before .before .rest-at2 .ensures) (c .before .before .before .before .before .before .before .before .id .given .1) (c .before .before .before .before .before .before .before .before .before .before .parse-id .ensures)) (on _ (blank-took (c .before .before .before .before .before .before .rest-at3 .ensures) (c .before .before .before .before .before .whitespace02 .ensures)) (fall _ _ (c .step-lost2 .result) (c .before .before .before .before .rest-at4 .ensures) (step-lost (λ c. tt) (c .step-lost2 .ensures) (c .before .enum-told3 .given .1) _ _ _ (c .before .before .before .tag .ensures))))))))
+returns-3 c = read-not _ refl tt (begin (event-head) _ _ (go _ (read-took (c .before .before .before .before .before .before .before .before .before .before .before .before .before .event-qualities .ensures) (c .before .before .before .before .before .before .before .before .before .before .before .qualities .given .1) (walks (chain-inside event-qualities-inside)) (rest-self _ _) refl) (on _ (blank-at-took (c .before .before .before .before .before .before .before .before .before .blank-at .ensures)) (go _ (word-took (c .before .before .before .before .before .before .before .before .rest-at .ensures) (c .before .before .before .before .before .id .given .1) (c .before .before .before .before .before .before .before .parse-id .ensures)) (pair-fall _ _ _ (c .step-lost2 .result) (c .before .before .before .tag-behind .ensures .at) (skips-lost (c .step-lost2 .ensures) (c .before .enum-told3 .given .1) (c .before .before .before .tag-behind .ensures)))))))
 
-rest-at-requires-5 : tie.Need-rest-at-requires-5
-rest-at-requires-5 c κs = omega (arith, (tag-took (c .before .before .before .before .rest-at4 .ensures) (c .before .equals .given .1) 61 (c .before .before .before .tag .ensures)) .up, (tag-took (c .before .before .before .before .rest-at4 .ensures) (c .before .equals .given .1) 61 (c .before .before .before .tag .ensures)) .inside, c .before .before .before .before .rest-at4 .ensures .from)
-
-whitespace0-requires-3 : tie.Need-whitespace0-requires-3
-whitespace0-requires-3 c κs = omega (arith, c .rest-at5 .ensures .size, c .before .before .before .before .before .before .before .before .before .before .before .before .before .before .before .before .before .before .before .before .pre)
-
-rest-at-requires-6 : tie.Need-rest-at-requires-6
-rest-at-requires-6 c κs = omega (arith, (blank-took (c .before .rest-at5 .ensures) (c .whitespace03 .ensures)) .up, (blank-took (c .before .rest-at5 .ensures) (c .whitespace03 .ensures)) .inside, c .before .rest-at5 .ensures .from)
-
-positive-integer-requires : tie.Need-positive-integer-requires
-positive-integer-requires c κs = omega (arith, c .rest-at6 .ensures .size, c .before .before .before .before .before .before .before .before .before .before .before .before .before .before .before .before .before .before .before .before .before .before .pre)
+integer-behind-requires : tie.Need-integer-behind-requires
+integer-behind-requires c κs = omega (arith, (tag-behind-took 61 (c .before .equals .given .1) (c .before .before .before .tag-behind .ensures)) .up, (tag-behind-took 61 (c .before .equals .given .1) (c .before .before .before .tag-behind .ensures)) .inside, c .before .before .before .tag-behind .ensures .at .from, c .before .before .before .before .before .before .before .before .before .before .before .before .before .before .before .pre)
 
 enum-known-number : tie.Need-enum-known-number
 enum-known-number c = search needs
@@ -101,51 +82,14 @@ number-lost-requires c κs = search needs
 
 returns-4 : tie.Need-returns-4
 unfolding event-head
-returns-4 c = read-not _ refl tt (begin (event-head) _ _ (go _ (read-took (c .before .before .before .before .before .before .before .before .before .before .before .before .before .before .before .before .before .before .before .before .before .before .before .before .event-qualities .ensures) (c .before .before .before .before .before .before .before .before .before .before .before .before .before .before .before .before .before .before .before .before .before .before .qualities .given .1) (walks (chain-inside event-qualities-inside)) (rest-self _ _) refl) (on _ (blank-took (c .before .before .before .before .before .before .before .before .before .before .before .before .before .before .before .before .before .before .before .before .rest-at .ensures) (c .before .before .before .before .before .before .before .before .before .before .before .before .before .before .before .before .before .before .before .whitespace0 .ensures)) (go _ (word-took (c .before .before .before .before .before .before .before .before .before .before .before .before .before .before .before .before .before .before .rest-at2 .ensures) (c .before .before .before .before .before .before .before .before .before .before .before .before .before .before .before .id .given .1) (c .before .before .before .before .before .before .before .before .before .before .before .before .before .before .before .before .before .parse-id .ensures)) (on _ (blank-took (c .before .before .before .before .before .before .before .before .before .before .before .before .before .rest-at3 .ensures) (c .before .before .before .before .before .before .before .before .before .before .before .before .whitespace02 .ensures)) (on _ (tag-took (c .before .before .before .before .before .before .before .before .before .before .before .rest-at4 .ensures) (c .before .before .before .before .before .before .before .before .equals .given .1) 61 (c .before .before .before .before .before .before .before .before .before .before .tag .ensures)) (on _ (blank-took (c .before .before .before .before .before .before .rest-at5 .ensures) (c .before .before .before .before .before .whitespace03 .ensures)) (lose _ _ (c .number-lost .result) (c .before .before .before .before .rest-at6 .ensures) (integer-lost (c .number-lost .ensures) (c .before .enum-told4 .given .1) _ _ _ (c .before .before .before .positive-integer .ensures))))))))))
+returns-4 c = read-not _ refl tt (begin (event-head) _ _ (go _ (read-took (c .before .before .before .before .before .before .before .before .before .before .before .before .before .before .before .before .before .event-qualities .ensures) (c .before .before .before .before .before .before .before .before .before .before .before .before .before .before .before .qualities .given .1) (walks (chain-inside event-qualities-inside)) (rest-self _ _) refl) (on _ (blank-at-took (c .before .before .before .before .before .before .before .before .before .before .before .before .before .blank-at .ensures)) (go _ (word-took (c .before .before .before .before .before .before .before .before .before .before .before .before .rest-at .ensures) (c .before .before .before .before .before .before .before .before .before .id .given .1) (c .before .before .before .before .before .before .before .before .before .before .before .parse-id .ensures)) (pair-on _ _ _ (tag-behind-took 61 (c .before .before .before .before .before .equals .given .1) (c .before .before .before .before .before .before .before .tag-behind .ensures)) (pair-lose _ _ _ (c .number-lost .result) (c .before .before .before .integer-behind .ensures .at) (integer-behind-lost (c .before .before .before .integer-behind .ensures) (c .number-lost .ensures) (c .before .enum-told4 .given .1))))))))
 
-rest-at-requires-7 : tie.Need-rest-at-requires-7
-rest-at-requires-7 c κs = omega (arith, (integer-took (c .before .before .before .before .rest-at6 .ensures) (c .before .number .given .1) (c .before .before .before .positive-integer .ensures)) .up, (integer-took (c .before .before .before .before .rest-at6 .ensures) (c .before .number .given .1) (c .before .before .before .positive-integer .ensures)) .inside, c .before .before .before .before .rest-at6 .ensures .from)
-
-whitespace0-requires-4 : tie.Need-whitespace0-requires-4
-whitespace0-requires-4 c κs = omega (arith, c .rest-at7 .ensures .size, c .before .before .before .before .before .before .before .before .before .before .before .before .before .before .before .before .before .before .before .before .before .before .before .before .before .before .before .pre)
+blank-at-requires-2 : tie.Need-blank-at-requires-2
+blank-at-requires-2 c κs = omega (arith, (integer-behind-took (c .before .before .before .integer-behind .ensures) (c .before .number .given .1)) .up, (integer-behind-took (c .before .before .before .integer-behind .ensures) (c .before .number .given .1)) .inside, c .before .before .before .integer-behind .ensures .at .from, c .before .before .before .before .before .before .before .before .before .before .before .before .before .before .before .before .before .before .before .pre)
 
 returns-5 : tie.Need-returns-5
 unfolding event-head
-returns-5 c = read-is refl (begin (event-head) _ _ (go _ (read-took (c .before .before .before .before .before .before .before .before .before .before .before .before .before .before .before .before .before .before .before .before .before .before .before .before .before .before .event-qualities .ensures) (c .before .before .before .before .before .before .before .before .before .before .before .before .before .before .before .before .before .before .before .before .before .before .before .before .qualities .given .1) (walks (chain-inside event-qualities-inside)) (rest-self _ _) refl) (on _ (blank-took (c .before .before .before .before .before .before .before .before .before .before .before .before .before .before .before .before .before .before .before .before .before .before .rest-at .ensures) (c .before .before .before .before .before .before .before .before .before .before .before .before .before .before .before .before .before .before .before .before .before .whitespace0 .ensures)) (go _ (word-took (c .before .before .before .before .before .before .before .before .before .before .before .before .before .before .before .before .before .before .before .before .rest-at2 .ensures) (c .before .before .before .before .before .before .before .before .before .before .before .before .before .before .before .before .before .id .given .1) (c .before .before .before .before .before .before .before .before .before .before .before .before .before .before .before .before .before .before .before .parse-id .ensures)) (on _ (blank-took (c .before .before .before .before .before .before .before .before .before .before .before .before .before .before .before .rest-at3 .ensures) (c .before .before .before .before .before .before .before .before .before .before .before .before .before .before .whitespace02 .ensures)) (on _ (tag-took (c .before .before .before .before .before .before .before .before .before .before .before .before .before .rest-at4 .ensures) (c .before .before .before .before .before .before .before .before .before .before .equals .given .1) 61 (c .before .before .before .before .before .before .before .before .before .before .before .before .tag .ensures)) (on _ (blank-took (c .before .before .before .before .before .before .before .before .rest-at5 .ensures) (c .before .before .before .before .before .before .before .whitespace03 .ensures)) (go _ (integer-took (c .before .before .before .before .before .before .rest-at6 .ensures) (c .before .before .before .number .given .1) (c .before .before .before .before .before .positive-integer .ensures)) (on _ (blank-took (c .before .rest-at7 .ensures) (c .whitespace04 .ensures)) (done _ _ _ _)))))))))) (let w = event-qualities-small (c .before .before .before .before .before .before .before .before .before .before .before .before .before .before .before .before .before .before .before .before .before .before .before .before .before .before .event-qualities .ensures) (c .before .before .before .before .before .before .before .before .before .before .before .before .before .before .before .before .before .before .before .before .before .before .before .before .qualities .given .1) in record { sensitive = w .sensitive; rank = w .rank; privilege = w .privilege; name-from = omega (arith, (read-took (c .before .before .before .before .before .before .before .before .before .before .before .before .before .before .before .before .before .before .before .before .before .before .before .before .before .before .event-qualities .ensures) (c .before .before .before .before .before .before .before .before .before .before .before .before .before .before .before .before .before .before .before .before .before .before .before .before .qualities .given .1) (walks (chain-inside event-qualities-inside)) (rest-self _ _) refl) .up, (blank-took (c .before .before .before .before .before .before .before .before .before .before .before .before .before .before .before .before .before .before .before .before .before .before .rest-at .ensures) (c .before .before .before .before .before .before .before .before .before .before .before .before .before .before .before .before .before .before .before .before .before .whitespace0 .ensures)) .up); name-to = (word-took (c .before .before .before .before .before .before .before .before .before .before .before .before .before .before .before .before .before .before .before .before .rest-at2 .ensures) (c .before .before .before .before .before .before .before .before .before .before .before .before .before .before .before .before .before .id .given .1) (c .before .before .before .before .before .before .before .before .before .before .before .before .before .before .before .before .before .before .before .parse-id .ensures)) .up; before = omega (arith, (blank-took (c .before .before .before .before .before .before .before .before .before .before .before .before .before .before .before .rest-at3 .ensures) (c .before .before .before .before .before .before .before .before .before .before .before .before .before .before .whitespace02 .ensures)) .up, (tag-took (c .before .before .before .before .before .before .before .before .before .before .before .before .before .rest-at4 .ensures) (c .before .before .before .before .before .before .before .before .before .before .equals .given .1) 61 (c .before .before .before .before .before .before .before .before .before .before .before .before .tag .ensures)) .up, (blank-took (c .before .before .before .before .before .before .before .before .rest-at5 .ensures) (c .before .before .before .before .before .before .before .whitespace03 .ensures)) .up, (integer-took (c .before .before .before .before .before .before .rest-at6 .ensures) (c .before .before .before .number .given .1) (c .before .before .before .before .before .positive-integer .ensures)) .up, (blank-took (c .before .rest-at7 .ensures) (c .whitespace04 .ensures)) .up) })
+returns-5 c = read-is refl (begin (event-head) _ _ (go _ (read-took (c .before .before .before .before .before .before .before .before .before .before .before .before .before .before .before .before .before .before .event-qualities .ensures) (c .before .before .before .before .before .before .before .before .before .before .before .before .before .before .before .before .qualities .given .1) (walks (chain-inside event-qualities-inside)) (rest-self _ _) refl) (on _ (blank-at-took (c .before .before .before .before .before .before .before .before .before .before .before .before .before .before .blank-at .ensures)) (go _ (word-took (c .before .before .before .before .before .before .before .before .before .before .before .before .before .rest-at .ensures) (c .before .before .before .before .before .before .before .before .before .before .id .given .1) (c .before .before .before .before .before .before .before .before .before .before .before .before .parse-id .ensures)) (pair-on _ _ _ (tag-behind-took 61 (c .before .before .before .before .before .before .equals .given .1) (c .before .before .before .before .before .before .before .before .tag-behind .ensures)) (pair-go _ _ _ (integer-behind-took (c .before .before .before .before .integer-behind .ensures) (c .before .before .number .given .1)) (on _ (blank-at-took (c .blank-at2 .ensures)) (done _ _ _ _)))))))) (let w = event-qualities-small (c .before .before .before .before .before .before .before .before .before .before .before .before .before .before .before .before .before .before .event-qualities .ensures) (c .before .before .before .before .before .before .before .before .before .before .before .before .before .before .before .before .qualities .given .1) in record { sensitive = w .sensitive; rank = w .rank; privilege = w .privilege; name-from = omega (arith, (read-took (c .before .before .before .before .before .before .before .before .before .before .before .before .before .before .before .before .before .before .event-qualities .ensures) (c .before .before .before .before .before .before .before .before .before .before .before .before .before .before .before .before .qualities .given .1) (walks (chain-inside event-qualities-inside)) (rest-self _ _) refl) .up, (blank-at-took (c .before .before .before .before .before .before .before .before .before .before .before .before .before .before .blank-at .ensures)) .up); name-to = (word-took (c .before .before .before .before .before .before .before .before .before .before .before .before .before .rest-at .ensures) (c .before .before .before .before .before .before .before .before .before .before .id .given .1) (c .before .before .before .before .before .before .before .before .before .before .before .before .parse-id .ensures)) .up; before = omega (arith, (tag-behind-took 61 (c .before .before .before .before .before .before .equals .given .1) (c .before .before .before .before .before .before .before .before .tag-behind .ensures)) .up, (integer-behind-took (c .before .before .before .before .integer-behind .ensures) (c .before .before .number .given .1)) .up, (blank-at-took (c .blank-at2 .ensures)) .up) })
 
 pub event-head-spec : {M : Type 1} → statement M
-event-head-spec =
-    tie.close
-    (tie.spec
-    event-qualities-requires
-    enum-known-qualities
-    enum-told
-    event-qualities-lost-requires
-    returns
-    rest-at-requires
-    whitespace0-requires
-    rest-at-requires-2
-    parse-id-requires
-    enum-known-id
-    enum-told-2
-    step-lost-requires
-    returns-2
-    rest-at-requires-3
-    whitespace0-requires-2
-    rest-at-requires-4
-    tag-requires
-    enum-known-equals
-    enum-told-3
-    step-lost-requires-2
-    returns-3
-    rest-at-requires-5
-    whitespace0-requires-3
-    rest-at-requires-6
-    positive-integer-requires
-    enum-known-number
-    enum-told-4
-    number-lost-requires
-    returns-4
-    rest-at-requires-7
-    whitespace0-requires-4
-    returns-5)
+event-head-spec = tie.close (tie.spec event-qualities-requires enum-known-qualities enum-told event-qualities-lost-requires returns blank-at-requires rest-at-requires parse-id-requires enum-known-id enum-told-2 step-lost-requires returns-2 tag-behind-requires enum-known-equals enum-told-3 step-lost-requires-2 returns-3 integer-behind-requires enum-known-number enum-told-4 number-lost-requires returns-4 blank-at-requires-2 returns-5)

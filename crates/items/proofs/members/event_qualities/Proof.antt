@@ -8,25 +8,23 @@ use mathlib.Core.Path.{refl}
 use native.Mathlib.Omega.{arith}
 use Rattle.lexing.specs.bytes.{ascii}
 use Rattle.lexing.specs.answers.{wordAt}
-use Rattle.lexing.proofs.Slicing.{walks, rest-self, begin, go, on, lose, fall, done, blank-took, gap-took, set-took, keyword-took, step-lost, gap-lost}
+use Rattle.lexing.proofs.Slicing.{walks, rest-self, begin, go, on, lose, fall, done, set-took, keyword-took, step-lost}
 use Rattle.items.proofs.Answers.{read-not}
 use Rattle.items.proofs.Locality.{event-priority-local, access-to-inside}
+use Rattle.items.proofs.steps.Laws.{blank-at-took, gap-at-took, skips-lost}
 use Rattle.lexing.proofs.Locality.{chain-inside}
 
 keywords-set-requires : tie.Need-keywords-set-requires
 keywords-set-requires c κs = search needs
 
+blank-at-requires : tie.Need-blank-at-requires
+blank-at-requires c κs = omega (arith, (set-took (rest-self _ _) (c .keywords-set .ensures)) .up, (set-took (rest-self _ _) (c .keywords-set .ensures)) .inside, c .before .before .pre)
+
 rest-at-requires : tie.Need-rest-at-requires
-rest-at-requires c κs = omega (arith, (set-took (rest-self _ _) (c .keywords-set .ensures)) .up, (set-took (rest-self _ _) (c .keywords-set .ensures)) .inside)
-
-whitespace0-requires : tie.Need-whitespace0-requires
-whitespace0-requires c κs = omega (arith, c .rest-at .ensures .size, c .before .before .before .pre)
-
-rest-at-requires-2 : tie.Need-rest-at-requires-2
-rest-at-requires-2 c κs = omega (arith, (blank-took (c .before .rest-at .ensures) (c .whitespace0 .ensures)) .up, (blank-took (c .before .rest-at .ensures) (c .whitespace0 .ensures)) .inside, c .before .rest-at .ensures .from)
+rest-at-requires c κs = omega (arith, (blank-at-took (c .blank-at .ensures)) .up, (blank-at-took (c .blank-at .ensures)) .inside, c .blank-at .ensures .at .from)
 
 event-priority-requires : tie.Need-event-priority-requires
-event-priority-requires c κs = omega (arith, c .rest-at2 .ensures .size, c .before .before .before .before .before .pre)
+event-priority-requires c κs = omega (arith, c .rest-at .ensures .size, c .before .before .before .before .pre)
 
 enum-known-priority : tie.Need-enum-known-priority
 enum-known-priority c = search needs
@@ -39,13 +37,10 @@ level-lost-requires c κs = search needs
 
 returns : tie.Need-returns
 unfolding event-qualities
-returns c = read-not _ refl tt (begin (event-qualities) _ _ (go _ (set-took (rest-self _ _) (c .before .before .before .before .before .before .before .keywords-set .ensures)) (on _ (blank-took (c .before .before .before .before .before .before .rest-at .ensures) (c .before .before .before .before .before .whitespace0 .ensures)) (lose _ _ (c .level-lost .result) (c .before .before .before .before .rest-at2 .ensures) (level-lost (c .before .before .before .event-priority .ensures) (c .level-lost .ensures) (c .before .enum-told .given .1))))))
+returns c = read-not _ refl tt (begin (event-qualities) _ _ (go _ (set-took (rest-self _ _) (c .before .before .before .before .before .before .keywords-set .ensures)) (on _ (blank-at-took (c .before .before .before .before .before .blank-at .ensures)) (lose _ _ (c .level-lost .result) (c .before .before .before .before .rest-at .ensures) (level-lost (c .before .before .before .event-priority .ensures) (c .level-lost .ensures) (c .before .enum-told .given .1))))))
 
-rest-at-requires-3 : tie.Need-rest-at-requires-3
-rest-at-requires-3 c κs = omega (arith, (level-took (c .before .before .before .event-priority .ensures) (walks (event-priority-local .on-chain)) (c .before .before .before .before .rest-at2 .ensures) (c .before .priority .given .1)) .up, (level-took (c .before .before .before .event-priority .ensures) (walks (event-priority-local .on-chain)) (c .before .before .before .before .rest-at2 .ensures) (c .before .priority .given .1)) .inside, c .before .before .before .before .rest-at2 .ensures .from)
-
-whitespace1-requires : tie.Need-whitespace1-requires
-whitespace1-requires c κs = omega (arith, c .rest-at3 .ensures .size, c .before .before .before .before .before .before .before .before .before .before .pre)
+gap-at-requires : tie.Need-gap-at-requires
+gap-at-requires c κs = omega (arith, (level-took (c .before .before .before .event-priority .ensures) (walks (event-priority-local .on-chain)) (c .before .before .before .before .rest-at .ensures) (c .before .priority .given .1)) .up, (level-took (c .before .before .before .event-priority .ensures) (walks (event-priority-local .on-chain)) (c .before .before .before .before .rest-at .ensures) (c .before .priority .given .1)) .inside, c .before .before .before .before .rest-at .ensures .from, c .before .before .before .before .before .before .before .before .pre)
 
 enum-known-gap1 : tie.Need-enum-known-gap1
 enum-known-gap1 c = search needs
@@ -53,21 +48,21 @@ enum-known-gap1 c = search needs
 enum-told-2 : tie.Need-enum-told-2
 enum-told-2 c = search needs
 
-gap-lost-requires : tie.Need-gap-lost-requires
-gap-lost-requires c κs = search needs
+step-lost-requires : tie.Need-step-lost-requires
+step-lost-requires c κs = search needs
 
 returns-2 : tie.Need-returns-2
 unfolding event-qualities
-returns-2 c = read-not _ refl tt (begin (event-qualities) _ _ (go _ (set-took (rest-self _ _) (c .before .before .before .before .before .before .before .before .before .before .before .before .keywords-set .ensures)) (on _ (blank-took (c .before .before .before .before .before .before .before .before .before .before .before .rest-at .ensures) (c .before .before .before .before .before .before .before .before .before .before .whitespace0 .ensures)) (go _ (level-took (c .before .before .before .before .before .before .before .before .event-priority .ensures) (walks (event-priority-local .on-chain)) (c .before .before .before .before .before .before .before .before .before .rest-at2 .ensures) (c .before .before .before .before .before .before .priority .given .1)) (fall _ _ (c .gap-lost .result) (c .before .before .before .before .rest-at3 .ensures) (gap-lost (c .gap-lost .ensures) (c .before .enum-told2 .given .1) _ _ _ (c .before .before .before .whitespace1 .ensures)))))))
+returns-2 c = read-not _ refl tt (begin (event-qualities) _ _ (go _ (set-took (rest-self _ _) (c .before .before .before .before .before .before .before .before .before .before .keywords-set .ensures)) (on _ (blank-at-took (c .before .before .before .before .before .before .before .before .before .blank-at .ensures)) (go _ (level-took (c .before .before .before .before .before .before .before .event-priority .ensures) (walks (event-priority-local .on-chain)) (c .before .before .before .before .before .before .before .before .rest-at .ensures) (c .before .before .before .before .before .priority .given .1)) (fall _ _ (c .step-lost .result) (c .before .before .before .gap-at .ensures .at) (skips-lost (c .step-lost .ensures) (c .before .enum-told2 .given .1) (c .before .before .before .gap-at .ensures)))))))
 
-rest-at-requires-4 : tie.Need-rest-at-requires-4
-rest-at-requires-4 c κs = omega (arith, (gap-took (c .before .before .before .before .rest-at3 .ensures) (c .before .gap1 .given .1) (c .before .before .before .whitespace1 .ensures)) .up, (gap-took (c .before .before .before .before .rest-at3 .ensures) (c .before .gap1 .given .1) (c .before .before .before .whitespace1 .ensures)) .inside, c .before .before .before .before .rest-at3 .ensures .from)
+rest-at-requires-2 : tie.Need-rest-at-requires-2
+rest-at-requires-2 c κs = omega (arith, (gap-at-took (c .before .gap1 .given .1) (c .before .before .before .gap-at .ensures)) .up, (gap-at-took (c .before .gap1 .given .1) (c .before .before .before .gap-at .ensures)) .inside, c .before .before .before .gap-at .ensures .at .from)
 
 slice-aggregate-keyword : tie.Need-slice-aggregate-keyword
 slice-aggregate-keyword c = search needs
 
 keyword-requires : tie.Need-keyword-requires
-keyword-requires c κs = omega (arith, c .before .rest-at4 .ensures .size, c .before .before .before .before .before .before .before .before .before .before .before .before .before .before .before .before .pre)
+keyword-requires c κs = omega (arith, c .before .rest-at2 .ensures .size, c .before .before .before .before .before .before .before .before .before .before .before .before .before .before .pre)
 
 enum-known-event : tie.Need-enum-known-event
 enum-known-event c = search needs
@@ -75,18 +70,15 @@ enum-known-event c = search needs
 enum-told-3 : tie.Need-enum-told-3
 enum-told-3 c = search needs
 
-step-lost-requires : tie.Need-step-lost-requires
-step-lost-requires c κs = search needs
+step-lost-requires-2 : tie.Need-step-lost-requires-2
+step-lost-requires-2 c κs = search needs
 
 returns-3 : tie.Need-returns-3
 unfolding event-qualities
-returns-3 c = read-not _ refl tt (begin (event-qualities) _ _ (go _ (set-took (rest-self _ _) (c .before .before .before .before .before .before .before .before .before .before .before .before .before .before .before .before .before .before .keywords-set .ensures)) (on _ (blank-took (c .before .before .before .before .before .before .before .before .before .before .before .before .before .before .before .before .before .rest-at .ensures) (c .before .before .before .before .before .before .before .before .before .before .before .before .before .before .before .before .whitespace0 .ensures)) (go _ (level-took (c .before .before .before .before .before .before .before .before .before .before .before .before .before .before .event-priority .ensures) (walks (event-priority-local .on-chain)) (c .before .before .before .before .before .before .before .before .before .before .before .before .before .before .before .rest-at2 .ensures) (c .before .before .before .before .before .before .before .before .before .before .before .before .priority .given .1)) (on _ (gap-took (c .before .before .before .before .before .before .before .before .before .before .rest-at3 .ensures) (c .before .before .before .before .before .before .before .gap1 .given .1) (c .before .before .before .before .before .before .before .before .before .whitespace1 .ensures)) (fall _ _ (c .step-lost .result) (c .before .before .before .before .before .rest-at4 .ensures) (step-lost (wordAt _ _) (c .step-lost .ensures) (c .before .enum-told3 .given .1) _ _ _ (c .before .before .before .keyword .ensures))))))))
+returns-3 c = read-not _ refl tt (begin (event-qualities) _ _ (go _ (set-took (rest-self _ _) (c .before .before .before .before .before .before .before .before .before .before .before .before .before .before .before .before .keywords-set .ensures)) (on _ (blank-at-took (c .before .before .before .before .before .before .before .before .before .before .before .before .before .before .before .blank-at .ensures)) (go _ (level-took (c .before .before .before .before .before .before .before .before .before .before .before .before .before .event-priority .ensures) (walks (event-priority-local .on-chain)) (c .before .before .before .before .before .before .before .before .before .before .before .before .before .before .rest-at .ensures) (c .before .before .before .before .before .before .before .before .before .before .before .priority .given .1)) (on _ (gap-at-took (c .before .before .before .before .before .before .before .gap1 .given .1) (c .before .before .before .before .before .before .before .before .before .gap-at .ensures)) (fall _ _ (c .step-lost2 .result) (c .before .before .before .before .before .rest-at2 .ensures) (step-lost (wordAt _ _) (c .step-lost2 .ensures) (c .before .enum-told3 .given .1) _ _ _ (c .before .before .before .keyword .ensures))))))))
 
-rest-at-requires-5 : tie.Need-rest-at-requires-5
-rest-at-requires-5 c κs = omega (arith, (keyword-took (c .before .before .before .before .before .rest-at4 .ensures) (c .before .event .given .1) (ascii "event") (c .before .before .before .keyword .ensures)) .up, (keyword-took (c .before .before .before .before .before .rest-at4 .ensures) (c .before .event .given .1) (ascii "event") (c .before .before .before .keyword .ensures)) .inside, c .before .before .before .before .before .rest-at4 .ensures .from)
-
-whitespace1-requires-2 : tie.Need-whitespace1-requires-2
-whitespace1-requires-2 c κs = omega (arith, c .rest-at5 .ensures .size, c .before .before .before .before .before .before .before .before .before .before .before .before .before .before .before .before .before .before .before .before .before .pre)
+gap-at-requires-2 : tie.Need-gap-at-requires-2
+gap-at-requires-2 c κs = omega (arith, (keyword-took (c .before .before .before .before .before .rest-at2 .ensures) (c .before .event .given .1) (ascii "event") (c .before .before .before .keyword .ensures)) .up, (keyword-took (c .before .before .before .before .before .rest-at2 .ensures) (c .before .event .given .1) (ascii "event") (c .before .before .before .keyword .ensures)) .inside, c .before .before .before .before .before .rest-at2 .ensures .from, c .before .before .before .before .before .before .before .before .before .before .before .before .before .before .before .before .before .before .pre)
 
 enum-known-gap2 : tie.Need-enum-known-gap2
 enum-known-gap2 c = search needs
@@ -94,21 +86,21 @@ enum-known-gap2 c = search needs
 enum-told-4 : tie.Need-enum-told-4
 enum-told-4 c = search needs
 
-gap-lost-requires-2 : tie.Need-gap-lost-requires-2
-gap-lost-requires-2 c κs = search needs
+step-lost-requires-3 : tie.Need-step-lost-requires-3
+step-lost-requires-3 c κs = search needs
 
 returns-4 : tie.Need-returns-4
 unfolding event-qualities
-returns-4 c = read-not _ refl tt (begin (event-qualities) _ _ (go _ (set-took (rest-self _ _) (c .before .before .before .before .before .before .before .before .before .before .before .before .before .before .before .before .before .before .before .before .before .before .before .keywords-set .ensures)) (on _ (blank-took (c .before .before .before .before .before .before .before .before .before .before .before .before .before .before .before .before .before .before .before .before .before .before .rest-at .ensures) (c .before .before .before .before .before .before .before .before .before .before .before .before .before .before .before .before .before .before .before .before .before .whitespace0 .ensures)) (go _ (level-took (c .before .before .before .before .before .before .before .before .before .before .before .before .before .before .before .before .before .before .before .event-priority .ensures) (walks (event-priority-local .on-chain)) (c .before .before .before .before .before .before .before .before .before .before .before .before .before .before .before .before .before .before .before .before .rest-at2 .ensures) (c .before .before .before .before .before .before .before .before .before .before .before .before .before .before .before .before .before .priority .given .1)) (on _ (gap-took (c .before .before .before .before .before .before .before .before .before .before .before .before .before .before .before .rest-at3 .ensures) (c .before .before .before .before .before .before .before .before .before .before .before .before .gap1 .given .1) (c .before .before .before .before .before .before .before .before .before .before .before .before .before .before .whitespace1 .ensures)) (on _ (keyword-took (c .before .before .before .before .before .before .before .before .before .before .rest-at4 .ensures) (c .before .before .before .before .before .before .event .given .1) (ascii "event") (c .before .before .before .before .before .before .before .before .keyword .ensures)) (fall _ _ (c .gap-lost2 .result) (c .before .before .before .before .rest-at5 .ensures) (gap-lost (c .gap-lost2 .ensures) (c .before .enum-told4 .given .1) _ _ _ (c .before .before .before .whitespace12 .ensures)))))))))
+returns-4 c = read-not _ refl tt (begin (event-qualities) _ _ (go _ (set-took (rest-self _ _) (c .before .before .before .before .before .before .before .before .before .before .before .before .before .before .before .before .before .before .before .before .keywords-set .ensures)) (on _ (blank-at-took (c .before .before .before .before .before .before .before .before .before .before .before .before .before .before .before .before .before .before .before .blank-at .ensures)) (go _ (level-took (c .before .before .before .before .before .before .before .before .before .before .before .before .before .before .before .before .before .event-priority .ensures) (walks (event-priority-local .on-chain)) (c .before .before .before .before .before .before .before .before .before .before .before .before .before .before .before .before .before .before .rest-at .ensures) (c .before .before .before .before .before .before .before .before .before .before .before .before .before .before .before .priority .given .1)) (on _ (gap-at-took (c .before .before .before .before .before .before .before .before .before .before .before .gap1 .given .1) (c .before .before .before .before .before .before .before .before .before .before .before .before .before .gap-at .ensures)) (on _ (keyword-took (c .before .before .before .before .before .before .before .before .before .rest-at2 .ensures) (c .before .before .before .before .before .event .given .1) (ascii "event") (c .before .before .before .before .before .before .before .keyword .ensures)) (fall _ _ (c .step-lost3 .result) (c .before .before .before .gap-at2 .ensures .at) (skips-lost (c .step-lost3 .ensures) (c .before .enum-told4 .given .1) (c .before .before .before .gap-at2 .ensures)))))))))
 
-rest-at-requires-6 : tie.Need-rest-at-requires-6
-rest-at-requires-6 c κs = omega (arith, (gap-took (c .before .before .before .before .rest-at5 .ensures) (c .before .gap2 .given .1) (c .before .before .before .whitespace12 .ensures)) .up, (gap-took (c .before .before .before .before .rest-at5 .ensures) (c .before .gap2 .given .1) (c .before .before .before .whitespace12 .ensures)) .inside, c .before .before .before .before .rest-at5 .ensures .from)
+rest-at-requires-3 : tie.Need-rest-at-requires-3
+rest-at-requires-3 c κs = omega (arith, (gap-at-took (c .before .gap2 .given .1) (c .before .before .before .gap-at2 .ensures)) .up, (gap-at-took (c .before .gap2 .given .1) (c .before .before .before .gap-at2 .ensures)) .inside, c .before .before .before .gap-at2 .ensures .at .from)
 
 slice-aggregate-access-to : tie.Need-slice-aggregate-access-to
 slice-aggregate-access-to c = search needs
 
 access-to-requires : tie.Need-access-to-requires
-access-to-requires c κs = omega (arith, c .before .rest-at6 .ensures .size, c .before .before .before .before .before .before .before .before .before .before .before .before .before .before .before .before .before .before .before .before .before .before .before .before .before .before .before .pre)
+access-to-requires c κs = omega (arith, c .before .rest-at3 .ensures .size, c .before .before .before .before .before .before .before .before .before .before .before .before .before .before .before .before .before .before .before .before .before .before .before .before .pre)
 
 level-or-requires : tie.Need-level-or-requires
 level-or-requires c κs = search needs
@@ -124,50 +116,11 @@ level-lost-requires-2 c κs = search needs
 
 returns-5 : tie.Need-returns-5
 unfolding event-qualities
-returns-5 c = read-not _ refl tt (begin (event-qualities) _ _ (go _ (set-took (rest-self _ _) (c .before .before .before .before .before .before .before .before .before .before .before .before .before .before .before .before .before .before .before .before .before .before .before .before .before .before .before .before .before .before .keywords-set .ensures)) (on _ (blank-took (c .before .before .before .before .before .before .before .before .before .before .before .before .before .before .before .before .before .before .before .before .before .before .before .before .before .before .before .before .before .rest-at .ensures) (c .before .before .before .before .before .before .before .before .before .before .before .before .before .before .before .before .before .before .before .before .before .before .before .before .before .before .before .before .whitespace0 .ensures)) (go _ (level-took (c .before .before .before .before .before .before .before .before .before .before .before .before .before .before .before .before .before .before .before .before .before .before .before .before .before .before .event-priority .ensures) (walks (event-priority-local .on-chain)) (c .before .before .before .before .before .before .before .before .before .before .before .before .before .before .before .before .before .before .before .before .before .before .before .before .before .before .before .rest-at2 .ensures) (c .before .before .before .before .before .before .before .before .before .before .before .before .before .before .before .before .before .before .before .before .before .before .before .before .priority .given .1)) (on _ (gap-took (c .before .before .before .before .before .before .before .before .before .before .before .before .before .before .before .before .before .before .before .before .before .before .rest-at3 .ensures) (c .before .before .before .before .before .before .before .before .before .before .before .before .before .before .before .before .before .before .before .gap1 .given .1) (c .before .before .before .before .before .before .before .before .before .before .before .before .before .before .before .before .before .before .before .before .before .whitespace1 .ensures)) (on _ (keyword-took (c .before .before .before .before .before .before .before .before .before .before .before .before .before .before .before .before .before .rest-at4 .ensures) (c .before .before .before .before .before .before .before .before .before .before .before .before .before .event .given .1) (ascii "event") (c .before .before .before .before .before .before .before .before .before .before .before .before .before .before .before .keyword .ensures)) (on _ (gap-took (c .before .before .before .before .before .before .before .before .before .before .before .rest-at5 .ensures) (c .before .before .before .before .before .before .before .before .gap2 .given .1) (c .before .before .before .before .before .before .before .before .before .before .whitespace12 .ensures)) (lose _ _ (c .level-lost2 .result) (c .before .before .before .before .before .before .rest-at6 .ensures) (level-or-lost 0 (c .before .before .before .before .access-to .ensures) (c .before .before .before .level-or .ensures) (c .level-lost2 .ensures) (c .before .enum-told5 .given .1))))))))))
+returns-5 c = read-not _ refl tt (begin (event-qualities) _ _ (go _ (set-took (rest-self _ _) (c .before .before .before .before .before .before .before .before .before .before .before .before .before .before .before .before .before .before .before .before .before .before .before .before .before .before .before .keywords-set .ensures)) (on _ (blank-at-took (c .before .before .before .before .before .before .before .before .before .before .before .before .before .before .before .before .before .before .before .before .before .before .before .before .before .before .blank-at .ensures)) (go _ (level-took (c .before .before .before .before .before .before .before .before .before .before .before .before .before .before .before .before .before .before .before .before .before .before .before .before .event-priority .ensures) (walks (event-priority-local .on-chain)) (c .before .before .before .before .before .before .before .before .before .before .before .before .before .before .before .before .before .before .before .before .before .before .before .before .before .rest-at .ensures) (c .before .before .before .before .before .before .before .before .before .before .before .before .before .before .before .before .before .before .before .before .before .before .priority .given .1)) (on _ (gap-at-took (c .before .before .before .before .before .before .before .before .before .before .before .before .before .before .before .before .before .before .gap1 .given .1) (c .before .before .before .before .before .before .before .before .before .before .before .before .before .before .before .before .before .before .before .before .gap-at .ensures)) (on _ (keyword-took (c .before .before .before .before .before .before .before .before .before .before .before .before .before .before .before .before .rest-at2 .ensures) (c .before .before .before .before .before .before .before .before .before .before .before .before .event .given .1) (ascii "event") (c .before .before .before .before .before .before .before .before .before .before .before .before .before .before .keyword .ensures)) (on _ (gap-at-took (c .before .before .before .before .before .before .before .before .gap2 .given .1) (c .before .before .before .before .before .before .before .before .before .before .gap-at2 .ensures)) (lose _ _ (c .level-lost2 .result) (c .before .before .before .before .before .before .rest-at3 .ensures) (level-or-lost 0 (c .before .before .before .before .access-to .ensures) (c .before .before .before .level-or .ensures) (c .level-lost2 .ensures) (c .before .enum-told5 .given .1))))))))))
 
 returns-6 : tie.Need-returns-6
 unfolding event-qualities
-returns-6 c = event-qualities-is _ _ 0 _ ((level-or-took 0 (c .before .before .before .before .access-to .ensures) (c .before .before .before .level-or .ensures) (chain-inside (access-to-inside (ascii "read"))) (omega arith) (c .before .before .before .before .before .before .rest-at6 .ensures) (c .before .access .given .1)) .granted) _ _ _ (fits-2 (c .before .before .before .before .before .before .before .before .before .before .before .before .before .before .before .before .before .before .before .before .before .before .before .before .before .before .before .before .before .before .keywords-set .ensures)) (level-small (c .before .before .before .before .before .before .before .before .before .before .before .before .before .before .before .before .before .before .before .before .before .before .before .before .before .before .event-priority .ensures) (c .before .before .before .before .before .before .before .before .before .before .before .before .before .before .before .before .before .before .before .before .before .before .before .before .priority .given .1)) ((level-or-took 0 (c .before .before .before .before .access-to .ensures) (c .before .before .before .level-or .ensures) (chain-inside (access-to-inside (ascii "read"))) (omega arith) (c .before .before .before .before .before .before .rest-at6 .ensures) (c .before .access .given .1)) .small) ((level-or-took 0 (c .before .before .before .before .access-to .ensures) (c .before .before .before .level-or .ensures) (chain-inside (access-to-inside (ascii "read"))) (omega arith) (c .before .before .before .before .before .before .rest-at6 .ensures) (c .before .access .given .1)) .is) (begin (event-qualities) _ _ (go _ (set-took (rest-self _ _) (c .before .before .before .before .before .before .before .before .before .before .before .before .before .before .before .before .before .before .before .before .before .before .before .before .before .before .before .before .before .before .keywords-set .ensures)) (on _ (blank-took (c .before .before .before .before .before .before .before .before .before .before .before .before .before .before .before .before .before .before .before .before .before .before .before .before .before .before .before .before .before .rest-at .ensures) (c .before .before .before .before .before .before .before .before .before .before .before .before .before .before .before .before .before .before .before .before .before .before .before .before .before .before .before .before .whitespace0 .ensures)) (go _ (level-took (c .before .before .before .before .before .before .before .before .before .before .before .before .before .before .before .before .before .before .before .before .before .before .before .before .before .before .event-priority .ensures) (walks (event-priority-local .on-chain)) (c .before .before .before .before .before .before .before .before .before .before .before .before .before .before .before .before .before .before .before .before .before .before .before .before .before .before .before .rest-at2 .ensures) (c .before .before .before .before .before .before .before .before .before .before .before .before .before .before .before .before .before .before .before .before .before .before .before .before .priority .given .1)) (on _ (gap-took (c .before .before .before .before .before .before .before .before .before .before .before .before .before .before .before .before .before .before .before .before .before .before .rest-at3 .ensures) (c .before .before .before .before .before .before .before .before .before .before .before .before .before .before .before .before .before .before .before .gap1 .given .1) (c .before .before .before .before .before .before .before .before .before .before .before .before .before .before .before .before .before .before .before .before .before .whitespace1 .ensures)) (on _ (keyword-took (c .before .before .before .before .before .before .before .before .before .before .before .before .before .before .before .before .before .rest-at4 .ensures) (c .before .before .before .before .before .before .before .before .before .before .before .before .before .event .given .1) (ascii "event") (c .before .before .before .before .before .before .before .before .before .before .before .before .before .before .before .keyword .ensures)) (on _ (gap-took (c .before .before .before .before .before .before .before .before .before .before .before .rest-at5 .ensures) (c .before .before .before .before .before .before .before .before .gap2 .given .1) (c .before .before .before .before .before .before .before .before .before .before .whitespace12 .ensures)) (go _ ((level-or-took 0 (c .before .before .before .before .access-to .ensures) (c .before .before .before .level-or .ensures) (chain-inside (access-to-inside (ascii "read"))) (omega arith) (c .before .before .before .before .before .before .rest-at6 .ensures) (c .before .access .given .1)) .step) (done _ _ _ _)))))))))
+returns-6 c = event-qualities-is _ _ 0 _ ((level-or-took 0 (c .before .before .before .before .access-to .ensures) (c .before .before .before .level-or .ensures) (chain-inside (access-to-inside (ascii "read"))) (omega arith) (c .before .before .before .before .before .before .rest-at3 .ensures) (c .before .access .given .1)) .granted) _ _ _ (fits-2 (c .before .before .before .before .before .before .before .before .before .before .before .before .before .before .before .before .before .before .before .before .before .before .before .before .before .before .before .keywords-set .ensures)) (level-small (c .before .before .before .before .before .before .before .before .before .before .before .before .before .before .before .before .before .before .before .before .before .before .before .before .event-priority .ensures) (c .before .before .before .before .before .before .before .before .before .before .before .before .before .before .before .before .before .before .before .before .before .before .priority .given .1)) ((level-or-took 0 (c .before .before .before .before .access-to .ensures) (c .before .before .before .level-or .ensures) (chain-inside (access-to-inside (ascii "read"))) (omega arith) (c .before .before .before .before .before .before .rest-at3 .ensures) (c .before .access .given .1)) .small) ((level-or-took 0 (c .before .before .before .before .access-to .ensures) (c .before .before .before .level-or .ensures) (chain-inside (access-to-inside (ascii "read"))) (omega arith) (c .before .before .before .before .before .before .rest-at3 .ensures) (c .before .access .given .1)) .is) (begin (event-qualities) _ _ (go _ (set-took (rest-self _ _) (c .before .before .before .before .before .before .before .before .before .before .before .before .before .before .before .before .before .before .before .before .before .before .before .before .before .before .before .keywords-set .ensures)) (on _ (blank-at-took (c .before .before .before .before .before .before .before .before .before .before .before .before .before .before .before .before .before .before .before .before .before .before .before .before .before .before .blank-at .ensures)) (go _ (level-took (c .before .before .before .before .before .before .before .before .before .before .before .before .before .before .before .before .before .before .before .before .before .before .before .before .event-priority .ensures) (walks (event-priority-local .on-chain)) (c .before .before .before .before .before .before .before .before .before .before .before .before .before .before .before .before .before .before .before .before .before .before .before .before .before .rest-at .ensures) (c .before .before .before .before .before .before .before .before .before .before .before .before .before .before .before .before .before .before .before .before .before .before .priority .given .1)) (on _ (gap-at-took (c .before .before .before .before .before .before .before .before .before .before .before .before .before .before .before .before .before .before .gap1 .given .1) (c .before .before .before .before .before .before .before .before .before .before .before .before .before .before .before .before .before .before .before .before .gap-at .ensures)) (on _ (keyword-took (c .before .before .before .before .before .before .before .before .before .before .before .before .before .before .before .before .rest-at2 .ensures) (c .before .before .before .before .before .before .before .before .before .before .before .before .event .given .1) (ascii "event") (c .before .before .before .before .before .before .before .before .before .before .before .before .before .before .keyword .ensures)) (on _ (gap-at-took (c .before .before .before .before .before .before .before .before .gap2 .given .1) (c .before .before .before .before .before .before .before .before .before .before .gap-at2 .ensures)) (go _ ((level-or-took 0 (c .before .before .before .before .access-to .ensures) (c .before .before .before .level-or .ensures) (chain-inside (access-to-inside (ascii "read"))) (omega arith) (c .before .before .before .before .before .before .rest-at3 .ensures) (c .before .access .given .1)) .step) (done _ _ _ _)))))))))
 
 pub event-qualities-spec : {M : Type 1} → statement M
-event-qualities-spec =
-    tie.close
-    (tie.spec
-    keywords-set-requires
-    rest-at-requires
-    whitespace0-requires
-    rest-at-requires-2
-    event-priority-requires
-    enum-known-priority
-    enum-told
-    level-lost-requires
-    returns
-    rest-at-requires-3
-    whitespace1-requires
-    enum-known-gap1
-    enum-told-2
-    gap-lost-requires
-    returns-2
-    rest-at-requires-4
-    slice-aggregate-keyword
-    keyword-requires
-    enum-known-event
-    enum-told-3
-    step-lost-requires
-    returns-3
-    rest-at-requires-5
-    whitespace1-requires-2
-    enum-known-gap2
-    enum-told-4
-    gap-lost-requires-2
-    returns-4
-    rest-at-requires-6
-    slice-aggregate-access-to
-    access-to-requires
-    level-or-requires
-    enum-known-access
-    enum-told-5
-    level-lost-requires-2
-    returns-5
-    returns-6)
+event-qualities-spec = tie.close (tie.spec keywords-set-requires blank-at-requires rest-at-requires event-priority-requires enum-known-priority enum-told level-lost-requires returns gap-at-requires enum-known-gap1 enum-told-2 step-lost-requires returns-2 rest-at-requires-2 slice-aggregate-keyword keyword-requires enum-known-event enum-told-3 step-lost-requires-2 returns-3 gap-at-requires-2 enum-known-gap2 enum-told-4 step-lost-requires-3 returns-4 rest-at-requires-3 slice-aggregate-access-to access-to-requires level-or-requires enum-known-access enum-told-5 level-lost-requires-2 returns-5 returns-6)

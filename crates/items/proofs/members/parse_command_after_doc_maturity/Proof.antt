@@ -6,9 +6,11 @@ use Rattle.items.specs.members.{parse-command-after-doc-maturity}
 use Rattle.items.proofs.members.Laws.{command-head-within, command-types-within, command-is, command-types-took}
 use mathlib.Core.Path.{refl}
 use native.Mathlib.Omega.{arith}
-use Rattle.lexing.proofs.Slicing.{walks, rest-self, begin, go, on, lose, fall, done, blank-took, tag-took, integer-took, step-lost, integer-lost}
+use Rattle.lexing.proofs.Slicing.{walks, rest-self, begin, go, lose, done}
 use Rattle.items.proofs.Answers.{read-not, read-took, read-lost}
+use Rattle.items.proofs.Pairs.{pair-go, pair-on, pair-lose, pair-fall}
 use Rattle.items.proofs.Locality.{command-head-inside}
+use Rattle.items.proofs.steps.Laws.{tag-behind-took, integer-behind-took, skips-lost, integer-behind-lost}
 use Rattle.lexing.proofs.Locality.{chain-inside}
 use Rattle.items.specs.answers.members.{commandHeadLost, commandTypesLost}
 
@@ -47,17 +49,8 @@ returns-2 : tie.Need-returns-2
 unfolding parse-command-after-doc-maturity
 returns-2 c = read-not _ refl tt (begin (parse-command-after-doc-maturity (docOf (c .before .before .before .before .before .before .before .before .before .before .args .doc)) (c .before .before .before .before .before .before .before .before .before .before .args .maturity)) _ _ (go _ (read-took (c .before .before .before .before .before .before .before .before .command-head .ensures) (c .before .before .before .before .before .before .head .given .1) (walks (chain-inside command-head-inside)) (rest-self _ _) refl) (lose _ _ (c .command-types-lost .result) (c .before .before .before .before .rest-at .ensures) (read-lost (c .before .before .before .command-types .ensures) (c .before .enum-told2 .given .1) commandTypesLost (c .command-types-lost .ensures) refl))))
 
-rest-at-requires-2 : tie.Need-rest-at-requires-2
-rest-at-requires-2 c κs = omega (arith, (command-types-took (c .before .before .before .command-types .ensures) (c .before .types .given .1) (c .before .before .before .before .rest-at .ensures)) .up, (command-types-took (c .before .before .before .command-types .ensures) (c .before .types .given .1) (c .before .before .before .before .rest-at .ensures)) .inside, c .before .before .before .before .rest-at .ensures .from)
-
-whitespace0-requires : tie.Need-whitespace0-requires
-whitespace0-requires c κs = omega (arith, c .rest-at2 .ensures .size, c .before .before .before .before .before .before .before .before .before .before .before .pre)
-
-rest-at-requires-3 : tie.Need-rest-at-requires-3
-rest-at-requires-3 c κs = omega (arith, (blank-took (c .before .rest-at2 .ensures) (c .whitespace0 .ensures)) .up, (blank-took (c .before .rest-at2 .ensures) (c .whitespace0 .ensures)) .inside, c .before .rest-at2 .ensures .from)
-
-tag-requires : tie.Need-tag-requires
-tag-requires c κs = omega (arith, c .rest-at3 .ensures .size, c .before .before .before .before .before .before .before .before .before .before .before .before .before .pre)
+tag-behind-requires : tie.Need-tag-behind-requires
+tag-behind-requires c κs = omega (arith, (command-types-took (c .before .before .before .command-types .ensures) (c .before .types .given .1) (c .before .before .before .before .rest-at .ensures)) .up, (command-types-took (c .before .before .before .command-types .ensures) (c .before .types .given .1) (c .before .before .before .before .rest-at .ensures)) .inside, c .before .before .before .before .rest-at .ensures .from, c .before .before .before .before .before .before .before .before .before .before .pre)
 
 enum-known-equals : tie.Need-enum-known-equals
 enum-known-equals c = search needs
@@ -70,19 +63,10 @@ step-lost-requires c κs = search needs
 
 returns-3 : tie.Need-returns-3
 unfolding parse-command-after-doc-maturity
-returns-3 c = read-not _ refl tt (begin (parse-command-after-doc-maturity (docOf (c .before .before .before .before .before .before .before .before .before .before .before .before .before .before .before .before .before .args .doc)) (c .before .before .before .before .before .before .before .before .before .before .before .before .before .before .before .before .before .args .maturity)) _ _ (go _ (read-took (c .before .before .before .before .before .before .before .before .before .before .before .before .before .before .before .command-head .ensures) (c .before .before .before .before .before .before .before .before .before .before .before .before .before .head .given .1) (walks (chain-inside command-head-inside)) (rest-self _ _) refl) (go _ (command-types-took (c .before .before .before .before .before .before .before .before .before .before .command-types .ensures) (c .before .before .before .before .before .before .before .before .types .given .1) (c .before .before .before .before .before .before .before .before .before .before .before .rest-at .ensures)) (on _ (blank-took (c .before .before .before .before .before .before .rest-at2 .ensures) (c .before .before .before .before .before .whitespace0 .ensures)) (fall _ _ (c .step-lost .result) (c .before .before .before .before .rest-at3 .ensures) (step-lost (λ c. tt) (c .step-lost .ensures) (c .before .enum-told3 .given .1) _ _ _ (c .before .before .before .tag .ensures)))))))
+returns-3 c = read-not _ refl tt (begin (parse-command-after-doc-maturity (docOf (c .before .before .before .before .before .before .before .before .before .before .before .before .before .before .args .doc)) (c .before .before .before .before .before .before .before .before .before .before .before .before .before .before .args .maturity)) _ _ (go _ (read-took (c .before .before .before .before .before .before .before .before .before .before .before .before .command-head .ensures) (c .before .before .before .before .before .before .before .before .before .before .head .given .1) (walks (chain-inside command-head-inside)) (rest-self _ _) refl) (go _ (command-types-took (c .before .before .before .before .before .before .before .command-types .ensures) (c .before .before .before .before .before .types .given .1) (c .before .before .before .before .before .before .before .before .rest-at .ensures)) (pair-fall _ _ _ (c .step-lost .result) (c .before .before .before .tag-behind .ensures .at) (skips-lost (c .step-lost .ensures) (c .before .enum-told3 .given .1) (c .before .before .before .tag-behind .ensures))))))
 
-rest-at-requires-4 : tie.Need-rest-at-requires-4
-rest-at-requires-4 c κs = omega (arith, (tag-took (c .before .before .before .before .rest-at3 .ensures) (c .before .equals .given .1) 61 (c .before .before .before .tag .ensures)) .up, (tag-took (c .before .before .before .before .rest-at3 .ensures) (c .before .equals .given .1) 61 (c .before .before .before .tag .ensures)) .inside, c .before .before .before .before .rest-at3 .ensures .from)
-
-whitespace0-requires-2 : tie.Need-whitespace0-requires-2
-whitespace0-requires-2 c κs = omega (arith, c .rest-at4 .ensures .size, c .before .before .before .before .before .before .before .before .before .before .before .before .before .before .before .before .before .before .pre)
-
-rest-at-requires-5 : tie.Need-rest-at-requires-5
-rest-at-requires-5 c κs = omega (arith, (blank-took (c .before .rest-at4 .ensures) (c .whitespace02 .ensures)) .up, (blank-took (c .before .rest-at4 .ensures) (c .whitespace02 .ensures)) .inside, c .before .rest-at4 .ensures .from)
-
-positive-integer-requires : tie.Need-positive-integer-requires
-positive-integer-requires c κs = omega (arith, c .rest-at5 .ensures .size, c .before .before .before .before .before .before .before .before .before .before .before .before .before .before .before .before .before .before .before .before .pre)
+integer-behind-requires : tie.Need-integer-behind-requires
+integer-behind-requires c κs = omega (arith, (tag-behind-took 61 (c .before .equals .given .1) (c .before .before .before .tag-behind .ensures)) .up, (tag-behind-took 61 (c .before .equals .given .1) (c .before .before .before .tag-behind .ensures)) .inside, c .before .before .before .tag-behind .ensures .at .from, c .before .before .before .before .before .before .before .before .before .before .before .before .before .before .pre)
 
 enum-known-number : tie.Need-enum-known-number
 enum-known-number c = search needs
@@ -95,19 +79,10 @@ number-lost-requires c κs = search needs
 
 returns-4 : tie.Need-returns-4
 unfolding parse-command-after-doc-maturity
-returns-4 c = read-not _ refl tt (begin (parse-command-after-doc-maturity (docOf (c .before .before .before .before .before .before .before .before .before .before .before .before .before .before .before .before .before .before .before .before .before .before .before .before .args .doc)) (c .before .before .before .before .before .before .before .before .before .before .before .before .before .before .before .before .before .before .before .before .before .before .before .before .args .maturity)) _ _ (go _ (read-took (c .before .before .before .before .before .before .before .before .before .before .before .before .before .before .before .before .before .before .before .before .before .before .command-head .ensures) (c .before .before .before .before .before .before .before .before .before .before .before .before .before .before .before .before .before .before .before .before .head .given .1) (walks (chain-inside command-head-inside)) (rest-self _ _) refl) (go _ (command-types-took (c .before .before .before .before .before .before .before .before .before .before .before .before .before .before .before .before .before .command-types .ensures) (c .before .before .before .before .before .before .before .before .before .before .before .before .before .before .before .types .given .1) (c .before .before .before .before .before .before .before .before .before .before .before .before .before .before .before .before .before .before .rest-at .ensures)) (on _ (blank-took (c .before .before .before .before .before .before .before .before .before .before .before .before .before .rest-at2 .ensures) (c .before .before .before .before .before .before .before .before .before .before .before .before .whitespace0 .ensures)) (on _ (tag-took (c .before .before .before .before .before .before .before .before .before .before .before .rest-at3 .ensures) (c .before .before .before .before .before .before .before .before .equals .given .1) 61 (c .before .before .before .before .before .before .before .before .before .before .tag .ensures)) (on _ (blank-took (c .before .before .before .before .before .before .rest-at4 .ensures) (c .before .before .before .before .before .whitespace02 .ensures)) (lose _ _ (c .number-lost .result) (c .before .before .before .before .rest-at5 .ensures) (integer-lost (c .number-lost .ensures) (c .before .enum-told4 .given .1) _ _ _ (c .before .before .before .positive-integer .ensures)))))))))
+returns-4 c = read-not _ refl tt (begin (parse-command-after-doc-maturity (docOf (c .before .before .before .before .before .before .before .before .before .before .before .before .before .before .before .before .before .before .args .doc)) (c .before .before .before .before .before .before .before .before .before .before .before .before .before .before .before .before .before .before .args .maturity)) _ _ (go _ (read-took (c .before .before .before .before .before .before .before .before .before .before .before .before .before .before .before .before .command-head .ensures) (c .before .before .before .before .before .before .before .before .before .before .before .before .before .before .head .given .1) (walks (chain-inside command-head-inside)) (rest-self _ _) refl) (go _ (command-types-took (c .before .before .before .before .before .before .before .before .before .before .before .command-types .ensures) (c .before .before .before .before .before .before .before .before .before .types .given .1) (c .before .before .before .before .before .before .before .before .before .before .before .before .rest-at .ensures)) (pair-on _ _ _ (tag-behind-took 61 (c .before .before .before .before .before .equals .given .1) (c .before .before .before .before .before .before .before .tag-behind .ensures)) (pair-lose _ _ _ (c .number-lost .result) (c .before .before .before .integer-behind .ensures .at) (integer-behind-lost (c .before .before .before .integer-behind .ensures) (c .number-lost .ensures) (c .before .enum-told4 .given .1)))))))
 
-rest-at-requires-6 : tie.Need-rest-at-requires-6
-rest-at-requires-6 c κs = omega (arith, (integer-took (c .before .before .before .before .rest-at5 .ensures) (c .before .number .given .1) (c .before .before .before .positive-integer .ensures)) .up, (integer-took (c .before .before .before .before .rest-at5 .ensures) (c .before .number .given .1) (c .before .before .before .positive-integer .ensures)) .inside, c .before .before .before .before .rest-at5 .ensures .from)
-
-whitespace0-requires-3 : tie.Need-whitespace0-requires-3
-whitespace0-requires-3 c κs = omega (arith, c .rest-at6 .ensures .size, c .before .before .before .before .before .before .before .before .before .before .before .before .before .before .before .before .before .before .before .before .before .before .before .before .before .pre)
-
-rest-at-requires-7 : tie.Need-rest-at-requires-7
-rest-at-requires-7 c κs = omega (arith, (blank-took (c .before .rest-at6 .ensures) (c .whitespace03 .ensures)) .up, (blank-took (c .before .rest-at6 .ensures) (c .whitespace03 .ensures)) .inside, c .before .rest-at6 .ensures .from)
-
-tag-requires-2 : tie.Need-tag-requires-2
-tag-requires-2 c κs = omega (arith, c .rest-at7 .ensures .size, c .before .before .before .before .before .before .before .before .before .before .before .before .before .before .before .before .before .before .before .before .before .before .before .before .before .before .before .pre)
+tag-behind-requires-2 : tie.Need-tag-behind-requires-2
+tag-behind-requires-2 c κs = omega (arith, (integer-behind-took (c .before .before .before .integer-behind .ensures) (c .before .number .given .1)) .up, (integer-behind-took (c .before .before .before .integer-behind .ensures) (c .before .number .given .1)) .inside, c .before .before .before .integer-behind .ensures .at .from, c .before .before .before .before .before .before .before .before .before .before .before .before .before .before .before .before .before .before .pre)
 
 enum-known-semicolon : tie.Need-enum-known-semicolon
 enum-known-semicolon c = search needs
@@ -120,49 +95,11 @@ step-lost-requires-2 c κs = search needs
 
 returns-5 : tie.Need-returns-5
 unfolding parse-command-after-doc-maturity
-returns-5 c = read-not _ refl tt (begin (parse-command-after-doc-maturity (docOf (c .before .before .before .before .before .before .before .before .before .before .before .before .before .before .before .before .before .before .before .before .before .before .before .before .before .before .before .before .before .before .before .args .doc)) (c .before .before .before .before .before .before .before .before .before .before .before .before .before .before .before .before .before .before .before .before .before .before .before .before .before .before .before .before .before .before .before .args .maturity)) _ _ (go _ (read-took (c .before .before .before .before .before .before .before .before .before .before .before .before .before .before .before .before .before .before .before .before .before .before .before .before .before .before .before .before .before .command-head .ensures) (c .before .before .before .before .before .before .before .before .before .before .before .before .before .before .before .before .before .before .before .before .before .before .before .before .before .before .before .head .given .1) (walks (chain-inside command-head-inside)) (rest-self _ _) refl) (go _ (command-types-took (c .before .before .before .before .before .before .before .before .before .before .before .before .before .before .before .before .before .before .before .before .before .before .before .before .command-types .ensures) (c .before .before .before .before .before .before .before .before .before .before .before .before .before .before .before .before .before .before .before .before .before .before .types .given .1) (c .before .before .before .before .before .before .before .before .before .before .before .before .before .before .before .before .before .before .before .before .before .before .before .before .before .rest-at .ensures)) (on _ (blank-took (c .before .before .before .before .before .before .before .before .before .before .before .before .before .before .before .before .before .before .before .before .rest-at2 .ensures) (c .before .before .before .before .before .before .before .before .before .before .before .before .before .before .before .before .before .before .before .whitespace0 .ensures)) (on _ (tag-took (c .before .before .before .before .before .before .before .before .before .before .before .before .before .before .before .before .before .before .rest-at3 .ensures) (c .before .before .before .before .before .before .before .before .before .before .before .before .before .before .before .equals .given .1) 61 (c .before .before .before .before .before .before .before .before .before .before .before .before .before .before .before .before .before .tag .ensures)) (on _ (blank-took (c .before .before .before .before .before .before .before .before .before .before .before .before .before .rest-at4 .ensures) (c .before .before .before .before .before .before .before .before .before .before .before .before .whitespace02 .ensures)) (go _ (integer-took (c .before .before .before .before .before .before .before .before .before .before .before .rest-at5 .ensures) (c .before .before .before .before .before .before .before .before .number .given .1) (c .before .before .before .before .before .before .before .before .before .before .positive-integer .ensures)) (on _ (blank-took (c .before .before .before .before .before .before .rest-at6 .ensures) (c .before .before .before .before .before .whitespace03 .ensures)) (fall _ _ (c .step-lost2 .result) (c .before .before .before .before .rest-at7 .ensures) (step-lost (λ c. tt) (c .step-lost2 .ensures) (c .before .enum-told5 .given .1) _ _ _ (c .before .before .before .tag2 .ensures)))))))))))
+returns-5 c = read-not _ refl tt (begin (parse-command-after-doc-maturity (docOf (c .before .before .before .before .before .before .before .before .before .before .before .before .before .before .before .before .before .before .before .before .before .before .args .doc)) (c .before .before .before .before .before .before .before .before .before .before .before .before .before .before .before .before .before .before .before .before .before .before .args .maturity)) _ _ (go _ (read-took (c .before .before .before .before .before .before .before .before .before .before .before .before .before .before .before .before .before .before .before .before .command-head .ensures) (c .before .before .before .before .before .before .before .before .before .before .before .before .before .before .before .before .before .before .head .given .1) (walks (chain-inside command-head-inside)) (rest-self _ _) refl) (go _ (command-types-took (c .before .before .before .before .before .before .before .before .before .before .before .before .before .before .before .command-types .ensures) (c .before .before .before .before .before .before .before .before .before .before .before .before .before .types .given .1) (c .before .before .before .before .before .before .before .before .before .before .before .before .before .before .before .before .rest-at .ensures)) (pair-on _ _ _ (tag-behind-took 61 (c .before .before .before .before .before .before .before .before .before .equals .given .1) (c .before .before .before .before .before .before .before .before .before .before .before .tag-behind .ensures)) (pair-go _ _ _ (integer-behind-took (c .before .before .before .before .before .before .before .integer-behind .ensures) (c .before .before .before .before .before .number .given .1)) (pair-fall _ _ _ (c .step-lost2 .result) (c .before .before .before .tag-behind2 .ensures .at) (skips-lost (c .step-lost2 .ensures) (c .before .enum-told5 .given .1) (c .before .before .before .tag-behind2 .ensures))))))))
 
 returns-6 : tie.Need-returns-6
 unfolding parse-command-after-doc-maturity
-returns-6 c = command-is (c .before .before .before .before .before .before .before .before .before .before .before .before .before .before .before .before .before .before .before .before .before .before .before .before .before .before .before .before .before .before .before .args .doc) _ _ _ _ _ _ _ _ _ (command-head-within (c .before .before .before .before .before .before .before .before .before .before .before .before .before .before .before .before .before .before .before .before .before .before .before .before .before .before .before .before .before .command-head .ensures) (c .before .before .before .before .before .before .before .before .before .before .before .before .before .before .before .before .before .before .before .before .before .before .before .before .before .before .before .head .given .1)) (command-types-within (c .before .before .before .before .before .before .before .before .before .before .before .before .before .before .before .before .before .before .before .before .before .before .before .before .command-types .ensures) (c .before .before .before .before .before .before .before .before .before .before .before .before .before .before .before .before .before .before .before .before .before .before .types .given .1)) (omega (arith, (blank-took (c .before .before .before .before .before .before .before .before .before .before .before .before .before .before .before .before .before .before .before .before .rest-at2 .ensures) (c .before .before .before .before .before .before .before .before .before .before .before .before .before .before .before .before .before .before .before .whitespace0 .ensures)) .up, (tag-took (c .before .before .before .before .before .before .before .before .before .before .before .before .before .before .before .before .before .before .rest-at3 .ensures) (c .before .before .before .before .before .before .before .before .before .before .before .before .before .before .before .equals .given .1) 61 (c .before .before .before .before .before .before .before .before .before .before .before .before .before .before .before .before .before .tag .ensures)) .up, (blank-took (c .before .before .before .before .before .before .before .before .before .before .before .before .before .rest-at4 .ensures) (c .before .before .before .before .before .before .before .before .before .before .before .before .whitespace02 .ensures)) .up, (integer-took (c .before .before .before .before .before .before .before .before .before .before .before .rest-at5 .ensures) (c .before .before .before .before .before .before .before .before .number .given .1) (c .before .before .before .before .before .before .before .before .before .before .positive-integer .ensures)) .up, (blank-took (c .before .before .before .before .before .before .rest-at6 .ensures) (c .before .before .before .before .before .whitespace03 .ensures)) .up, (tag-took (c .before .before .before .before .rest-at7 .ensures) (c .before .semicolon .given .1) 59 (c .before .before .before .tag2 .ensures)) .up)) (begin (parse-command-after-doc-maturity (docOf (c .before .before .before .before .before .before .before .before .before .before .before .before .before .before .before .before .before .before .before .before .before .before .before .before .before .before .before .before .before .before .before .args .doc)) (c .before .before .before .before .before .before .before .before .before .before .before .before .before .before .before .before .before .before .before .before .before .before .before .before .before .before .before .before .before .before .before .args .maturity)) _ _ (go _ (read-took (c .before .before .before .before .before .before .before .before .before .before .before .before .before .before .before .before .before .before .before .before .before .before .before .before .before .before .before .before .before .command-head .ensures) (c .before .before .before .before .before .before .before .before .before .before .before .before .before .before .before .before .before .before .before .before .before .before .before .before .before .before .before .head .given .1) (walks (chain-inside command-head-inside)) (rest-self _ _) refl) (go _ (command-types-took (c .before .before .before .before .before .before .before .before .before .before .before .before .before .before .before .before .before .before .before .before .before .before .before .before .command-types .ensures) (c .before .before .before .before .before .before .before .before .before .before .before .before .before .before .before .before .before .before .before .before .before .before .types .given .1) (c .before .before .before .before .before .before .before .before .before .before .before .before .before .before .before .before .before .before .before .before .before .before .before .before .before .rest-at .ensures)) (on _ (blank-took (c .before .before .before .before .before .before .before .before .before .before .before .before .before .before .before .before .before .before .before .before .rest-at2 .ensures) (c .before .before .before .before .before .before .before .before .before .before .before .before .before .before .before .before .before .before .before .whitespace0 .ensures)) (on _ (tag-took (c .before .before .before .before .before .before .before .before .before .before .before .before .before .before .before .before .before .before .rest-at3 .ensures) (c .before .before .before .before .before .before .before .before .before .before .before .before .before .before .before .equals .given .1) 61 (c .before .before .before .before .before .before .before .before .before .before .before .before .before .before .before .before .before .tag .ensures)) (on _ (blank-took (c .before .before .before .before .before .before .before .before .before .before .before .before .before .rest-at4 .ensures) (c .before .before .before .before .before .before .before .before .before .before .before .before .whitespace02 .ensures)) (go _ (integer-took (c .before .before .before .before .before .before .before .before .before .before .before .rest-at5 .ensures) (c .before .before .before .before .before .before .before .before .number .given .1) (c .before .before .before .before .before .before .before .before .before .before .positive-integer .ensures)) (on _ (blank-took (c .before .before .before .before .before .before .rest-at6 .ensures) (c .before .before .before .before .before .whitespace03 .ensures)) (on _ (tag-took (c .before .before .before .before .rest-at7 .ensures) (c .before .semicolon .given .1) 59 (c .before .before .before .tag2 .ensures)) (done _ _ _ _))))))))))
+returns-6 c = command-is (c .before .before .before .before .before .before .before .before .before .before .before .before .before .before .before .before .before .before .before .before .before .before .args .doc) _ _ _ _ _ _ _ _ _ (command-head-within (c .before .before .before .before .before .before .before .before .before .before .before .before .before .before .before .before .before .before .before .before .command-head .ensures) (c .before .before .before .before .before .before .before .before .before .before .before .before .before .before .before .before .before .before .head .given .1)) (command-types-within (c .before .before .before .before .before .before .before .before .before .before .before .before .before .before .before .command-types .ensures) (c .before .before .before .before .before .before .before .before .before .before .before .before .before .types .given .1)) (omega (arith, (tag-behind-took 61 (c .before .before .before .before .before .before .before .before .before .equals .given .1) (c .before .before .before .before .before .before .before .before .before .before .before .tag-behind .ensures)) .up, (integer-behind-took (c .before .before .before .before .before .before .before .integer-behind .ensures) (c .before .before .before .before .before .number .given .1)) .up, (tag-behind-took 59 (c .before .semicolon .given .1) (c .before .before .before .tag-behind2 .ensures)) .up)) (begin (parse-command-after-doc-maturity (docOf (c .before .before .before .before .before .before .before .before .before .before .before .before .before .before .before .before .before .before .before .before .before .before .args .doc)) (c .before .before .before .before .before .before .before .before .before .before .before .before .before .before .before .before .before .before .before .before .before .before .args .maturity)) _ _ (go _ (read-took (c .before .before .before .before .before .before .before .before .before .before .before .before .before .before .before .before .before .before .before .before .command-head .ensures) (c .before .before .before .before .before .before .before .before .before .before .before .before .before .before .before .before .before .before .head .given .1) (walks (chain-inside command-head-inside)) (rest-self _ _) refl) (go _ (command-types-took (c .before .before .before .before .before .before .before .before .before .before .before .before .before .before .before .command-types .ensures) (c .before .before .before .before .before .before .before .before .before .before .before .before .before .types .given .1) (c .before .before .before .before .before .before .before .before .before .before .before .before .before .before .before .before .rest-at .ensures)) (pair-on _ _ _ (tag-behind-took 61 (c .before .before .before .before .before .before .before .before .before .equals .given .1) (c .before .before .before .before .before .before .before .before .before .before .before .tag-behind .ensures)) (pair-go _ _ _ (integer-behind-took (c .before .before .before .before .before .before .before .integer-behind .ensures) (c .before .before .before .before .before .number .given .1)) (pair-on _ _ _ (tag-behind-took 59 (c .before .semicolon .given .1) (c .before .before .before .tag-behind2 .ensures)) (done _ _ _ _)))))))
 
 pub parse-command-after-doc-maturity-spec : {M : Type 1} → statement M
-parse-command-after-doc-maturity-spec =
-    tie.close
-    (tie.spec
-    command-head-requires
-    enum-known-head
-    enum-told
-    command-head-lost-requires
-    returns
-    rest-at-requires
-    command-types-requires
-    enum-known-types
-    enum-told-2
-    command-types-lost-requires
-    returns-2
-    rest-at-requires-2
-    whitespace0-requires
-    rest-at-requires-3
-    tag-requires
-    enum-known-equals
-    enum-told-3
-    step-lost-requires
-    returns-3
-    rest-at-requires-4
-    whitespace0-requires-2
-    rest-at-requires-5
-    positive-integer-requires
-    enum-known-number
-    enum-told-4
-    number-lost-requires
-    returns-4
-    rest-at-requires-6
-    whitespace0-requires-3
-    rest-at-requires-7
-    tag-requires-2
-    enum-known-semicolon
-    enum-told-5
-    step-lost-requires-2
-    returns-5
-    returns-6)
+parse-command-after-doc-maturity-spec = tie.close (tie.spec command-head-requires enum-known-head enum-told command-head-lost-requires returns rest-at-requires command-types-requires enum-known-types enum-told-2 command-types-lost-requires returns-2 tag-behind-requires enum-known-equals enum-told-3 step-lost-requires returns-3 integer-behind-requires enum-known-number enum-told-4 number-lost-requires returns-4 tag-behind-requires-2 enum-known-semicolon enum-told-5 step-lost-requires-2 returns-5 returns-6)

@@ -3,16 +3,12 @@ use Rattle.items.proofs.structs.max_length.Statement.{statement}
 use Rattle.items.proofs.structs.max_length.Tie as tie
 use Rattle.items.specs.structs.{max-length}
 use native.Mathlib.Omega.{arith}
-use Rattle.lexing.proofs.Slicing.{rest-self, begin, go, on, lose, fall, done, blank-took, tag-took, integer-took, step-lost, integer-lost}
+use Rattle.lexing.proofs.Slicing.{begin, done}
+use Rattle.items.proofs.Pairs.{pair-go, pair-on, pair-lose, pair-fall}
+use Rattle.items.proofs.steps.Laws.{tag-behind-took, integer-behind-took, skips-lost, integer-behind-lost}
 
-whitespace0-requires : tie.Need-whitespace0-requires
-whitespace0-requires c κs = search needs
-
-rest-at-requires : tie.Need-rest-at-requires
-rest-at-requires c κs = omega (arith, (blank-took (rest-self _ _) (c .whitespace0 .ensures)) .up, (blank-took (rest-self _ _) (c .whitespace0 .ensures)) .inside)
-
-tag-requires : tie.Need-tag-requires
-tag-requires c κs = omega (arith, c .rest-at .ensures .size, c .before .before .before .pre)
+tag-behind-requires : tie.Need-tag-behind-requires
+tag-behind-requires c κs = omega (arith, c .before .pre)
 
 enum-known-less : tie.Need-enum-known-less
 enum-known-less c = search needs
@@ -25,19 +21,10 @@ step-lost-requires c κs = search needs
 
 returns : tie.Need-returns
 unfolding max-length
-returns c = (begin (max-length) _ _ (on _ (blank-took (rest-self _ _) (c .before .before .before .before .before .whitespace0 .ensures)) (fall _ _ (c .step-lost .result) (c .before .before .before .before .rest-at .ensures) (step-lost (λ c. tt) (c .step-lost .ensures) (c .before .enum-told .given .1) _ _ _ (c .before .before .before .tag .ensures)))))
+returns c = (begin (max-length) _ _ (pair-fall _ _ _ (c .step-lost .result) (c .before .before .before .tag-behind .ensures .at) (skips-lost (c .step-lost .ensures) (c .before .enum-told .given .1) (c .before .before .before .tag-behind .ensures))))
 
-rest-at-requires-2 : tie.Need-rest-at-requires-2
-rest-at-requires-2 c κs = omega (arith, (tag-took (c .before .before .before .before .rest-at .ensures) (c .before .less .given .1) 60 (c .before .before .before .tag .ensures)) .up, (tag-took (c .before .before .before .before .rest-at .ensures) (c .before .less .given .1) 60 (c .before .before .before .tag .ensures)) .inside, c .before .before .before .before .rest-at .ensures .from)
-
-whitespace0-requires-2 : tie.Need-whitespace0-requires-2
-whitespace0-requires-2 c κs = omega (arith, c .rest-at2 .ensures .size, c .before .before .before .before .before .before .before .before .pre)
-
-rest-at-requires-3 : tie.Need-rest-at-requires-3
-rest-at-requires-3 c κs = omega (arith, (blank-took (c .before .rest-at2 .ensures) (c .whitespace02 .ensures)) .up, (blank-took (c .before .rest-at2 .ensures) (c .whitespace02 .ensures)) .inside, c .before .rest-at2 .ensures .from)
-
-positive-integer-requires : tie.Need-positive-integer-requires
-positive-integer-requires c κs = omega (arith, c .rest-at3 .ensures .size, c .before .before .before .before .before .before .before .before .before .before .pre)
+integer-behind-requires : tie.Need-integer-behind-requires
+integer-behind-requires c κs = omega (arith, (tag-behind-took 60 (c .before .less .given .1) (c .before .before .before .tag-behind .ensures)) .up, (tag-behind-took 60 (c .before .less .given .1) (c .before .before .before .tag-behind .ensures)) .inside, c .before .before .before .before .before .pre)
 
 enum-known-number : tie.Need-enum-known-number
 enum-known-number c = search needs
@@ -50,19 +37,10 @@ number-lost-requires c κs = search needs
 
 returns-2 : tie.Need-returns-2
 unfolding max-length
-returns-2 c = (begin (max-length) _ _ (on _ (blank-took (rest-self _ _) (c .before .before .before .before .before .before .before .before .before .before .before .before .whitespace0 .ensures)) (on _ (tag-took (c .before .before .before .before .before .before .before .before .before .before .before .rest-at .ensures) (c .before .before .before .before .before .before .before .before .less .given .1) 60 (c .before .before .before .before .before .before .before .before .before .before .tag .ensures)) (on _ (blank-took (c .before .before .before .before .before .before .rest-at2 .ensures) (c .before .before .before .before .before .whitespace02 .ensures)) (lose _ _ (c .number-lost .result) (c .before .before .before .before .rest-at3 .ensures) (integer-lost (c .number-lost .ensures) (c .before .enum-told2 .given .1) _ _ _ (c .before .before .before .positive-integer .ensures)))))))
+returns-2 c = (begin (max-length) _ _ (pair-on _ _ _ (tag-behind-took 60 (c .before .before .before .before .before .less .given .1) (c .before .before .before .before .before .before .before .tag-behind .ensures)) (pair-lose _ _ _ (c .number-lost .result) (c .before .before .before .integer-behind .ensures .at) (integer-behind-lost (c .before .before .before .integer-behind .ensures) (c .number-lost .ensures) (c .before .enum-told2 .given .1)))))
 
-rest-at-requires-4 : tie.Need-rest-at-requires-4
-rest-at-requires-4 c κs = omega (arith, (integer-took (c .before .before .before .before .rest-at3 .ensures) (c .before .number .given .1) (c .before .before .before .positive-integer .ensures)) .up, (integer-took (c .before .before .before .before .rest-at3 .ensures) (c .before .number .given .1) (c .before .before .before .positive-integer .ensures)) .inside, c .before .before .before .before .rest-at3 .ensures .from)
-
-whitespace0-requires-3 : tie.Need-whitespace0-requires-3
-whitespace0-requires-3 c κs = omega (arith, c .rest-at4 .ensures .size, c .before .before .before .before .before .before .before .before .before .before .before .before .before .before .before .pre)
-
-rest-at-requires-5 : tie.Need-rest-at-requires-5
-rest-at-requires-5 c κs = omega (arith, (blank-took (c .before .rest-at4 .ensures) (c .whitespace03 .ensures)) .up, (blank-took (c .before .rest-at4 .ensures) (c .whitespace03 .ensures)) .inside, c .before .rest-at4 .ensures .from)
-
-tag-requires-2 : tie.Need-tag-requires-2
-tag-requires-2 c κs = omega (arith, c .rest-at5 .ensures .size, c .before .before .before .before .before .before .before .before .before .before .before .before .before .before .before .before .before .pre)
+tag-behind-requires-2 : tie.Need-tag-behind-requires-2
+tag-behind-requires-2 c κs = omega (arith, (integer-behind-took (c .before .before .before .integer-behind .ensures) (c .before .number .given .1)) .up, (integer-behind-took (c .before .before .before .integer-behind .ensures) (c .before .number .given .1)) .inside, c .before .before .before .integer-behind .ensures .at .from, c .before .before .before .before .before .before .before .before .before .pre)
 
 enum-known-greater : tie.Need-enum-known-greater
 enum-known-greater c = search needs
@@ -75,37 +53,11 @@ step-lost-requires-2 c κs = search needs
 
 returns-3 : tie.Need-returns-3
 unfolding max-length
-returns-3 c = (begin (max-length) _ _ (on _ (blank-took (rest-self _ _) (c .before .before .before .before .before .before .before .before .before .before .before .before .before .before .before .before .before .before .before .whitespace0 .ensures)) (on _ (tag-took (c .before .before .before .before .before .before .before .before .before .before .before .before .before .before .before .before .before .before .rest-at .ensures) (c .before .before .before .before .before .before .before .before .before .before .before .before .before .before .before .less .given .1) 60 (c .before .before .before .before .before .before .before .before .before .before .before .before .before .before .before .before .before .tag .ensures)) (on _ (blank-took (c .before .before .before .before .before .before .before .before .before .before .before .before .before .rest-at2 .ensures) (c .before .before .before .before .before .before .before .before .before .before .before .before .whitespace02 .ensures)) (go _ (integer-took (c .before .before .before .before .before .before .before .before .before .before .before .rest-at3 .ensures) (c .before .before .before .before .before .before .before .before .number .given .1) (c .before .before .before .before .before .before .before .before .before .before .positive-integer .ensures)) (on _ (blank-took (c .before .before .before .before .before .before .rest-at4 .ensures) (c .before .before .before .before .before .whitespace03 .ensures)) (fall _ _ (c .step-lost2 .result) (c .before .before .before .before .rest-at5 .ensures) (step-lost (λ c. tt) (c .step-lost2 .ensures) (c .before .enum-told3 .given .1) _ _ _ (c .before .before .before .tag2 .ensures)))))))))
+returns-3 c = (begin (max-length) _ _ (pair-on _ _ _ (tag-behind-took 60 (c .before .before .before .before .before .before .before .before .before .less .given .1) (c .before .before .before .before .before .before .before .before .before .before .before .tag-behind .ensures)) (pair-go _ _ _ (integer-behind-took (c .before .before .before .before .before .before .before .integer-behind .ensures) (c .before .before .before .before .before .number .given .1)) (pair-fall _ _ _ (c .step-lost2 .result) (c .before .before .before .tag-behind2 .ensures .at) (skips-lost (c .step-lost2 .ensures) (c .before .enum-told3 .given .1) (c .before .before .before .tag-behind2 .ensures))))))
 
 returns-4 : tie.Need-returns-4
 unfolding max-length
-returns-4 c = (begin (max-length) _ _ (on _ (blank-took (rest-self _ _) (c .before .before .before .before .before .before .before .before .before .before .before .before .before .before .before .before .before .before .before .whitespace0 .ensures)) (on _ (tag-took (c .before .before .before .before .before .before .before .before .before .before .before .before .before .before .before .before .before .before .rest-at .ensures) (c .before .before .before .before .before .before .before .before .before .before .before .before .before .before .before .less .given .1) 60 (c .before .before .before .before .before .before .before .before .before .before .before .before .before .before .before .before .before .tag .ensures)) (on _ (blank-took (c .before .before .before .before .before .before .before .before .before .before .before .before .before .rest-at2 .ensures) (c .before .before .before .before .before .before .before .before .before .before .before .before .whitespace02 .ensures)) (go _ (integer-took (c .before .before .before .before .before .before .before .before .before .before .before .rest-at3 .ensures) (c .before .before .before .before .before .before .before .before .number .given .1) (c .before .before .before .before .before .before .before .before .before .before .positive-integer .ensures)) (on _ (blank-took (c .before .before .before .before .before .before .rest-at4 .ensures) (c .before .before .before .before .before .whitespace03 .ensures)) (on _ (tag-took (c .before .before .before .before .rest-at5 .ensures) (c .before .greater .given .1) 62 (c .before .before .before .tag2 .ensures)) (done _ _ _ _))))))))
+returns-4 c = (begin (max-length) _ _ (pair-on _ _ _ (tag-behind-took 60 (c .before .before .before .before .before .before .before .before .before .less .given .1) (c .before .before .before .before .before .before .before .before .before .before .before .tag-behind .ensures)) (pair-go _ _ _ (integer-behind-took (c .before .before .before .before .before .before .before .integer-behind .ensures) (c .before .before .before .before .before .number .given .1)) (pair-on _ _ _ (tag-behind-took 62 (c .before .greater .given .1) (c .before .before .before .tag-behind2 .ensures)) (done _ _ _ _)))))
 
 pub max-length-spec : {M : Type 1} → statement M
-max-length-spec =
-    tie.close
-    (tie.spec
-    whitespace0-requires
-    rest-at-requires
-    tag-requires
-    enum-known-less
-    enum-told
-    step-lost-requires
-    returns
-    rest-at-requires-2
-    whitespace0-requires-2
-    rest-at-requires-3
-    positive-integer-requires
-    enum-known-number
-    enum-told-2
-    number-lost-requires
-    returns-2
-    rest-at-requires-4
-    whitespace0-requires-3
-    rest-at-requires-5
-    tag-requires-2
-    enum-known-greater
-    enum-told-3
-    step-lost-requires-2
-    returns-3
-    returns-4)
+max-length-spec = tie.close (tie.spec tag-behind-requires enum-known-less enum-told step-lost-requires returns integer-behind-requires enum-known-number enum-told-2 number-lost-requires returns-2 tag-behind-requires-2 enum-known-greater enum-told-3 step-lost-requires-2 returns-3 returns-4)

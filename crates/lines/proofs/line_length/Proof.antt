@@ -1,6 +1,6 @@
 use borrow.Author.Needs.{needs}
-use Rattle.tokens.proofs.line_length.Statement.{statement}
-use Rattle.tokens.proofs.line_length.Tie as tie
+use Rattle.lines.proofs.line_length.Statement.{statement}
+use Rattle.lines.proofs.line_length.Tie as tie
 use Prim.Native.Nat.{_-_, _≤_}
 use lib.ListN.{length}
 use native.Mathlib.Omega.{arith}

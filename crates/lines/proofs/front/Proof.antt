@@ -1,6 +1,6 @@
 use borrow.Author.Needs.{needs}
-use Rattle.tokens.proofs.front.Statement.{statement}
-use Rattle.tokens.proofs.front.Tie as tie
+use Rattle.lines.proofs.front.Statement.{statement}
+use Rattle.lines.proofs.front.Tie as tie
 use mathlib.Core.Path.{sym}
 use lib.Seq.{length-take-le}
 use native.Mathlib.Omega.{arith}
@@ -9,7 +9,7 @@ slice-aggregate-result : tie.Need-slice-aggregate-result
 slice-aggregate-result c = sym (length-take-le _ _ (omega arith))
 
 returns : tie.Need-returns
-returns c = search needs
+returns c = let z = length-take-le (c .before .before .args .n) (c .before .before .args .text .now) (omega arith) in omega (arith, z)
 
 returns-2 : tie.Need-returns-2
 returns-2 c = search needs

@@ -1,0 +1,82 @@
+-- Steps from an offset of a part: what they answer, and what they give the sequence that takes them.
+use mathlib.Core.Path.{_≡_, refl, sym, ap, _∙_, subst}
+use mathlib.Core.List.{List}
+use Prim.Native.Nat.{ℕ, _+_, _-_}
+use lib.ListN.{length, drop}
+use Rattle.lexing.specs.reply.{Parser, _>>_}
+use Rattle.lexing.specs.words.{keyword, tag}
+use Rattle.lexing.specs.integers.{positive-integer}
+use Rattle.lexing.specs.blanks.{no-doc, whitespace0, whitespace1}
+use Rattle.lexing.specs.answers.{Rest, BlankTo, docOf, lostOf, lostReply, gapLost, gapReply, numberAnswer, numberLost, numberReply, tagReply, wordReply}
+use Rattle.lexing.specs.declared.answers.Lost.{Lost}
+use Rattle.lexing.specs.declared.answers.Step.{Step}
+use Rattle.lexing.specs.declared.answers.Step.the-variants.{Next, Not}
+use Rattle.lexing.specs.declared.blanks.Blank.{Blank}
+use Rattle.lexing.specs.declared.blanks.Gap.{Gap}
+use Rattle.lexing.specs.declared.blanks.Gap.the-variants.{Passed, NoGap}
+use Rattle.lexing.specs.declared.integers.Number.{Number}
+use Rattle.lexing.specs.declared.integers.Number.the-variants.{Value, NoNumber}
+use Rattle.lexing.proofs.Onward.{Onward, advances-onward, tag-advances, integer-advances}
+use Rattle.lexing.proofs.Slicing.{Took, took, walks, rest-self, blank-took, gap-lost, integer-lost}
+use Rattle.lexing.proofs.TokenLocality.{keyword-chain, whitespace0-chain, whitespace1-chain}
+use Rattle.items.specs.answers.{Skips, SkipsAt, BlankAt, NumberAt}
+use Rattle.items.proofs.Dropping.{behind, skip-behind, tag-skips, keyword-skips}
+use Rattle.items.proofs.Pairs.{onward-then}
+use Rattle.items.proofs.optional.Laws.{skip-took, skip-lost}
+
+blank-on : Onward whitespace0
+blank-on = walks whitespace0-chain
+
+module _ {b c : ℕ} {u r : List ℕ} (q : Rest b u c r) where
+  rest-here : Rest b u c (drop (c - b) u)
+  rest-here = record { from = q .from; same = refl; size = ap (λ v. c + length v) (sym (q .same)) ∙ q .size }
+
+  skips-at : {A : Type 0} {m : Parser A} {a : Step} → Skips m a c r → SkipsAt m a b u c
+  skips-at {A} {m} {a} h = record { at = rest-here; skips = subst (λ v. Skips m a c v) (q .same) h }
+
+  pub blank-is : {t : Blank} → BlankTo t c r → BlankAt (t .next) b u c
+  blank-is {t} h = skips-at (record { value = docOf (t .doc); reads = h .reads })
+
+  module _ {a : Gap} (h : gapReply a c r ≡ whitespace1 c r) where
+    pub gap-is : {t : Blank} → a ≡ Passed t → SkipsAt whitespace1 (Next (t .next)) b u c
+    gap-is {t} e = skips-at (record { value = docOf (t .doc); reads = subst (λ (x : Gap). gapReply x c r ≡ whitespace1 c r) e h })
+
+    pub gap-not : {l l' : Lost} → l' ≡ gapLost a → a ≡ NoGap l → SkipsAt whitespace1 (Not l') b u c
+    gap-not e d = skips-at (record { value = no-doc; reads = gap-lost e d c r (whitespace1 c r) h })
+
+  -- a token behind blanks
+  module _ {t : Blank} (h : BlankTo t c r) {v : List ℕ} (p : Rest c r (t .next) v) where
+    pub tag-behind-is : (k : ℕ) (a : Step) → tagReply a (t .next) v ≡ tag k (t .next) v → SkipsAt (whitespace0 >> tag k) a b u c
+    tag-behind-is k a e = skips-at (skip-behind (advances-onward (tag-advances k)) p (blank-took (rest-self c r) h) (tag-skips k a e))
+
+    pub keyword-behind-is : (k : List ℕ) (a : Step) → wordReply a (t .next) v ≡ keyword k (t .next) v → SkipsAt (whitespace0 >> keyword k) a b u c
+    keyword-behind-is k a e = skips-at (skip-behind (walks (keyword-chain k)) p (blank-took (rest-self c r) h) (keyword-skips k a e))
+
+    pub integer-behind-is : (a : Number) → numberReply a (t .next) v ≡ positive-integer (t .next) v → NumberAt (whitespace0 >> positive-integer) a b u c
+    integer-behind-is a e =
+        let x = behind (advances-onward integer-advances) (numberAnswer a) p (blank-took (rest-self c r) h) e in
+        record { at = rest-here; reads = subst (λ w. numberReply a c w ≡ (whitespace0 >> positive-integer) c w) (q .same) x }
+
+-- as steps of a sequence
+module _ {b n : ℕ} {u : List ℕ} where
+  pub blank-at-took : {c : ℕ} (h : BlankAt c b u n) → Took whitespace0 b u n (h .skips .value) c
+  blank-at-took h = skip-took blank-on (h .at) refl (h .skips)
+
+  pub gap-at-took : {a : Step} {c : ℕ} → a ≡ Next c → (h : SkipsAt whitespace1 a b u n) → Took whitespace1 b u n (h .skips .value) c
+  gap-at-took e h = skip-took (walks whitespace1-chain) (h .at) e (h .skips)
+
+  pub tag-behind-took : (t : ℕ) {a : Step} {c : ℕ} → a ≡ Next c → (h : SkipsAt (whitespace0 >> tag t) a b u n) → Took (whitespace0 >> tag t) b u n (h .skips .value) c
+  tag-behind-took t e h = skip-took (onward-then blank-on (advances-onward (tag-advances t))) (h .at) e (h .skips)
+
+  pub keyword-behind-took : (k : List ℕ) {a : Step} {c : ℕ} → a ≡ Next c → (h : SkipsAt (whitespace0 >> keyword k) a b u n) → Took (whitespace0 >> keyword k) b u n (h .skips .value) c
+  keyword-behind-took k e h = skip-took (onward-then blank-on (walks (keyword-chain k))) (h .at) e (h .skips)
+
+  pub skips-lost : {A : Type 0} {m : Parser A} {a : Step} {l l' : Lost} → l' ≡ lostOf a → a ≡ Not l → SkipsAt m a b u n → lostReply l' ≡ m n (drop (n - b) u)
+  skips-lost e d h = skip-lost e d n (drop (n - b) u) (h .skips)
+
+  module _ {a : Number} (h : NumberAt (whitespace0 >> positive-integer) a b u n) where
+    pub integer-behind-took : {v c : ℕ} → a ≡ Value v c → Took (whitespace0 >> positive-integer) b u n v c
+    integer-behind-took e = took (onward-then blank-on (advances-onward integer-advances)) (h .at) (subst (λ (x : Number). numberReply x n (drop (n - b) u) ≡ (whitespace0 >> positive-integer) n (drop (n - b) u)) e (h .reads))
+
+    pub integer-behind-lost : {l l' : Lost} → l' ≡ numberLost a → a ≡ NoNumber l → lostReply l' ≡ (whitespace0 >> positive-integer) n (drop (n - b) u)
+    integer-behind-lost e d = integer-lost e d n (drop (n - b) u) ((whitespace0 >> positive-integer) n (drop (n - b) u)) (h .reads)

@@ -1,0 +1,71 @@
+// Steps from an offset of a part: blanks, and tokens behind blanks.
+ghost use Prim.Native.Nat.{_+_, _≤_};
+ghost use lib.ListN.{length};
+ghost use Rattle.lexing.specs.integers.{u64-max, positive-integer};
+ghost use Rattle.lexing.specs.words.{tag, keyword};
+ghost use Rattle.lexing.specs.blanks.{whitespace1};
+ghost use Rattle.items.specs.answers.{BlankAt, SkipsAt, NumberAt, behind-blanks};
+use lexing::answers::Step;
+use lexing::blanks::Gap;
+use lexing::blanks::gap_lost;
+use lexing::blanks::whitespace0;
+use lexing::blanks::whitespace1;
+use lexing::integers::Number;
+use lexing::integers::positive_integer;
+use lexing::parts::rest_at;
+use lexing::words::keyword;
+use lexing::words::tag;
+
+// The offset behind blanks.
+pub fn blank_at(part: &[u8], base: usize, c: usize) -> usize
+    requires { ⌜ ((base ≤ c) × (c ≤ base + length (now part))) × (base + length (now part) ≤ u64-max) ⌝ }
+    ensures { λ r. ⌜ BlankAt r base (now (part .entry)) c ⌝ }
+{
+    let w = whitespace0(rest_at(part, base, c), c);
+    w.next
+}
+
+// At least one blank.
+pub fn gap_at(part: &[u8], base: usize, c: usize) -> Step
+    requires { ⌜ ((base ≤ c) × (c ≤ base + length (now part))) × (base + length (now part) ≤ u64-max) ⌝ }
+    ensures { λ r. ⌜ SkipsAt whitespace1 r base (now (part .entry)) c ⌝ }
+{
+    let gap = whitespace1(rest_at(part, base, c), c);
+    let Gap::Passed(w) = gap else {
+        return Step::Not(gap_lost(gap));
+    };
+    Step::Next(w.next)
+}
+
+// Blanks and a byte.
+pub fn tag_behind(part: &[u8], base: usize, c: usize, t: u8) -> Step
+    requires { ⌜ ((base ≤ c) × (c ≤ base + length (now part))) × (base + length (now part) ≤ u64-max) ⌝ }
+    ensures { λ r. ⌜ SkipsAt (behind-blanks (tag t)) r base (now (part .entry)) c ⌝ }
+{
+    let rest = rest_at(part, base, c);
+    let w = whitespace0(rest, c);
+    let n = w.next;
+    tag(rest_at(rest, c, n), n, t)
+}
+
+// Blanks and a keyword.
+pub fn keyword_behind(part: &[u8], base: usize, c: usize, key: &[u8]) -> Step
+    requires { ⌜ ((base ≤ c) × (c ≤ base + length (now part))) × (base + length (now part) ≤ u64-max) ⌝ }
+    ensures { λ r. ⌜ SkipsAt (behind-blanks (keyword (now (key .entry)))) r base (now (part .entry)) c ⌝ }
+{
+    let rest = rest_at(part, base, c);
+    let w = whitespace0(rest, c);
+    let n = w.next;
+    keyword(rest_at(rest, c, n), n, key)
+}
+
+// Blanks and an integer.
+pub fn integer_behind(part: &[u8], base: usize, c: usize) -> Number
+    requires { ⌜ ((base ≤ c) × (c ≤ base + length (now part))) × (base + length (now part) ≤ u64-max) ⌝ }
+    ensures { λ r. ⌜ NumberAt (behind-blanks positive-integer) r base (now (part .entry)) c ⌝ }
+{
+    let rest = rest_at(part, base, c);
+    let w = whitespace0(rest, c);
+    let n = w.next;
+    positive_integer(rest_at(rest, c, n), n)
+}

@@ -1,0 +1,130 @@
+//! The stored list of short texts with the Rust's answers.
+//!
+//! A line is a text's bytes in hexadecimal, then `=` and the catalogue's bytes in hexadecimal, or `!` and the result of a refusal as 16
+//! hexadecimal digits: number * 2^56 + place. Digits are in lower case; every line ends in a line feed.
+use crate::catalogue::{decode, encode, Record};
+use crate::check::{answer, Answer};
+use crate::generate::*;
+use crate::known;
+use std::collections::{BTreeMap, HashSet};
+
+/// The longest text and catalogue in the list, in bytes, so that a program can hold any line's in fixed buffers.
+const MOST_TEXT: usize = 128;
+const MOST_CATALOGUE: usize = 512;
+/// Texts that are kept of each answer: accepted, then refused by 2 to 6.
+const KEPT: [(u64, usize); 6] = [(0, 1_200), (2, 120), (3, 1_000), (4, 100), (5, 60), (6, 60)];
+
+pub fn line(text: &[u8], answer: &Answer) -> String {
+    let digits: String = text.iter().map(|b| format!("{b:02x}")).collect();
+    match answer {
+        Answer::Words(words) => digits + "=" + &words.iter().map(|w| format!("{w:016x}")).collect::<String>(),
+        Answer::Refused(number, place) => digits + &format!("!{:016x}", number << 56 | *place as u64),
+    }
+}
+
+/// The known texts, then of each answer those that show a new trait, short ones first, then any.
+pub fn vectors(seed: u64) -> Vec<(Vec<u8>, Answer)> {
+    let agreed = |text: &Vec<u8>| answer(text).expect("a text on which the Rust and locate agree");
+    let mut seen = HashSet::new();
+    let mut list: Vec<_> = known::texts().into_iter().filter(|text| seen.insert(text.clone())).map(|text| (agreed(&text), text)).collect();
+    let mut found: BTreeMap<u64, Vec<(bool, Vec<u8>, Answer)>> = BTreeMap::new();
+    let mut traits = HashSet::new();
+    for text in candidates(seed) {
+        if !seen.insert(text.clone()) {
+            continue;
+        }
+        let answer = agreed(&text);
+        if matches!(&answer, Answer::Words(words) if words.len() * 8 <= MOST_CATALOGUE) || number_of(&answer) != 0 {
+            let new = traits_of(&text, &answer).into_iter().filter(|t| traits.insert(t.clone())).count() > 0;
+            found.entry(number_of(&answer)).or_default().push((new, text, answer));
+        }
+    }
+    for (number, most) in KEPT {
+        let all = found.remove(&number).unwrap_or_default();
+        let (new, rest): (Vec<_>, Vec<_>) = all.into_iter().partition(|(new, ..)| *new);
+        // Of the rest, evenly from short to long.
+        let missing = most.saturating_sub(new.len());
+        let step = (rest.len() / missing.max(1)).max(1);
+        let rest = rest.into_iter().step_by(step).take(missing);
+        list.extend(new.into_iter().take(most).chain(rest).map(|(_, text, answer)| (answer, text)));
+    }
+    list.into_iter().map(|(answer, text)| (text, answer)).collect()
+}
+
+fn number_of(answer: &Answer) -> u64 {
+    match answer {
+        Answer::Words(_) => 0,
+        Answer::Refused(number, _) => *number,
+    }
+}
+
+/// Short texts, from the grammar, damaged, and some of the exhaustive ones.
+fn candidates(seed: u64) -> Vec<Vec<u8>> {
+    let mut random = Random(seed);
+    let mut all = Vec::new();
+    for short in SHORT {
+        short.each(&mut |text| {
+            if random.below(1 + short.count() / 2_000) == 0 && text.len() <= MOST_TEXT {
+                all.push(text.to_vec());
+            }
+        });
+    }
+    let mut other = Vec::new();
+    for _ in 0..20_000 {
+        let text = Grammar::short(&mut random);
+        all.push(damaged(&mut random, &text, &other));
+        all.push(text.clone());
+        if random.below(8) == 0 {
+            all.push(Grammar::new(&mut random).hoisting());
+        }
+        all.push(not_utf8(&mut random));
+        other = text;
+    }
+    all.retain(|text| text.len() <= MOST_TEXT);
+    all.sort_by_key(|text| text.len() / 8);
+    all
+}
+
+/// What a text shows: each field of each kind of record; of a refusal, its number with the tokens around its place.
+fn traits_of(text: &[u8], answer: &Answer) -> Vec<String> {
+    match answer {
+        Answer::Words(words) => {
+            let records = decode(words).unwrap();
+            records.iter().flat_map(record_traits).collect()
+        }
+        Answer::Refused(number, place) => {
+            let token = |t: Option<&Vec<u8>>| t.map(|t| String::from_utf8_lossy(&t[..t.len().min(9)]).to_lowercase()).unwrap_or_default();
+            let (before, after) = (tokens(&text[..*place]), tokens(&text[*place..]));
+            let (before, after) = (token(before.last()), token(after.first()));
+            vec![format!("{number} before {after:?}"), format!("{number} behind {before:?}")]
+        }
+    }
+}
+
+fn record_traits(r: &Record) -> Vec<String> {
+    let words = encode(std::slice::from_ref(r));
+    let (first, kind) = (words[0], words[0] >> 56);
+    let field = |what: &str, value: u64| format!("kind {kind} {what} {value}");
+    let class = |word: u64| 64 - word.leading_zeros() as u64;
+    let mut all = vec![
+        field("place", first >> 54 & 3),
+        field("maturity", first >> 52 & 3),
+        field("doc", first >> 51 & 1),
+        field("flags", first >> 44 & 127),
+        field("privileges", first & 15),
+    ];
+    all.extend(words.iter().enumerate().skip(1).map(|(i, &w)| field(&format!("word {i}"), class(w))));
+    all
+}
+
+/// The list as a file, with a count by answer on standard error.
+pub fn print(seed: u64) {
+    let list = vectors(seed);
+    let mut figures: BTreeMap<u64, usize> = BTreeMap::new();
+    for (text, answer) in &list {
+        println!("{}", line(text, answer));
+        *figures.entry(number_of(answer)).or_default() += 1;
+    }
+    let short = list.iter().filter(|(text, _)| text.len() < 80).count();
+    eprintln!("{} texts, {short} of them under 80 bytes; by number, 0 accepted: {figures:?}", list.len());
+}
