@@ -1,4 +1,3 @@
-use borrow.Author.Needs.{needs}
 use Rattle.items.proofs.attributes.access_entry.Statement.{statement}
 use Rattle.items.proofs.attributes.access_entry.Tie as tie
 use Rattle.items.specs.members.{access-entry}
@@ -20,13 +19,13 @@ access-word-requires : tie.Need-access-word-requires
 access-word-requires c κs = omega (arith, c .rest-at .ensures .size, c .before .before .before .pre)
 
 enum-known-word : tie.Need-enum-known-word
-enum-known-word c = search needs
+enum-known-word c = c .match .keys1
 
 enum-told : tie.Need-enum-told
-enum-told c = search needs
+enum-told c = c .match .keys2
 
 operation-lost-requires : tie.Need-operation-lost-requires
-operation-lost-requires c κs = search needs
+operation-lost-requires c κs = tt
 
 returns : tie.Need-returns
 unfolding access-entry
@@ -36,13 +35,13 @@ tag-behind-requires : tie.Need-tag-behind-requires
 tag-behind-requires c κs = omega (arith, ((operation-took (c .before .before .before .access-word .ensures) (c .before .before .before .before .rest-at .ensures) (c .before .word .given .1)) .step) .up, ((operation-took (c .before .before .before .access-word .ensures) (c .before .before .before .before .rest-at .ensures) (c .before .word .given .1)) .step) .inside, c .before .before .before .before .rest-at .ensures .from, c .before .before .before .before .before .before .before .pre)
 
 enum-known-colon : tie.Need-enum-known-colon
-enum-known-colon c = search needs
+enum-known-colon c = c .match2 .keys1
 
 enum-told-2 : tie.Need-enum-told-2
-enum-told-2 c = search needs
+enum-told-2 c = c .match2 .keys2
 
 step-lost-requires : tie.Need-step-lost-requires
-step-lost-requires c κs = search needs
+step-lost-requires c κs = tt
 
 returns-2 : tie.Need-returns-2
 unfolding access-entry
@@ -58,13 +57,13 @@ access-privilege-requires : tie.Need-access-privilege-requires
 access-privilege-requires c κs = omega (arith, c .rest-at2 .ensures .size, c .before .before .before .before .before .before .before .before .before .before .before .before .before .pre)
 
 enum-known-granted : tie.Need-enum-known-granted
-enum-known-granted c = search needs
+enum-known-granted c = c .match3 .keys1
 
 enum-told-3 : tie.Need-enum-told-3
-enum-told-3 c = search needs
+enum-told-3 c = c .match3 .keys2
 
 level-lost-requires : tie.Need-level-lost-requires
-level-lost-requires c κs = search needs
+level-lost-requires c κs = tt
 
 returns-3 : tie.Need-returns-3
 unfolding access-entry
@@ -74,7 +73,7 @@ blank-at-requires-3 : tie.Need-blank-at-requires-3
 blank-at-requires-3 c κs = omega (arith, (level-took (c .before .before .before .access-privilege .ensures) (walks (access-privilege-local .on-chain)) (c .before .before .before .before .rest-at2 .ensures) (c .before .granted .given .1)) .up, (level-took (c .before .before .before .access-privilege .ensures) (walks (access-privilege-local .on-chain)) (c .before .before .before .before .rest-at2 .ensures) (c .before .granted .given .1)) .inside, c .before .before .before .before .rest-at2 .ensures .from, c .before .before .before .before .before .before .before .before .before .before .before .before .before .before .before .before .before .pre)
 
 grant-by-requires : tie.Need-grant-by-requires
-grant-by-requires c κs = search needs
+grant-by-requires c κs = tt
 
 returns-4 : tie.Need-returns-4
 unfolding access-entry

@@ -1,4 +1,3 @@
-use borrow.Author.Needs.{needs}
 use Rattle.items.proofs.attributes.comma.Statement.{statement}
 use Rattle.items.proofs.attributes.comma.Tie as tie
 use Rattle.items.specs.members.{comma}
@@ -11,13 +10,13 @@ tag-behind-requires : tie.Need-tag-behind-requires
 tag-behind-requires c κs = omega (arith, c .before .pre)
 
 enum-known-separator : tie.Need-enum-known-separator
-enum-known-separator c = search needs
+enum-known-separator c = c .match .keys1
 
 enum-told : tie.Need-enum-told
-enum-told c = search needs
+enum-told c = c .match .keys2
 
 step-lost-requires : tie.Need-step-lost-requires
-step-lost-requires c κs = search needs
+step-lost-requires c κs = tt
 
 returns : tie.Need-returns
 unfolding comma

@@ -25,13 +25,13 @@ keyword-behind-requires : tie.Need-keyword-behind-requires
 keyword-behind-requires c κs = omega (arith, (set-took (rest-self _ _) (c .before .keywords-set .ensures)) .up, (set-took (rest-self _ _) (c .before .keywords-set .ensures)) .inside, c .before .before .before .pre)
 
 enum-known-attribute : tie.Need-enum-known-attribute
-enum-known-attribute c = search needs
+enum-known-attribute c = c .match .keys1
 
 enum-told : tie.Need-enum-told
-enum-told c = search needs
+enum-told c = c .match .keys2
 
 step-lost-requires : tie.Need-step-lost-requires
-step-lost-requires c κs = search needs
+step-lost-requires c κs = tt
 
 returns : tie.Need-returns
 unfolding parse-attribute-after-doc-maturity
@@ -41,13 +41,13 @@ gap-at-requires : tie.Need-gap-at-requires
 gap-at-requires c κs = omega (arith, (keyword-behind-took (ascii "attribute") (c .before .attribute .given .1) (c .before .before .before .keyword-behind .ensures)) .up, (keyword-behind-took (ascii "attribute") (c .before .attribute .given .1) (c .before .before .before .keyword-behind .ensures)) .inside, c .before .before .before .keyword-behind .ensures .at .from, c .before .before .before .before .before .before .before .pre)
 
 enum-known-gap : tie.Need-enum-known-gap
-enum-known-gap c = search needs
+enum-known-gap c = c .match2 .keys1
 
 enum-told-2 : tie.Need-enum-told-2
-enum-told-2 c = search needs
+enum-told-2 c = c .match2 .keys2
 
 step-lost-requires-2 : tie.Need-step-lost-requires-2
-step-lost-requires-2 c κs = search needs
+step-lost-requires-2 c κs = tt
 
 returns-2 : tie.Need-returns-2
 unfolding parse-attribute-after-doc-maturity
@@ -60,13 +60,13 @@ attribute-access-requires : tie.Need-attribute-access-requires
 attribute-access-requires c κs = omega (arith, c .rest-at .ensures .size, c .before .before .before .before .before .before .before .before .before .before .before .before .pre)
 
 enum-known-access : tie.Need-enum-known-access
-enum-known-access c = search needs
+enum-known-access c = c .match3 .keys1
 
 enum-told-3 : tie.Need-enum-told-3
-enum-told-3 c = search needs
+enum-told-3 c = c .match3 .keys2
 
 privileges-lost-requires : tie.Need-privileges-lost-requires
-privileges-lost-requires c κs = search needs
+privileges-lost-requires c κs = tt
 
 returns-3 : tie.Need-returns-3
 unfolding parse-attribute-after-doc-maturity
@@ -82,13 +82,13 @@ parse-struct-field-requires : tie.Need-parse-struct-field-requires
 parse-struct-field-requires c κs = omega (arith, c .rest-at2 .ensures .size, c .before .before .before .before .before .before .before .before .before .before .before .before .before .before .before .before .before .before .pre)
 
 enum-known-r : tie.Need-enum-known-r
-enum-known-r c = search needs
+enum-known-r c = c .match4 .keys1
 
 enum-told-4 : tie.Need-enum-told-4
-enum-told-4 c = search needs
+enum-told-4 c = c .match4 .keys2
 
 struct-field-lost-requires : tie.Need-struct-field-lost-requires
-struct-field-lost-requires c κs = search needs
+struct-field-lost-requires c κs = tt
 
 returns-4 : tie.Need-returns-4
 unfolding parse-attribute-after-doc-maturity
@@ -98,13 +98,13 @@ tag-behind-requires : tie.Need-tag-behind-requires
 tag-behind-requires c κs = omega (arith, (struct-field-took parse-struct-field-on (c .before .before .before .before .rest-at2 .ensures) (c .before .before .before .parse-struct-field .ensures) (c .before .r .given .1)) .up, (struct-field-took parse-struct-field-on (c .before .before .before .before .rest-at2 .ensures) (c .before .before .before .parse-struct-field .ensures) (c .before .r .given .1)) .inside, c .before .before .before .before .rest-at2 .ensures .from, c .before .before .before .before .before .before .before .before .before .before .before .before .before .before .before .before .before .before .before .before .before .before .pre)
 
 enum-known-semicolon : tie.Need-enum-known-semicolon
-enum-known-semicolon c = search needs
+enum-known-semicolon c = c .match5 .keys1
 
 enum-told-5 : tie.Need-enum-told-5
-enum-told-5 c = search needs
+enum-told-5 c = c .match5 .keys2
 
 step-lost-requires-3 : tie.Need-step-lost-requires-3
-step-lost-requires-3 c κs = search needs
+step-lost-requires-3 c κs = tt
 
 returns-5 : tie.Need-returns-5
 unfolding parse-attribute-after-doc-maturity

@@ -18,13 +18,13 @@ keyword-requires : tie.Need-keyword-requires
 keyword-requires c κs = search needs
 
 enum-known-key : tie.Need-enum-known-key
-enum-known-key c = search needs
+enum-known-key c = c .match .keys1
 
 enum-told : tie.Need-enum-told
-enum-told c = search needs
+enum-told c = c .match .keys2
 
 step-lost-requires : tie.Need-step-lost-requires
-step-lost-requires c κs = search needs
+step-lost-requires c κs = tt
 
 returns : tie.Need-returns
 unfolding parse-revision
@@ -34,13 +34,13 @@ gap-at-requires : tie.Need-gap-at-requires
 gap-at-requires c κs = omega (arith, (keyword-took (rest-self _ _) (c .before .key .given .1) (ascii "revision") (c .before .before .before .keyword .ensures)) .up, (keyword-took (rest-self _ _) (c .before .key .given .1) (ascii "revision") (c .before .before .before .keyword .ensures)) .inside, c .before .before .before .before .before .before .pre)
 
 enum-known-gap : tie.Need-enum-known-gap
-enum-known-gap c = search needs
+enum-known-gap c = c .match2 .keys1
 
 enum-told-2 : tie.Need-enum-told-2
-enum-told-2 c = search needs
+enum-told-2 c = c .match2 .keys2
 
 step-lost-requires-2 : tie.Need-step-lost-requires-2
-step-lost-requires-2 c κs = search needs
+step-lost-requires-2 c κs = tt
 
 returns-2 : tie.Need-returns-2
 unfolding parse-revision
@@ -53,13 +53,13 @@ positive-integer-requires : tie.Need-positive-integer-requires
 positive-integer-requires c κs = omega (arith, c .rest-at .ensures .size, c .before .before .before .before .before .before .before .before .before .before .before .pre)
 
 enum-known-number : tie.Need-enum-known-number
-enum-known-number c = search needs
+enum-known-number c = c .match3 .keys1
 
 enum-told-3 : tie.Need-enum-told-3
-enum-told-3 c = search needs
+enum-told-3 c = c .match3 .keys2
 
 number-lost-requires : tie.Need-number-lost-requires
-number-lost-requires c κs = search needs
+number-lost-requires c κs = tt
 
 returns-3 : tie.Need-returns-3
 unfolding parse-revision
@@ -69,13 +69,13 @@ tag-behind-requires : tie.Need-tag-behind-requires
 tag-behind-requires c κs = omega (arith, (integer-took (c .before .before .before .before .rest-at .ensures) (c .before .number .given .1) (c .before .before .before .positive-integer .ensures)) .up, (integer-took (c .before .before .before .before .rest-at .ensures) (c .before .number .given .1) (c .before .before .before .positive-integer .ensures)) .inside, c .before .before .before .before .rest-at .ensures .from, c .before .before .before .before .before .before .before .before .before .before .before .before .before .before .before .pre)
 
 enum-known-semicolon : tie.Need-enum-known-semicolon
-enum-known-semicolon c = search needs
+enum-known-semicolon c = c .match4 .keys1
 
 enum-told-4 : tie.Need-enum-told-4
-enum-told-4 c = search needs
+enum-told-4 c = c .match4 .keys2
 
 step-lost-requires-3 : tie.Need-step-lost-requires-3
-step-lost-requires-3 c κs = search needs
+step-lost-requires-3 c κs = tt
 
 returns-4 : tie.Need-returns-4
 unfolding parse-revision

@@ -28,13 +28,13 @@ named-after-requires : tie.Need-named-after-requires
 named-after-requires c κs = omega (arith, c .before .before .rest-at .ensures .size, c .before .before .before .before .before .pre)
 
 enum-known-named : tie.Need-enum-known-named
-enum-known-named c = search needs
+enum-known-named c = c .match .keys1
 
 enum-told : tie.Need-enum-told
-enum-told c = search needs
+enum-told c = c .match .keys2
 
 named-lost-requires : tie.Need-named-lost-requires
-named-lost-requires c κs = search needs
+named-lost-requires c κs = tt
 
 returns : tie.Need-returns
 unfolding blank-binding

@@ -19,13 +19,13 @@ keyword-requires : tie.Need-keyword-requires
 keyword-requires c κs = search needs
 
 enum-known-key : tie.Need-enum-known-key
-enum-known-key c = search needs
+enum-known-key c = c .match .keys1
 
 enum-told : tie.Need-enum-told
-enum-told c = search needs
+enum-told c = c .match .keys2
 
 step-lost-requires : tie.Need-step-lost-requires
-step-lost-requires c κs = search needs
+step-lost-requires c κs = tt
 
 returns : tie.Need-returns
 unfolding default-attribute-value
@@ -35,13 +35,13 @@ tag-behind-requires : tie.Need-tag-behind-requires
 tag-behind-requires c κs = omega (arith, (keyword-took (rest-self _ _) (c .before .key .given .1) (ascii "default") (c .before .before .before .keyword .ensures)) .up, (keyword-took (rest-self _ _) (c .before .key .given .1) (ascii "default") (c .before .before .before .keyword .ensures)) .inside, c .before .before .before .before .before .before .pre)
 
 enum-known-equals : tie.Need-enum-known-equals
-enum-known-equals c = search needs
+enum-known-equals c = c .match2 .keys1
 
 enum-told-2 : tie.Need-enum-told-2
-enum-told-2 c = search needs
+enum-told-2 c = c .match2 .keys2
 
 step-lost-requires-2 : tie.Need-step-lost-requires-2
-step-lost-requires-2 c κs = search needs
+step-lost-requires-2 c κs = tt
 
 returns-2 : tie.Need-returns-2
 unfolding default-attribute-value

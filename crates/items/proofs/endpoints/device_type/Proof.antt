@@ -22,13 +22,13 @@ name-behind-requires : tie.Need-name-behind-requires
 name-behind-requires c κs = search needs
 
 enum-known-named : tie.Need-enum-known-named
-enum-known-named c = search needs
+enum-known-named c = c .match .keys1
 
 enum-told : tie.Need-enum-told
-enum-told c = search needs
+enum-told c = c .match .keys2
 
 named-lost-requires : tie.Need-named-lost-requires
-named-lost-requires c κs = search needs
+named-lost-requires c κs = tt
 
 returns : tie.Need-returns
 unfolding device-type
@@ -38,13 +38,13 @@ tag-behind-requires : tie.Need-tag-behind-requires
 tag-behind-requires c κs = omega (arith, (named-took (c .before .before .before .name-behind .ensures) (c .before .named .given .1) (name-behind-on (ascii "device") (ascii "type")) (rest-self _ _)) .up, (named-took (c .before .before .before .name-behind .ensures) (c .before .named .given .1) (name-behind-on (ascii "device") (ascii "type")) (rest-self _ _)) .inside, c .before .before .before .before .before .before .before .pre)
 
 enum-known-equals : tie.Need-enum-known-equals
-enum-known-equals c = search needs
+enum-known-equals c = c .match2 .keys1
 
 enum-told-2 : tie.Need-enum-told-2
-enum-told-2 c = search needs
+enum-told-2 c = c .match2 .keys2
 
 step-lost-requires : tie.Need-step-lost-requires
-step-lost-requires c κs = search needs
+step-lost-requires c κs = tt
 
 returns-2 : tie.Need-returns-2
 unfolding device-type
@@ -54,13 +54,13 @@ integer-behind-requires : tie.Need-integer-behind-requires
 integer-behind-requires c κs = omega (arith, (tag-behind-took 61 (c .before .equals .given .1) (c .before .before .before .tag-behind .ensures)) .up, (tag-behind-took 61 (c .before .equals .given .1) (c .before .before .before .tag-behind .ensures)) .inside, c .before .before .before .tag-behind .ensures .at .from, c .before .before .before .before .before .before .before .before .before .before .before .pre)
 
 enum-known-number : tie.Need-enum-known-number
-enum-known-number c = search needs
+enum-known-number c = c .match3 .keys1
 
 enum-told-3 : tie.Need-enum-told-3
-enum-told-3 c = search needs
+enum-told-3 c = c .match3 .keys2
 
 number-lost-requires : tie.Need-number-lost-requires
-number-lost-requires c κs = search needs
+number-lost-requires c κs = tt
 
 returns-3 : tie.Need-returns-3
 unfolding device-type
@@ -73,13 +73,13 @@ device-version-requires : tie.Need-device-version-requires
 device-version-requires c κs = omega (arith, c .rest-at .ensures .size, c .before .before .before .before .before .before .before .before .before .before .before .before .before .before .before .before .pre)
 
 enum-known-last : tie.Need-enum-known-last
-enum-known-last c = search needs
+enum-known-last c = c .match4 .keys1
 
 enum-told-4 : tie.Need-enum-told-4
-enum-told-4 c = search needs
+enum-told-4 c = c .match4 .keys2
 
 number-lost-requires-2 : tie.Need-number-lost-requires-2
-number-lost-requires-2 c κs = search needs
+number-lost-requires-2 c κs = tt
 
 returns-4 : tie.Need-returns-4
 unfolding device-type

@@ -15,13 +15,13 @@ keyword-behind-requires : tie.Need-keyword-behind-requires
 keyword-behind-requires c κs = omega (arith, c .before .before .pre)
 
 enum-known-key : tie.Need-enum-known-key
-enum-known-key c = search needs
+enum-known-key c = c .match .keys1
 
 enum-told : tie.Need-enum-told
-enum-told c = search needs
+enum-told c = c .match .keys2
 
 step-lost-requires : tie.Need-step-lost-requires
-step-lost-requires c κs = search needs
+step-lost-requires c κs = tt
 
 returns : tie.Need-returns
 unfolding endpoint-head
@@ -31,13 +31,13 @@ gap-at-requires : tie.Need-gap-at-requires
 gap-at-requires c κs = omega (arith, (keyword-behind-took (ascii "endpoint") (c .before .key .given .1) (c .before .before .before .keyword-behind .ensures)) .up, (keyword-behind-took (ascii "endpoint") (c .before .key .given .1) (c .before .before .before .keyword-behind .ensures)) .inside, c .before .before .before .before .before .before .pre)
 
 enum-known-gap : tie.Need-enum-known-gap
-enum-known-gap c = search needs
+enum-known-gap c = c .match2 .keys1
 
 enum-told-2 : tie.Need-enum-told-2
-enum-told-2 c = search needs
+enum-told-2 c = c .match2 .keys2
 
 step-lost-requires-2 : tie.Need-step-lost-requires-2
-step-lost-requires-2 c κs = search needs
+step-lost-requires-2 c κs = tt
 
 returns-2 : tie.Need-returns-2
 unfolding endpoint-head
@@ -50,13 +50,13 @@ positive-integer-requires : tie.Need-positive-integer-requires
 positive-integer-requires c κs = omega (arith, c .rest-at .ensures .size, c .before .before .before .before .before .before .before .before .before .before .before .pre)
 
 enum-known-number : tie.Need-enum-known-number
-enum-known-number c = search needs
+enum-known-number c = c .match3 .keys1
 
 enum-told-3 : tie.Need-enum-told-3
-enum-told-3 c = search needs
+enum-told-3 c = c .match3 .keys2
 
 number-lost-requires : tie.Need-number-lost-requires
-number-lost-requires c κs = search needs
+number-lost-requires c κs = tt
 
 returns-3 : tie.Need-returns-3
 unfolding endpoint-head

@@ -14,13 +14,13 @@ keyword-requires : tie.Need-keyword-requires
 keyword-requires c κs = search needs
 
 enum-known-one : tie.Need-enum-known-one
-enum-known-one c = search needs
+enum-known-one c = c .match .keys1
 
 enum-told : tie.Need-enum-told
-enum-told c = search needs
+enum-told c = c .match .keys2
 
 step-lost-requires : tie.Need-step-lost-requires
-step-lost-requires c κs = search needs
+step-lost-requires c κs = tt
 
 returns : tie.Need-returns
 unfolding name-behind
@@ -30,13 +30,13 @@ gap-at-requires : tie.Need-gap-at-requires
 gap-at-requires c κs = omega (arith, (keyword-took (rest-self _ _) (c .before .one .given .1) _ (c .before .before .before .keyword .ensures)) .up, (keyword-took (rest-self _ _) (c .before .one .given .1) _ (c .before .before .before .keyword .ensures)) .inside, c .before .before .before .before .before .before .before .pre)
 
 enum-known-gap1 : tie.Need-enum-known-gap1
-enum-known-gap1 c = search needs
+enum-known-gap1 c = c .match2 .keys1
 
 enum-told-2 : tie.Need-enum-told-2
-enum-told-2 c = search needs
+enum-told-2 c = c .match2 .keys2
 
 step-lost-requires-2 : tie.Need-step-lost-requires-2
-step-lost-requires-2 c κs = search needs
+step-lost-requires-2 c κs = tt
 
 returns-2 : tie.Need-returns-2
 unfolding name-behind
@@ -49,13 +49,13 @@ keyword-requires-2 : tie.Need-keyword-requires-2
 keyword-requires-2 c κs = omega (arith, c .rest-at .ensures .size, c .before .before .before .before .before .before .before .before .before .before .before .before .pre)
 
 enum-known-two : tie.Need-enum-known-two
-enum-known-two c = search needs
+enum-known-two c = c .match3 .keys1
 
 enum-told-3 : tie.Need-enum-told-3
-enum-told-3 c = search needs
+enum-told-3 c = c .match3 .keys2
 
 step-lost-requires-3 : tie.Need-step-lost-requires-3
-step-lost-requires-3 c κs = search needs
+step-lost-requires-3 c κs = tt
 
 returns-3 : tie.Need-returns-3
 unfolding name-behind
@@ -65,13 +65,13 @@ gap-at-requires-2 : tie.Need-gap-at-requires-2
 gap-at-requires-2 c κs = omega (arith, (keyword-took (c .before .before .before .before .rest-at .ensures) (c .before .two .given .1) _ (c .before .before .before .keyword2 .ensures)) .up, (keyword-took (c .before .before .before .before .rest-at .ensures) (c .before .two .given .1) _ (c .before .before .before .keyword2 .ensures)) .inside, c .before .before .before .before .rest-at .ensures .from, c .before .before .before .before .before .before .before .before .before .before .before .before .before .before .before .before .pre)
 
 enum-known-gap2 : tie.Need-enum-known-gap2
-enum-known-gap2 c = search needs
+enum-known-gap2 c = c .match4 .keys1
 
 enum-told-4 : tie.Need-enum-told-4
-enum-told-4 c = search needs
+enum-told-4 c = c .match4 .keys2
 
 step-lost-requires-4 : tie.Need-step-lost-requires-4
-step-lost-requires-4 c κs = search needs
+step-lost-requires-4 c κs = tt
 
 returns-4 : tie.Need-returns-4
 unfolding name-behind
@@ -84,13 +84,13 @@ parse-id-requires : tie.Need-parse-id-requires
 parse-id-requires c κs = omega (arith, c .rest-at2 .ensures .size, c .before .before .before .before .before .before .before .before .before .before .before .before .before .before .before .before .before .before .before .before .before .pre)
 
 enum-known-name : tie.Need-enum-known-name
-enum-known-name c = search needs
+enum-known-name c = c .match5 .keys1
 
 enum-told-5 : tie.Need-enum-told-5
-enum-told-5 c = search needs
+enum-told-5 c = c .match5 .keys2
 
 step-lost-requires-5 : tie.Need-step-lost-requires-5
-step-lost-requires-5 c κs = search needs
+step-lost-requires-5 c κs = tt
 
 returns-5 : tie.Need-returns-5
 unfolding name-behind

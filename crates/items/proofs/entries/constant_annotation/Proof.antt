@@ -19,13 +19,13 @@ parse-id-requires : tie.Need-parse-id-requires
 parse-id-requires c κs = search needs
 
 enum-known-key : tie.Need-enum-known-key
-enum-known-key c = search needs
+enum-known-key c = c .match .keys1
 
 enum-told : tie.Need-enum-told
-enum-told c = search needs
+enum-told c = c .match .keys2
 
 step-lost-requires : tie.Need-step-lost-requires
-step-lost-requires c κs = search needs
+step-lost-requires c κs = tt
 
 returns : tie.Need-returns
 unfolding constant-annotation
@@ -44,13 +44,13 @@ tag-requires : tie.Need-tag-requires
 tag-requires c κs = omega (arith, c .rest-at3 .ensures .size, c .before .before .before .before .before .before .before .before .before .before .pre)
 
 enum-known-equals : tie.Need-enum-known-equals
-enum-known-equals c = search needs
+enum-known-equals c = c .match2 .keys1
 
 enum-told-2 : tie.Need-enum-told-2
-enum-told-2 c = search needs
+enum-told-2 c = c .match2 .keys2
 
 step-lost-requires-2 : tie.Need-step-lost-requires-2
-step-lost-requires-2 c κs = search needs
+step-lost-requires-2 c κs = tt
 
 returns-2 : tie.Need-returns-2
 unfolding constant-annotation
@@ -69,13 +69,13 @@ quoted-string-requires : tie.Need-quoted-string-requires
 quoted-string-requires c κs = omega (arith, c .rest-at5 .ensures .size, c .before .before .before .before .before .before .before .before .before .before .before .before .before .before .before .before .before .pre)
 
 enum-known-value : tie.Need-enum-known-value
-enum-known-value c = search needs
+enum-known-value c = c .match3 .keys1
 
 enum-told-3 : tie.Need-enum-told-3
-enum-told-3 c = search needs
+enum-told-3 c = c .match3 .keys2
 
 step-lost-requires-3 : tie.Need-step-lost-requires-3
-step-lost-requires-3 c κs = search needs
+step-lost-requires-3 c κs = tt
 
 returns-3 : tie.Need-returns-3
 unfolding constant-annotation
@@ -95,13 +95,13 @@ optional-comma-requires : tie.Need-optional-comma-requires
 optional-comma-requires c κs = omega (arith, c .rest-at7 .ensures .size, c .before .before .before .before .before .before .before .before .before .before .before .before .before .before .before .before .before .before .before .before .before .before .before .before .pre)
 
 enum-known-comma : tie.Need-enum-known-comma
-enum-known-comma c = search needs
+enum-known-comma c = c .match4 .keys1
 
 enum-told-4 : tie.Need-enum-told-4
-enum-told-4 c = search needs
+enum-told-4 c = c .match4 .keys2
 
 step-lost-requires-4 : tie.Need-step-lost-requires-4
-step-lost-requires-4 c κs = search needs
+step-lost-requires-4 c κs = tt
 
 returns-4 : tie.Need-returns-4
 unfolding constant-annotation quoted-string

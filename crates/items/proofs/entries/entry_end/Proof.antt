@@ -17,13 +17,13 @@ constant-annotations-list-requires : tie.Need-constant-annotations-list-requires
 constant-annotations-list-requires c κs = search needs
 
 enum-known-notes : tie.Need-enum-known-notes
-enum-known-notes c = search needs
+enum-known-notes c = c .match .keys1
 
 enum-told : tie.Need-enum-told
-enum-told c = search needs
+enum-told c = c .match .keys2
 
 step-lost-requires : tie.Need-step-lost-requires
-step-lost-requires c κs = search needs
+step-lost-requires c κs = tt
 
 returns : tie.Need-returns
 unfolding entry-end
@@ -42,13 +42,13 @@ tag-requires : tie.Need-tag-requires
 tag-requires c κs = search needs
 
 enum-known-semicolon : tie.Need-enum-known-semicolon
-enum-known-semicolon c = search needs
+enum-known-semicolon c = c .match2 .keys1
 
 enum-told-2 : tie.Need-enum-told-2
-enum-told-2 c = search needs
+enum-told-2 c = c .match2 .keys2
 
 step-lost-requires-2 : tie.Need-step-lost-requires-2
-step-lost-requires-2 c κs = search needs
+step-lost-requires-2 c κs = tt
 
 returns-2 : tie.Need-returns-2
 unfolding entry-end

@@ -26,13 +26,13 @@ keyword-behind-requires : tie.Need-keyword-behind-requires
 keyword-behind-requires c κs = omega (arith, (set-took (rest-self _ _) (c .before .keywords-set .ensures)) .up, (set-took (rest-self _ _) (c .before .keywords-set .ensures)) .inside, c .before .before .before .pre)
 
 enum-known-command : tie.Need-enum-known-command
-enum-known-command c = search needs
+enum-known-command c = c .match .keys1
 
 enum-told : tie.Need-enum-told
-enum-told c = search needs
+enum-told c = c .match .keys2
 
 step-lost-requires : tie.Need-step-lost-requires
-step-lost-requires c κs = search needs
+step-lost-requires c κs = tt
 
 returns : tie.Need-returns
 unfolding command-head
@@ -45,16 +45,16 @@ invoke-access-requires : tie.Need-invoke-access-requires
 invoke-access-requires c κs = omega (arith, c .rest-at .ensures .size, c .before .before .before .before .before .before .before .before .pre)
 
 level-or-requires : tie.Need-level-or-requires
-level-or-requires c κs = search needs
+level-or-requires c κs = tt
 
 enum-known-access : tie.Need-enum-known-access
-enum-known-access c = search needs
+enum-known-access c = c .match2 .keys1
 
 enum-told-2 : tie.Need-enum-told-2
-enum-told-2 c = search needs
+enum-told-2 c = c .match2 .keys2
 
 level-lost-requires : tie.Need-level-lost-requires
-level-lost-requires c κs = search needs
+level-lost-requires c κs = tt
 
 returns-2 : tie.Need-returns-2
 unfolding command-head
@@ -70,13 +70,13 @@ parse-id-requires : tie.Need-parse-id-requires
 parse-id-requires c κs = omega (arith, c .rest-at2 .ensures .size, c .before .before .before .before .before .before .before .before .before .before .before .before .before .before .before .pre)
 
 enum-known-id : tie.Need-enum-known-id
-enum-known-id c = search needs
+enum-known-id c = c .match3 .keys1
 
 enum-told-3 : tie.Need-enum-told-3
-enum-told-3 c = search needs
+enum-told-3 c = c .match3 .keys2
 
 step-lost-requires-2 : tie.Need-step-lost-requires-2
-step-lost-requires-2 c κs = search needs
+step-lost-requires-2 c κs = tt
 
 returns-3 : tie.Need-returns-3
 unfolding command-head

@@ -1,4 +1,3 @@
-use borrow.Author.Needs.{needs}
 use Rattle.items.proofs.members.command_types.Statement.{statement}
 use Rattle.items.proofs.members.command_types.Tie as tie
 use Rattle.items.specs.members.{command-types}
@@ -15,13 +14,13 @@ tag-behind-requires : tie.Need-tag-behind-requires
 tag-behind-requires c κs = omega (arith, c .before .pre)
 
 enum-known-opening : tie.Need-enum-known-opening
-enum-known-opening c = search needs
+enum-known-opening c = c .match .keys1
 
 enum-told : tie.Need-enum-told
-enum-told c = search needs
+enum-told c = c .match .keys2
 
 step-lost-requires : tie.Need-step-lost-requires
-step-lost-requires c κs = search needs
+step-lost-requires c κs = tt
 
 returns : tie.Need-returns
 unfolding command-types
@@ -37,16 +36,16 @@ parse-id-requires : tie.Need-parse-id-requires
 parse-id-requires c κs = omega (arith, c .rest-at .ensures .size, c .before .before .before .before .before .before .before .pre)
 
 optional-requires : tie.Need-optional-requires
-optional-requires c κs = search needs
+optional-requires c κs = tt
 
 enum-known-from : tie.Need-enum-known-from
-enum-known-from c = search needs
+enum-known-from c = c .match2 .keys1
 
 enum-told-2 : tie.Need-enum-told-2
-enum-told-2 c = search needs
+enum-told-2 c = c .match2 .keys2
 
 step-lost-requires-2 : tie.Need-step-lost-requires-2
-step-lost-requires-2 c κs = search needs
+step-lost-requires-2 c κs = tt
 
 returns-2 : tie.Need-returns-2
 unfolding command-types
@@ -56,13 +55,13 @@ tag-behind-requires-2 : tie.Need-tag-behind-requires-2
 tag-behind-requires-2 c κs = omega (arith, (optional-word-took (c .before .before .before .before .parse-id .result) _ _ (c .before .before .before .before .parse-id .ensures) (c .before .before .before .optional .ensures) (c .before .before .before .before .before .rest-at .ensures) (c .before .from .given .1)) .up, (optional-word-took (c .before .before .before .before .parse-id .result) _ _ (c .before .before .before .before .parse-id .ensures) (c .before .before .before .optional .ensures) (c .before .before .before .before .before .rest-at .ensures) (c .before .from .given .1)) .inside, c .before .before .before .before .before .rest-at .ensures .from, c .before .before .before .before .before .before .before .before .before .before .before .before .pre)
 
 enum-known-closing : tie.Need-enum-known-closing
-enum-known-closing c = search needs
+enum-known-closing c = c .match3 .keys1
 
 enum-told-3 : tie.Need-enum-told-3
-enum-told-3 c = search needs
+enum-told-3 c = c .match3 .keys2
 
 step-lost-requires-3 : tie.Need-step-lost-requires-3
-step-lost-requires-3 c κs = search needs
+step-lost-requires-3 c κs = tt
 
 returns-3 : tie.Need-returns-3
 unfolding command-types
@@ -72,13 +71,13 @@ tag-behind-requires-3 : tie.Need-tag-behind-requires-3
 tag-behind-requires-3 c κs = omega (arith, (tag-behind-took 41 (c .before .closing .given .1) (c .before .before .before .tag-behind2 .ensures)) .up, (tag-behind-took 41 (c .before .closing .given .1) (c .before .before .before .tag-behind2 .ensures)) .inside, c .before .before .before .tag-behind2 .ensures .at .from, c .before .before .before .before .before .before .before .before .before .before .before .before .before .before .before .before .pre)
 
 enum-known-colon : tie.Need-enum-known-colon
-enum-known-colon c = search needs
+enum-known-colon c = c .match4 .keys1
 
 enum-told-4 : tie.Need-enum-told-4
-enum-told-4 c = search needs
+enum-told-4 c = c .match4 .keys2
 
 step-lost-requires-4 : tie.Need-step-lost-requires-4
-step-lost-requires-4 c κs = search needs
+step-lost-requires-4 c κs = tt
 
 returns-4 : tie.Need-returns-4
 unfolding command-types
@@ -94,13 +93,13 @@ parse-id-requires-2 : tie.Need-parse-id-requires-2
 parse-id-requires-2 c κs = omega (arith, c .rest-at2 .ensures .size, c .before .before .before .before .before .before .before .before .before .before .before .before .before .before .before .before .before .before .before .before .before .before .pre)
 
 enum-known-to : tie.Need-enum-known-to
-enum-known-to c = search needs
+enum-known-to c = c .match5 .keys1
 
 enum-told-5 : tie.Need-enum-told-5
-enum-told-5 c = search needs
+enum-told-5 c = c .match5 .keys2
 
 step-lost-requires-5 : tie.Need-step-lost-requires-5
-step-lost-requires-5 c κs = search needs
+step-lost-requires-5 c κs = tt
 
 returns-5 : tie.Need-returns-5
 unfolding command-types

@@ -18,13 +18,13 @@ event-qualities-requires : tie.Need-event-qualities-requires
 event-qualities-requires c κs = search needs
 
 enum-known-qualities : tie.Need-enum-known-qualities
-enum-known-qualities c = search needs
+enum-known-qualities c = c .match .keys1
 
 enum-told : tie.Need-enum-told
-enum-told c = search needs
+enum-told c = c .match .keys2
 
 event-qualities-lost-requires : tie.Need-event-qualities-lost-requires
-event-qualities-lost-requires c κs = search needs
+event-qualities-lost-requires c κs = tt
 
 returns : tie.Need-returns
 unfolding event-head
@@ -40,13 +40,13 @@ parse-id-requires : tie.Need-parse-id-requires
 parse-id-requires c κs = omega (arith, c .rest-at .ensures .size, c .before .before .before .before .before .before .before .pre)
 
 enum-known-id : tie.Need-enum-known-id
-enum-known-id c = search needs
+enum-known-id c = c .match2 .keys1
 
 enum-told-2 : tie.Need-enum-told-2
-enum-told-2 c = search needs
+enum-told-2 c = c .match2 .keys2
 
 step-lost-requires : tie.Need-step-lost-requires
-step-lost-requires c κs = search needs
+step-lost-requires c κs = tt
 
 returns-2 : tie.Need-returns-2
 unfolding event-head
@@ -56,13 +56,13 @@ tag-behind-requires : tie.Need-tag-behind-requires
 tag-behind-requires c κs = omega (arith, (word-took (c .before .before .before .before .rest-at .ensures) (c .before .id .given .1) (c .before .before .before .parse-id .ensures)) .up, (word-took (c .before .before .before .before .rest-at .ensures) (c .before .id .given .1) (c .before .before .before .parse-id .ensures)) .inside, c .before .before .before .before .rest-at .ensures .from, c .before .before .before .before .before .before .before .before .before .before .before .pre)
 
 enum-known-equals : tie.Need-enum-known-equals
-enum-known-equals c = search needs
+enum-known-equals c = c .match3 .keys1
 
 enum-told-3 : tie.Need-enum-told-3
-enum-told-3 c = search needs
+enum-told-3 c = c .match3 .keys2
 
 step-lost-requires-2 : tie.Need-step-lost-requires-2
-step-lost-requires-2 c κs = search needs
+step-lost-requires-2 c κs = tt
 
 returns-3 : tie.Need-returns-3
 unfolding event-head
@@ -72,13 +72,13 @@ integer-behind-requires : tie.Need-integer-behind-requires
 integer-behind-requires c κs = omega (arith, (tag-behind-took 61 (c .before .equals .given .1) (c .before .before .before .tag-behind .ensures)) .up, (tag-behind-took 61 (c .before .equals .given .1) (c .before .before .before .tag-behind .ensures)) .inside, c .before .before .before .tag-behind .ensures .at .from, c .before .before .before .before .before .before .before .before .before .before .before .before .before .before .before .pre)
 
 enum-known-number : tie.Need-enum-known-number
-enum-known-number c = search needs
+enum-known-number c = c .match4 .keys1
 
 enum-told-4 : tie.Need-enum-told-4
-enum-told-4 c = search needs
+enum-told-4 c = c .match4 .keys2
 
 number-lost-requires : tie.Need-number-lost-requires
-number-lost-requires c κs = search needs
+number-lost-requires c κs = tt
 
 returns-4 : tie.Need-returns-4
 unfolding event-head

@@ -27,13 +27,13 @@ event-priority-requires : tie.Need-event-priority-requires
 event-priority-requires c κs = omega (arith, c .rest-at .ensures .size, c .before .before .before .before .pre)
 
 enum-known-priority : tie.Need-enum-known-priority
-enum-known-priority c = search needs
+enum-known-priority c = c .match .keys1
 
 enum-told : tie.Need-enum-told
-enum-told c = search needs
+enum-told c = c .match .keys2
 
 level-lost-requires : tie.Need-level-lost-requires
-level-lost-requires c κs = search needs
+level-lost-requires c κs = tt
 
 returns : tie.Need-returns
 unfolding event-qualities
@@ -43,13 +43,13 @@ gap-at-requires : tie.Need-gap-at-requires
 gap-at-requires c κs = omega (arith, (level-took (c .before .before .before .event-priority .ensures) (walks (event-priority-local .on-chain)) (c .before .before .before .before .rest-at .ensures) (c .before .priority .given .1)) .up, (level-took (c .before .before .before .event-priority .ensures) (walks (event-priority-local .on-chain)) (c .before .before .before .before .rest-at .ensures) (c .before .priority .given .1)) .inside, c .before .before .before .before .rest-at .ensures .from, c .before .before .before .before .before .before .before .before .pre)
 
 enum-known-gap1 : tie.Need-enum-known-gap1
-enum-known-gap1 c = search needs
+enum-known-gap1 c = c .match2 .keys1
 
 enum-told-2 : tie.Need-enum-told-2
-enum-told-2 c = search needs
+enum-told-2 c = c .match2 .keys2
 
 step-lost-requires : tie.Need-step-lost-requires
-step-lost-requires c κs = search needs
+step-lost-requires c κs = tt
 
 returns-2 : tie.Need-returns-2
 unfolding event-qualities
@@ -65,13 +65,13 @@ keyword-requires : tie.Need-keyword-requires
 keyword-requires c κs = omega (arith, c .before .rest-at2 .ensures .size, c .before .before .before .before .before .before .before .before .before .before .before .before .before .before .pre)
 
 enum-known-event : tie.Need-enum-known-event
-enum-known-event c = search needs
+enum-known-event c = c .match3 .keys1
 
 enum-told-3 : tie.Need-enum-told-3
-enum-told-3 c = search needs
+enum-told-3 c = c .match3 .keys2
 
 step-lost-requires-2 : tie.Need-step-lost-requires-2
-step-lost-requires-2 c κs = search needs
+step-lost-requires-2 c κs = tt
 
 returns-3 : tie.Need-returns-3
 unfolding event-qualities
@@ -81,13 +81,13 @@ gap-at-requires-2 : tie.Need-gap-at-requires-2
 gap-at-requires-2 c κs = omega (arith, (keyword-took (c .before .before .before .before .before .rest-at2 .ensures) (c .before .event .given .1) (ascii "event") (c .before .before .before .keyword .ensures)) .up, (keyword-took (c .before .before .before .before .before .rest-at2 .ensures) (c .before .event .given .1) (ascii "event") (c .before .before .before .keyword .ensures)) .inside, c .before .before .before .before .before .rest-at2 .ensures .from, c .before .before .before .before .before .before .before .before .before .before .before .before .before .before .before .before .before .before .pre)
 
 enum-known-gap2 : tie.Need-enum-known-gap2
-enum-known-gap2 c = search needs
+enum-known-gap2 c = c .match4 .keys1
 
 enum-told-4 : tie.Need-enum-told-4
-enum-told-4 c = search needs
+enum-told-4 c = c .match4 .keys2
 
 step-lost-requires-3 : tie.Need-step-lost-requires-3
-step-lost-requires-3 c κs = search needs
+step-lost-requires-3 c κs = tt
 
 returns-4 : tie.Need-returns-4
 unfolding event-qualities
@@ -103,16 +103,16 @@ access-to-requires : tie.Need-access-to-requires
 access-to-requires c κs = omega (arith, c .before .rest-at3 .ensures .size, c .before .before .before .before .before .before .before .before .before .before .before .before .before .before .before .before .before .before .before .before .before .before .before .before .pre)
 
 level-or-requires : tie.Need-level-or-requires
-level-or-requires c κs = search needs
+level-or-requires c κs = tt
 
 enum-known-access : tie.Need-enum-known-access
-enum-known-access c = search needs
+enum-known-access c = c .match5 .keys1
 
 enum-told-5 : tie.Need-enum-told-5
-enum-told-5 c = search needs
+enum-told-5 c = c .match5 .keys2
 
 level-lost-requires-2 : tie.Need-level-lost-requires-2
-level-lost-requires-2 c κs = search needs
+level-lost-requires-2 c κs = tt
 
 returns-5 : tie.Need-returns-5
 unfolding event-qualities

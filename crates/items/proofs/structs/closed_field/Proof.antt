@@ -1,4 +1,3 @@
-use borrow.Author.Needs.{needs}
 use Rattle.items.proofs.structs.closed_field.Statement.{statement}
 use Rattle.items.proofs.structs.closed_field.Tie as tie
 use Rattle.items.specs.structs.{closed-field}
@@ -20,13 +19,13 @@ parse-struct-field-requires : tie.Need-parse-struct-field-requires
 parse-struct-field-requires c κs = omega (arith, c .rest-at .ensures .size, c .before .before .before .pre)
 
 enum-known-r : tie.Need-enum-known-r
-enum-known-r c = search needs
+enum-known-r c = c .match .keys1
 
 enum-told : tie.Need-enum-told
-enum-told c = search needs
+enum-told c = c .match .keys2
 
 struct-field-lost-requires : tie.Need-struct-field-lost-requires
-struct-field-lost-requires c κs = search needs
+struct-field-lost-requires c κs = tt
 
 returns : tie.Need-returns
 unfolding closed-field
@@ -36,13 +35,13 @@ tag-behind-requires : tie.Need-tag-behind-requires
 tag-behind-requires c κs = omega (arith, (struct-field-took parse-struct-field-on (c .before .before .before .before .rest-at .ensures) (c .before .before .before .parse-struct-field .ensures) (c .before .r .given .1)) .up, (struct-field-took parse-struct-field-on (c .before .before .before .before .rest-at .ensures) (c .before .before .before .parse-struct-field .ensures) (c .before .r .given .1)) .inside, c .before .before .before .before .rest-at .ensures .from, c .before .before .before .before .before .before .before .pre)
 
 enum-known-semicolon : tie.Need-enum-known-semicolon
-enum-known-semicolon c = search needs
+enum-known-semicolon c = c .match2 .keys1
 
 enum-told-2 : tie.Need-enum-told-2
-enum-told-2 c = search needs
+enum-told-2 c = c .match2 .keys2
 
 step-lost-requires : tie.Need-step-lost-requires
-step-lost-requires c κs = search needs
+step-lost-requires c κs = tt
 
 returns-2 : tie.Need-returns-2
 unfolding closed-field

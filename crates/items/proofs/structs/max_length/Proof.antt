@@ -1,4 +1,3 @@
-use borrow.Author.Needs.{needs}
 use Rattle.items.proofs.structs.max_length.Statement.{statement}
 use Rattle.items.proofs.structs.max_length.Tie as tie
 use Rattle.items.specs.structs.{max-length}
@@ -11,13 +10,13 @@ tag-behind-requires : tie.Need-tag-behind-requires
 tag-behind-requires c κs = omega (arith, c .before .pre)
 
 enum-known-less : tie.Need-enum-known-less
-enum-known-less c = search needs
+enum-known-less c = c .match .keys1
 
 enum-told : tie.Need-enum-told
-enum-told c = search needs
+enum-told c = c .match .keys2
 
 step-lost-requires : tie.Need-step-lost-requires
-step-lost-requires c κs = search needs
+step-lost-requires c κs = tt
 
 returns : tie.Need-returns
 unfolding max-length
@@ -27,13 +26,13 @@ integer-behind-requires : tie.Need-integer-behind-requires
 integer-behind-requires c κs = omega (arith, (tag-behind-took 60 (c .before .less .given .1) (c .before .before .before .tag-behind .ensures)) .up, (tag-behind-took 60 (c .before .less .given .1) (c .before .before .before .tag-behind .ensures)) .inside, c .before .before .before .before .before .pre)
 
 enum-known-number : tie.Need-enum-known-number
-enum-known-number c = search needs
+enum-known-number c = c .match2 .keys1
 
 enum-told-2 : tie.Need-enum-told-2
-enum-told-2 c = search needs
+enum-told-2 c = c .match2 .keys2
 
 number-lost-requires : tie.Need-number-lost-requires
-number-lost-requires c κs = search needs
+number-lost-requires c κs = tt
 
 returns-2 : tie.Need-returns-2
 unfolding max-length
@@ -43,13 +42,13 @@ tag-behind-requires-2 : tie.Need-tag-behind-requires-2
 tag-behind-requires-2 c κs = omega (arith, (integer-behind-took (c .before .before .before .integer-behind .ensures) (c .before .number .given .1)) .up, (integer-behind-took (c .before .before .before .integer-behind .ensures) (c .before .number .given .1)) .inside, c .before .before .before .integer-behind .ensures .at .from, c .before .before .before .before .before .before .before .before .before .pre)
 
 enum-known-greater : tie.Need-enum-known-greater
-enum-known-greater c = search needs
+enum-known-greater c = c .match3 .keys1
 
 enum-told-3 : tie.Need-enum-told-3
-enum-told-3 c = search needs
+enum-told-3 c = c .match3 .keys2
 
 step-lost-requires-2 : tie.Need-step-lost-requires-2
-step-lost-requires-2 c κs = search needs
+step-lost-requires-2 c κs = tt
 
 returns-3 : tie.Need-returns-3
 unfolding max-length

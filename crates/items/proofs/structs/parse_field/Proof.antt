@@ -1,4 +1,3 @@
-use borrow.Author.Needs.{needs}
 use Rattle.items.proofs.structs.parse_field.Statement.{statement}
 use Rattle.items.proofs.structs.parse_field.Tie as tie
 use Rattle.items.specs.structs.{parse-field}
@@ -21,13 +20,13 @@ parse-id-requires : tie.Need-parse-id-requires
 parse-id-requires c κs = omega (arith, c .rest-at .ensures .size, c .before .before .before .pre)
 
 enum-known-data-type : tie.Need-enum-known-data-type
-enum-known-data-type c = search needs
+enum-known-data-type c = c .match .keys1
 
 enum-told : tie.Need-enum-told
-enum-told c = search needs
+enum-told c = c .match .keys2
 
 step-lost-requires : tie.Need-step-lost-requires
-step-lost-requires c κs = search needs
+step-lost-requires c κs = tt
 
 returns : tie.Need-returns
 unfolding parse-field
@@ -40,16 +39,16 @@ max-length-requires : tie.Need-max-length-requires
 max-length-requires c κs = omega (arith, c .rest-at2 .ensures .size, c .before .before .before .before .before .before .before .before .pre)
 
 optional-length-requires : tie.Need-optional-length-requires
-optional-length-requires c κs = search needs
+optional-length-requires c κs = tt
 
 enum-known-length : tie.Need-enum-known-length
-enum-known-length c = search needs
+enum-known-length c = c .match2 .keys1
 
 enum-told-2 : tie.Need-enum-told-2
-enum-told-2 c = search needs
+enum-told-2 c = c .match2 .keys2
 
 length-lost-requires : tie.Need-length-lost-requires
-length-lost-requires c κs = search needs
+length-lost-requires c κs = tt
 
 returns-2 : tie.Need-returns-2
 unfolding parse-field
@@ -59,13 +58,13 @@ gap-at-requires : tie.Need-gap-at-requires
 gap-at-requires c κs = omega (arith, (length-took _ _ (c .before .before .before .before .max-length .result) (c .before .before .before .before .max-length .ensures) (c .before .before .before .optional-length .ensures) (c .before .before .before .before .before .rest-at2 .ensures) (c .before .length .given .1)) .up, (length-took _ _ (c .before .before .before .before .max-length .result) (c .before .before .before .before .max-length .ensures) (c .before .before .before .optional-length .ensures) (c .before .before .before .before .before .rest-at2 .ensures) (c .before .length .given .1)) .inside, c .before .before .before .before .before .rest-at2 .ensures .from, c .before .before .before .before .before .before .before .before .before .before .before .before .before .pre)
 
 enum-known-gap : tie.Need-enum-known-gap
-enum-known-gap c = search needs
+enum-known-gap c = c .match3 .keys1
 
 enum-told-3 : tie.Need-enum-told-3
-enum-told-3 c = search needs
+enum-told-3 c = c .match3 .keys2
 
 step-lost-requires-2 : tie.Need-step-lost-requires-2
-step-lost-requires-2 c κs = search needs
+step-lost-requires-2 c κs = tt
 
 returns-3 : tie.Need-returns-3
 unfolding parse-field
@@ -78,13 +77,13 @@ parse-id-requires-2 : tie.Need-parse-id-requires-2
 parse-id-requires-2 c κs = omega (arith, c .rest-at3 .ensures .size, c .before .before .before .before .before .before .before .before .before .before .before .before .before .before .before .before .before .before .pre)
 
 enum-known-name : tie.Need-enum-known-name
-enum-known-name c = search needs
+enum-known-name c = c .match4 .keys1
 
 enum-told-4 : tie.Need-enum-told-4
-enum-told-4 c = search needs
+enum-told-4 c = c .match4 .keys2
 
 step-lost-requires-3 : tie.Need-step-lost-requires-3
-step-lost-requires-3 c κs = search needs
+step-lost-requires-3 c κs = tt
 
 returns-4 : tie.Need-returns-4
 unfolding parse-field
@@ -106,13 +105,13 @@ tag-requires : tie.Need-tag-requires
 tag-requires c κs = omega (arith, c .rest-at5 .ensures .size, c .before .before .before .before .before .before .before .before .before .before .before .before .before .before .before .before .before .before .before .before .before .before .before .before .before .before .pre)
 
 enum-known-equals : tie.Need-enum-known-equals
-enum-known-equals c = search needs
+enum-known-equals c = c .match5 .keys1
 
 enum-told-5 : tie.Need-enum-told-5
-enum-told-5 c = search needs
+enum-told-5 c = c .match5 .keys2
 
 step-lost-requires-4 : tie.Need-step-lost-requires-4
-step-lost-requires-4 c κs = search needs
+step-lost-requires-4 c κs = tt
 
 returns-5 : tie.Need-returns-5
 unfolding parse-field
@@ -122,13 +121,13 @@ integer-behind-requires : tie.Need-integer-behind-requires
 integer-behind-requires c κs = omega (arith, (tag-took (c .before .before .before .before .rest-at5 .ensures) (c .before .equals .given .1) 61 (c .before .before .before .tag .ensures)) .up, (tag-took (c .before .before .before .before .rest-at5 .ensures) (c .before .equals .given .1) 61 (c .before .before .before .tag .ensures)) .inside, c .before .before .before .before .rest-at5 .ensures .from, c .before .before .before .before .before .before .before .before .before .before .before .before .before .before .before .before .before .before .before .before .before .before .before .before .before .before .before .before .before .before .pre)
 
 enum-known-number : tie.Need-enum-known-number
-enum-known-number c = search needs
+enum-known-number c = c .match6 .keys1
 
 enum-told-6 : tie.Need-enum-told-6
-enum-told-6 c = search needs
+enum-told-6 c = c .match6 .keys2
 
 number-lost-requires : tie.Need-number-lost-requires
-number-lost-requires c κs = search needs
+number-lost-requires c κs = tt
 
 returns-6 : tie.Need-returns-6
 unfolding parse-field

@@ -1,4 +1,3 @@
-use borrow.Author.Needs.{needs}
 use Rattle.items.proofs.structs.parse_struct_field.Statement.{statement}
 use Rattle.items.proofs.structs.parse_struct_field.Tie as tie
 use Rattle.items.specs.structs.{parse-struct-field}
@@ -36,13 +35,13 @@ parse-field-requires : tie.Need-parse-field-requires
 parse-field-requires c κs = omega (arith, c .rest-at3 .ensures .size, c .before .before .before .before .before .before .before .before .pre)
 
 enum-known-r : tie.Need-enum-known-r
-enum-known-r c = search needs
+enum-known-r c = c .match .keys1
 
 enum-told : tie.Need-enum-told
-enum-told c = search needs
+enum-told c = c .match .keys2
 
 field-lost-requires : tie.Need-field-lost-requires
-field-lost-requires c κs = search needs
+field-lost-requires c κs = tt
 
 returns : tie.Need-returns
 unfolding parse-struct-field

@@ -11,13 +11,13 @@ tag-requires : tie.Need-tag-requires
 tag-requires c κs = search needs
 
 enum-known-equals : tie.Need-enum-known-equals
-enum-known-equals c = search needs
+enum-known-equals c = c .match .keys1
 
 enum-told : tie.Need-enum-told
-enum-told c = search needs
+enum-told c = c .match .keys2
 
 step-lost-requires : tie.Need-step-lost-requires
-step-lost-requires c κs = search needs
+step-lost-requires c κs = tt
 
 returns : tie.Need-returns
 unfolding response-code
@@ -27,13 +27,13 @@ integer-behind-requires : tie.Need-integer-behind-requires
 integer-behind-requires c κs = omega (arith, (tag-took (rest-self _ _) (c .before .equals .given .1) 61 (c .before .before .before .tag .ensures)) .up, (tag-took (rest-self _ _) (c .before .equals .given .1) 61 (c .before .before .before .tag .ensures)) .inside, c .before .before .before .before .before .pre)
 
 enum-known-number : tie.Need-enum-known-number
-enum-known-number c = search needs
+enum-known-number c = c .match2 .keys1
 
 enum-told-2 : tie.Need-enum-told-2
-enum-told-2 c = search needs
+enum-told-2 c = c .match2 .keys2
 
 number-lost-requires : tie.Need-number-lost-requires
-number-lost-requires c κs = search needs
+number-lost-requires c κs = tt
 
 returns-2 : tie.Need-returns-2
 unfolding response-code

@@ -32,13 +32,13 @@ keyword-behind-requires : tie.Need-keyword-behind-requires
 keyword-behind-requires c κs = omega (arith, (set-took (c .before .before .rest-at .ensures) (c .before .keywords-set .ensures)) .up, (set-took (c .before .before .rest-at .ensures) (c .before .keywords-set .ensures)) .inside, c .before .before .rest-at .ensures .from, c .before .before .before .before .before .before .pre)
 
 enum-known-key : tie.Need-enum-known-key
-enum-known-key c = search needs
+enum-known-key c = c .match .keys1
 
 enum-told : tie.Need-enum-told
-enum-told c = search needs
+enum-told c = c .match .keys2
 
 step-lost-requires : tie.Need-step-lost-requires
-step-lost-requires c κs = search needs
+step-lost-requires c κs = tt
 
 returns : tie.Need-returns
 unfolding struct-head
@@ -48,13 +48,13 @@ gap-at-requires : tie.Need-gap-at-requires
 gap-at-requires c κs = omega (arith, (keyword-behind-took (ascii "struct") (c .before .key .given .1) (c .before .before .before .keyword-behind .ensures)) .up, (keyword-behind-took (ascii "struct") (c .before .key .given .1) (c .before .before .before .keyword-behind .ensures)) .inside, c .before .before .before .keyword-behind .ensures .at .from, c .before .before .before .before .before .before .before .before .before .before .pre)
 
 enum-known-gap : tie.Need-enum-known-gap
-enum-known-gap c = search needs
+enum-known-gap c = c .match2 .keys1
 
 enum-told-2 : tie.Need-enum-told-2
-enum-told-2 c = search needs
+enum-told-2 c = c .match2 .keys2
 
 step-lost-requires-2 : tie.Need-step-lost-requires-2
-step-lost-requires-2 c κs = search needs
+step-lost-requires-2 c κs = tt
 
 returns-2 : tie.Need-returns-2
 unfolding struct-head
@@ -67,13 +67,13 @@ parse-id-requires : tie.Need-parse-id-requires
 parse-id-requires c κs = omega (arith, c .rest-at2 .ensures .size, c .before .before .before .before .before .before .before .before .before .before .before .before .before .before .before .pre)
 
 enum-known-name : tie.Need-enum-known-name
-enum-known-name c = search needs
+enum-known-name c = c .match3 .keys1
 
 enum-told-3 : tie.Need-enum-told-3
-enum-told-3 c = search needs
+enum-told-3 c = c .match3 .keys2
 
 step-lost-requires-3 : tie.Need-step-lost-requires-3
-step-lost-requires-3 c κs = search needs
+step-lost-requires-3 c κs = tt
 
 returns-3 : tie.Need-returns-3
 unfolding struct-head
@@ -89,13 +89,13 @@ struct-code-requires : tie.Need-struct-code-requires
 struct-code-requires c κs = omega (arith, c .rest-at3 .ensures .size, c .before .before .before .before .before .before .before .before .before .before .before .before .before .before .before .before .before .before .before .before .before .pre)
 
 enum-known-number : tie.Need-enum-known-number
-enum-known-number c = search needs
+enum-known-number c = c .match4 .keys1
 
 enum-told-4 : tie.Need-enum-told-4
-enum-told-4 c = search needs
+enum-told-4 c = c .match4 .keys2
 
 number-lost-requires : tie.Need-number-lost-requires
-number-lost-requires c κs = search needs
+number-lost-requires c κs = tt
 
 returns-4 : tie.Need-returns-4
 unfolding struct-head
