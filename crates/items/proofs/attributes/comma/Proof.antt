@@ -23,7 +23,7 @@ unfolding comma
 returns c = (begin (comma) _ _ (pair-fall _ _ _ (c .step-lost .result) (c .before .before .before .tag-behind .ensures .at) (skips-lost (c .step-lost .ensures) (c .before .enum-told .given .1) (c .before .before .before .tag-behind .ensures))))
 
 blank-at-requires : tie.Need-blank-at-requires
-blank-at-requires c κs = omega (arith, (tag-behind-took 44 (c .before .separator .given .1) (c .before .before .before .tag-behind .ensures)) .up, (tag-behind-took 44 (c .before .separator .given .1) (c .before .before .before .tag-behind .ensures)) .inside, c .before .before .before .before .before .pre)
+blank-at-requires c κs = let t = tag-behind-took 44 (c .before .separator .given .1) (c .before .before .before .tag-behind .ensures) in omega (arith, t .up, t .inside, c .before .before .before .before .before .pre)
 
 returns-2 : tie.Need-returns-2
 unfolding comma

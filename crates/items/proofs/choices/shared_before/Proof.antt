@@ -29,7 +29,7 @@ unfolding shared-before
 returns c = skip-not _ no-word _ _ _ (begin (shared-before) _ _ (lose _ _ (c .step-lost .result) (rest-self _ _) (step-lost (wordAt _ _) (c .step-lost .ensures) (c .before .enum-told .given .1) _ _ _ (c .before .before .before .keyword .ensures))))
 
 gap-at-requires : tie.Need-gap-at-requires
-gap-at-requires c κs = omega (arith, (keyword-took (rest-self _ _) (c .before .word .given .1) (ascii "shared") (c .before .before .before .keyword .ensures)) .up, (keyword-took (rest-self _ _) (c .before .word .given .1) (ascii "shared") (c .before .before .before .keyword .ensures)) .inside, c .before .before .before .before .before .before .pre)
+gap-at-requires c κs = let t = keyword-took (rest-self _ _) (c .before .word .given .1) (ascii "shared") (c .before .before .before .keyword .ensures) in omega (arith, t .up, t .inside, c .before .before .before .before .before .before .pre)
 
 enum-known-gap : tie.Need-enum-known-gap
 enum-known-gap c = c .match2 .keys1

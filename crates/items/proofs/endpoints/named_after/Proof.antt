@@ -28,7 +28,7 @@ unfolding named-after
 returns c = read-not _ refl tt (begin (named-after _ _) _ _ (lose _ _ (c .named-lost .result) (rest-self _ _) (read-lost (c .before .before .before .name-behind .ensures) (c .before .enum-told .given .1) namedLost (c .named-lost .ensures) refl)))
 
 tag-behind-requires : tie.Need-tag-behind-requires
-tag-behind-requires c κs = omega (arith, (named-took (c .before .before .before .name-behind .ensures) (c .before .named .given .1) (name-behind-on _ _) (rest-self _ _)) .up, (named-took (c .before .before .before .name-behind .ensures) (c .before .named .given .1) (name-behind-on _ _) (rest-self _ _)) .inside, c .before .before .before .before .before .before .before .pre)
+tag-behind-requires c κs = let t = named-took (c .before .before .before .name-behind .ensures) (c .before .named .given .1) (name-behind-on _ _) (rest-self _ _) in omega (arith, t .up, t .inside, c .before .before .before .before .before .before .before .pre)
 
 enum-known-semicolon : tie.Need-enum-known-semicolon
 enum-known-semicolon c = c .match2 .keys1

@@ -31,10 +31,10 @@ unfolding event-head
 returns c = read-not _ refl tt (begin (event-head) _ _ (lose _ _ (c .event-qualities-lost .result) (rest-self _ _) (read-lost (c .before .before .before .event-qualities .ensures) (c .before .enum-told .given .1) eventQualitiesLost (c .event-qualities-lost .ensures) refl)))
 
 blank-at-requires : tie.Need-blank-at-requires
-blank-at-requires c κs = omega (arith, (read-took (c .before .before .before .event-qualities .ensures) (c .before .qualities .given .1) (walks (chain-inside event-qualities-inside)) (rest-self _ _) refl) .up, (read-took (c .before .before .before .event-qualities .ensures) (c .before .qualities .given .1) (walks (chain-inside event-qualities-inside)) (rest-self _ _) refl) .inside, c .before .before .before .before .before .pre)
+blank-at-requires c κs = let t = read-took (c .before .before .before .event-qualities .ensures) (c .before .qualities .given .1) (walks (chain-inside event-qualities-inside)) (rest-self _ _) refl in omega (arith, t .up, t .inside, c .before .before .before .before .before .pre)
 
 rest-at-requires : tie.Need-rest-at-requires
-rest-at-requires c κs = omega (arith, (blank-at-took (c .blank-at .ensures)) .up, (blank-at-took (c .blank-at .ensures)) .inside, c .blank-at .ensures .at .from)
+rest-at-requires c κs = let t = blank-at-took (c .blank-at .ensures) in omega (arith, t .up, t .inside, c .blank-at .ensures .at .from)
 
 parse-id-requires : tie.Need-parse-id-requires
 parse-id-requires c κs = omega (arith, c .rest-at .ensures .size, c .before .before .before .before .before .before .before .pre)
@@ -53,7 +53,7 @@ unfolding event-head
 returns-2 c = read-not _ refl tt (begin (event-head) _ _ (go _ (read-took (c .before .before .before .before .before .before .before .before .before .event-qualities .ensures) (c .before .before .before .before .before .before .before .qualities .given .1) (walks (chain-inside event-qualities-inside)) (rest-self _ _) refl) (on _ (blank-at-took (c .before .before .before .before .before .blank-at .ensures)) (lose _ _ (c .step-lost .result) (c .before .before .before .before .rest-at .ensures) (step-lost (wordAt _ _) (c .step-lost .ensures) (c .before .enum-told2 .given .1) _ _ _ (c .before .before .before .parse-id .ensures))))))
 
 tag-behind-requires : tie.Need-tag-behind-requires
-tag-behind-requires c κs = omega (arith, (word-took (c .before .before .before .before .rest-at .ensures) (c .before .id .given .1) (c .before .before .before .parse-id .ensures)) .up, (word-took (c .before .before .before .before .rest-at .ensures) (c .before .id .given .1) (c .before .before .before .parse-id .ensures)) .inside, c .before .before .before .before .rest-at .ensures .from, c .before .before .before .before .before .before .before .before .before .before .before .pre)
+tag-behind-requires c κs = let t = word-took (c .before .before .before .before .rest-at .ensures) (c .before .id .given .1) (c .before .before .before .parse-id .ensures) in omega (arith, t .up, t .inside, c .before .before .before .before .rest-at .ensures .from, c .before .before .before .before .before .before .before .before .before .before .before .pre)
 
 enum-known-equals : tie.Need-enum-known-equals
 enum-known-equals c = c .match3 .keys1
@@ -69,7 +69,7 @@ unfolding event-head
 returns-3 c = read-not _ refl tt (begin (event-head) _ _ (go _ (read-took (c .before .before .before .before .before .before .before .before .before .before .before .before .before .event-qualities .ensures) (c .before .before .before .before .before .before .before .before .before .before .before .qualities .given .1) (walks (chain-inside event-qualities-inside)) (rest-self _ _) refl) (on _ (blank-at-took (c .before .before .before .before .before .before .before .before .before .blank-at .ensures)) (go _ (word-took (c .before .before .before .before .before .before .before .before .rest-at .ensures) (c .before .before .before .before .before .id .given .1) (c .before .before .before .before .before .before .before .parse-id .ensures)) (pair-fall _ _ _ (c .step-lost2 .result) (c .before .before .before .tag-behind .ensures .at) (skips-lost (c .step-lost2 .ensures) (c .before .enum-told3 .given .1) (c .before .before .before .tag-behind .ensures)))))))
 
 integer-behind-requires : tie.Need-integer-behind-requires
-integer-behind-requires c κs = omega (arith, (tag-behind-took 61 (c .before .equals .given .1) (c .before .before .before .tag-behind .ensures)) .up, (tag-behind-took 61 (c .before .equals .given .1) (c .before .before .before .tag-behind .ensures)) .inside, c .before .before .before .tag-behind .ensures .at .from, c .before .before .before .before .before .before .before .before .before .before .before .before .before .before .before .pre)
+integer-behind-requires c κs = let t = tag-behind-took 61 (c .before .equals .given .1) (c .before .before .before .tag-behind .ensures) in omega (arith, t .up, t .inside, c .before .before .before .tag-behind .ensures .at .from, c .before .before .before .before .before .before .before .before .before .before .before .before .before .before .before .pre)
 
 enum-known-number : tie.Need-enum-known-number
 enum-known-number c = c .match4 .keys1
@@ -85,7 +85,7 @@ unfolding event-head
 returns-4 c = read-not _ refl tt (begin (event-head) _ _ (go _ (read-took (c .before .before .before .before .before .before .before .before .before .before .before .before .before .before .before .before .before .event-qualities .ensures) (c .before .before .before .before .before .before .before .before .before .before .before .before .before .before .before .qualities .given .1) (walks (chain-inside event-qualities-inside)) (rest-self _ _) refl) (on _ (blank-at-took (c .before .before .before .before .before .before .before .before .before .before .before .before .before .blank-at .ensures)) (go _ (word-took (c .before .before .before .before .before .before .before .before .before .before .before .before .rest-at .ensures) (c .before .before .before .before .before .before .before .before .before .id .given .1) (c .before .before .before .before .before .before .before .before .before .before .before .parse-id .ensures)) (pair-on _ _ _ (tag-behind-took 61 (c .before .before .before .before .before .equals .given .1) (c .before .before .before .before .before .before .before .tag-behind .ensures)) (pair-lose _ _ _ (c .number-lost .result) (c .before .before .before .integer-behind .ensures .at) (integer-behind-lost (c .before .before .before .integer-behind .ensures) (c .number-lost .ensures) (c .before .enum-told4 .given .1))))))))
 
 blank-at-requires-2 : tie.Need-blank-at-requires-2
-blank-at-requires-2 c κs = omega (arith, (integer-behind-took (c .before .before .before .integer-behind .ensures) (c .before .number .given .1)) .up, (integer-behind-took (c .before .before .before .integer-behind .ensures) (c .before .number .given .1)) .inside, c .before .before .before .integer-behind .ensures .at .from, c .before .before .before .before .before .before .before .before .before .before .before .before .before .before .before .before .before .before .before .pre)
+blank-at-requires-2 c κs = let t = integer-behind-took (c .before .before .before .integer-behind .ensures) (c .before .number .given .1) in omega (arith, t .up, t .inside, c .before .before .before .integer-behind .ensures .at .from, c .before .before .before .before .before .before .before .before .before .before .before .before .before .before .before .before .before .before .before .pre)
 
 returns-5 : tie.Need-returns-5
 unfolding event-head

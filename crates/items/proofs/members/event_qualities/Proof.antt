@@ -18,10 +18,10 @@ keywords-set-requires : tie.Need-keywords-set-requires
 keywords-set-requires c κs = search needs
 
 blank-at-requires : tie.Need-blank-at-requires
-blank-at-requires c κs = omega (arith, (set-took (rest-self _ _) (c .keywords-set .ensures)) .up, (set-took (rest-self _ _) (c .keywords-set .ensures)) .inside, c .before .before .pre)
+blank-at-requires c κs = let t = set-took (rest-self _ _) (c .keywords-set .ensures) in omega (arith, t .up, t .inside, c .before .before .pre)
 
 rest-at-requires : tie.Need-rest-at-requires
-rest-at-requires c κs = omega (arith, (blank-at-took (c .blank-at .ensures)) .up, (blank-at-took (c .blank-at .ensures)) .inside, c .blank-at .ensures .at .from)
+rest-at-requires c κs = let t = blank-at-took (c .blank-at .ensures) in omega (arith, t .up, t .inside, c .blank-at .ensures .at .from)
 
 event-priority-requires : tie.Need-event-priority-requires
 event-priority-requires c κs = omega (arith, c .rest-at .ensures .size, c .before .before .before .before .pre)
@@ -40,7 +40,7 @@ unfolding event-qualities
 returns c = read-not _ refl tt (begin (event-qualities) _ _ (go _ (set-took (rest-self _ _) (c .before .before .before .before .before .before .keywords-set .ensures)) (on _ (blank-at-took (c .before .before .before .before .before .blank-at .ensures)) (lose _ _ (c .level-lost .result) (c .before .before .before .before .rest-at .ensures) (level-lost (c .before .before .before .event-priority .ensures) (c .level-lost .ensures) (c .before .enum-told .given .1))))))
 
 gap-at-requires : tie.Need-gap-at-requires
-gap-at-requires c κs = omega (arith, (level-took (c .before .before .before .event-priority .ensures) (walks (event-priority-local .on-chain)) (c .before .before .before .before .rest-at .ensures) (c .before .priority .given .1)) .up, (level-took (c .before .before .before .event-priority .ensures) (walks (event-priority-local .on-chain)) (c .before .before .before .before .rest-at .ensures) (c .before .priority .given .1)) .inside, c .before .before .before .before .rest-at .ensures .from, c .before .before .before .before .before .before .before .before .pre)
+gap-at-requires c κs = let t = level-took (c .before .before .before .event-priority .ensures) (walks (event-priority-local .on-chain)) (c .before .before .before .before .rest-at .ensures) (c .before .priority .given .1) in omega (arith, t .up, t .inside, c .before .before .before .before .rest-at .ensures .from, c .before .before .before .before .before .before .before .before .pre)
 
 enum-known-gap1 : tie.Need-enum-known-gap1
 enum-known-gap1 c = c .match2 .keys1
@@ -56,7 +56,7 @@ unfolding event-qualities
 returns-2 c = read-not _ refl tt (begin (event-qualities) _ _ (go _ (set-took (rest-self _ _) (c .before .before .before .before .before .before .before .before .before .before .keywords-set .ensures)) (on _ (blank-at-took (c .before .before .before .before .before .before .before .before .before .blank-at .ensures)) (go _ (level-took (c .before .before .before .before .before .before .before .event-priority .ensures) (walks (event-priority-local .on-chain)) (c .before .before .before .before .before .before .before .before .rest-at .ensures) (c .before .before .before .before .before .priority .given .1)) (fall _ _ (c .step-lost .result) (c .before .before .before .gap-at .ensures .at) (skips-lost (c .step-lost .ensures) (c .before .enum-told2 .given .1) (c .before .before .before .gap-at .ensures)))))))
 
 rest-at-requires-2 : tie.Need-rest-at-requires-2
-rest-at-requires-2 c κs = omega (arith, (gap-at-took (c .before .gap1 .given .1) (c .before .before .before .gap-at .ensures)) .up, (gap-at-took (c .before .gap1 .given .1) (c .before .before .before .gap-at .ensures)) .inside, c .before .before .before .gap-at .ensures .at .from)
+rest-at-requires-2 c κs = let t = gap-at-took (c .before .gap1 .given .1) (c .before .before .before .gap-at .ensures) in omega (arith, t .up, t .inside, c .before .before .before .gap-at .ensures .at .from)
 
 slice-aggregate-keyword : tie.Need-slice-aggregate-keyword
 slice-aggregate-keyword c = search needs
@@ -78,7 +78,7 @@ unfolding event-qualities
 returns-3 c = read-not _ refl tt (begin (event-qualities) _ _ (go _ (set-took (rest-self _ _) (c .before .before .before .before .before .before .before .before .before .before .before .before .before .before .before .before .keywords-set .ensures)) (on _ (blank-at-took (c .before .before .before .before .before .before .before .before .before .before .before .before .before .before .before .blank-at .ensures)) (go _ (level-took (c .before .before .before .before .before .before .before .before .before .before .before .before .before .event-priority .ensures) (walks (event-priority-local .on-chain)) (c .before .before .before .before .before .before .before .before .before .before .before .before .before .before .rest-at .ensures) (c .before .before .before .before .before .before .before .before .before .before .before .priority .given .1)) (on _ (gap-at-took (c .before .before .before .before .before .before .before .gap1 .given .1) (c .before .before .before .before .before .before .before .before .before .gap-at .ensures)) (fall _ _ (c .step-lost2 .result) (c .before .before .before .before .before .rest-at2 .ensures) (step-lost (wordAt _ _) (c .step-lost2 .ensures) (c .before .enum-told3 .given .1) _ _ _ (c .before .before .before .keyword .ensures))))))))
 
 gap-at-requires-2 : tie.Need-gap-at-requires-2
-gap-at-requires-2 c κs = omega (arith, (keyword-took (c .before .before .before .before .before .rest-at2 .ensures) (c .before .event .given .1) (ascii "event") (c .before .before .before .keyword .ensures)) .up, (keyword-took (c .before .before .before .before .before .rest-at2 .ensures) (c .before .event .given .1) (ascii "event") (c .before .before .before .keyword .ensures)) .inside, c .before .before .before .before .before .rest-at2 .ensures .from, c .before .before .before .before .before .before .before .before .before .before .before .before .before .before .before .before .before .before .pre)
+gap-at-requires-2 c κs = let t = keyword-took (c .before .before .before .before .before .rest-at2 .ensures) (c .before .event .given .1) (ascii "event") (c .before .before .before .keyword .ensures) in omega (arith, t .up, t .inside, c .before .before .before .before .before .rest-at2 .ensures .from, c .before .before .before .before .before .before .before .before .before .before .before .before .before .before .before .before .before .before .pre)
 
 enum-known-gap2 : tie.Need-enum-known-gap2
 enum-known-gap2 c = c .match4 .keys1
@@ -94,7 +94,7 @@ unfolding event-qualities
 returns-4 c = read-not _ refl tt (begin (event-qualities) _ _ (go _ (set-took (rest-self _ _) (c .before .before .before .before .before .before .before .before .before .before .before .before .before .before .before .before .before .before .before .before .keywords-set .ensures)) (on _ (blank-at-took (c .before .before .before .before .before .before .before .before .before .before .before .before .before .before .before .before .before .before .before .blank-at .ensures)) (go _ (level-took (c .before .before .before .before .before .before .before .before .before .before .before .before .before .before .before .before .before .event-priority .ensures) (walks (event-priority-local .on-chain)) (c .before .before .before .before .before .before .before .before .before .before .before .before .before .before .before .before .before .before .rest-at .ensures) (c .before .before .before .before .before .before .before .before .before .before .before .before .before .before .before .priority .given .1)) (on _ (gap-at-took (c .before .before .before .before .before .before .before .before .before .before .before .gap1 .given .1) (c .before .before .before .before .before .before .before .before .before .before .before .before .before .gap-at .ensures)) (on _ (keyword-took (c .before .before .before .before .before .before .before .before .before .rest-at2 .ensures) (c .before .before .before .before .before .event .given .1) (ascii "event") (c .before .before .before .before .before .before .before .keyword .ensures)) (fall _ _ (c .step-lost3 .result) (c .before .before .before .gap-at2 .ensures .at) (skips-lost (c .step-lost3 .ensures) (c .before .enum-told4 .given .1) (c .before .before .before .gap-at2 .ensures)))))))))
 
 rest-at-requires-3 : tie.Need-rest-at-requires-3
-rest-at-requires-3 c κs = omega (arith, (gap-at-took (c .before .gap2 .given .1) (c .before .before .before .gap-at2 .ensures)) .up, (gap-at-took (c .before .gap2 .given .1) (c .before .before .before .gap-at2 .ensures)) .inside, c .before .before .before .gap-at2 .ensures .at .from)
+rest-at-requires-3 c κs = let t = gap-at-took (c .before .gap2 .given .1) (c .before .before .before .gap-at2 .ensures) in omega (arith, t .up, t .inside, c .before .before .before .gap-at2 .ensures .at .from)
 
 slice-aggregate-access-to : tie.Need-slice-aggregate-access-to
 slice-aggregate-access-to c = search needs

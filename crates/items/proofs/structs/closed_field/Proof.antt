@@ -13,7 +13,7 @@ blank-at-requires : tie.Need-blank-at-requires
 blank-at-requires c κs = omega (arith, c .before .pre)
 
 rest-at-requires : tie.Need-rest-at-requires
-rest-at-requires c κs = omega (arith, (blank-at-took (c .blank-at .ensures)) .up, (blank-at-took (c .blank-at .ensures)) .inside)
+rest-at-requires c κs = let t = blank-at-took (c .blank-at .ensures) in omega (arith, t .up, t .inside)
 
 parse-struct-field-requires : tie.Need-parse-struct-field-requires
 parse-struct-field-requires c κs = omega (arith, c .rest-at .ensures .size, c .before .before .before .pre)
@@ -32,7 +32,7 @@ unfolding closed-field
 returns c = read-not _ refl tt (begin (closed-field) _ _ (on _ (blank-at-took (c .before .before .before .before .before .blank-at .ensures)) (lose _ _ (c .struct-field-lost .result) (c .before .before .before .before .rest-at .ensures) (struct-field-none parse-struct-field-on (c .before .before .before .before .rest-at .ensures) (c .before .before .before .parse-struct-field .ensures) (c .struct-field-lost .ensures) (c .before .enum-told .given .1)))))
 
 tag-behind-requires : tie.Need-tag-behind-requires
-tag-behind-requires c κs = omega (arith, (struct-field-took parse-struct-field-on (c .before .before .before .before .rest-at .ensures) (c .before .before .before .parse-struct-field .ensures) (c .before .r .given .1)) .up, (struct-field-took parse-struct-field-on (c .before .before .before .before .rest-at .ensures) (c .before .before .before .parse-struct-field .ensures) (c .before .r .given .1)) .inside, c .before .before .before .before .rest-at .ensures .from, c .before .before .before .before .before .before .before .pre)
+tag-behind-requires c κs = let t = struct-field-took parse-struct-field-on (c .before .before .before .before .rest-at .ensures) (c .before .before .before .parse-struct-field .ensures) (c .before .r .given .1) in omega (arith, t .up, t .inside, c .before .before .before .before .rest-at .ensures .from, c .before .before .before .before .before .before .before .pre)
 
 enum-known-semicolon : tie.Need-enum-known-semicolon
 enum-known-semicolon c = c .match2 .keys1

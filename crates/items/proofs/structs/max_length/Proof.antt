@@ -23,7 +23,7 @@ unfolding max-length
 returns c = (begin (max-length) _ _ (pair-fall _ _ _ (c .step-lost .result) (c .before .before .before .tag-behind .ensures .at) (skips-lost (c .step-lost .ensures) (c .before .enum-told .given .1) (c .before .before .before .tag-behind .ensures))))
 
 integer-behind-requires : tie.Need-integer-behind-requires
-integer-behind-requires c κs = omega (arith, (tag-behind-took 60 (c .before .less .given .1) (c .before .before .before .tag-behind .ensures)) .up, (tag-behind-took 60 (c .before .less .given .1) (c .before .before .before .tag-behind .ensures)) .inside, c .before .before .before .before .before .pre)
+integer-behind-requires c κs = let t = tag-behind-took 60 (c .before .less .given .1) (c .before .before .before .tag-behind .ensures) in omega (arith, t .up, t .inside, c .before .before .before .before .before .pre)
 
 enum-known-number : tie.Need-enum-known-number
 enum-known-number c = c .match2 .keys1
@@ -39,7 +39,7 @@ unfolding max-length
 returns-2 c = (begin (max-length) _ _ (pair-on _ _ _ (tag-behind-took 60 (c .before .before .before .before .before .less .given .1) (c .before .before .before .before .before .before .before .tag-behind .ensures)) (pair-lose _ _ _ (c .number-lost .result) (c .before .before .before .integer-behind .ensures .at) (integer-behind-lost (c .before .before .before .integer-behind .ensures) (c .number-lost .ensures) (c .before .enum-told2 .given .1)))))
 
 tag-behind-requires-2 : tie.Need-tag-behind-requires-2
-tag-behind-requires-2 c κs = omega (arith, (integer-behind-took (c .before .before .before .integer-behind .ensures) (c .before .number .given .1)) .up, (integer-behind-took (c .before .before .before .integer-behind .ensures) (c .before .number .given .1)) .inside, c .before .before .before .integer-behind .ensures .at .from, c .before .before .before .before .before .before .before .before .before .pre)
+tag-behind-requires-2 c κs = let t = integer-behind-took (c .before .before .before .integer-behind .ensures) (c .before .number .given .1) in omega (arith, t .up, t .inside, c .before .before .before .integer-behind .ensures .at .from, c .before .before .before .before .before .before .before .before .before .pre)
 
 enum-known-greater : tie.Need-enum-known-greater
 enum-known-greater c = c .match3 .keys1

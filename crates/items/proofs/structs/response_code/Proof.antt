@@ -24,7 +24,7 @@ unfolding response-code
 returns c = (begin (response-code) _ _ (fall _ _ (c .step-lost .result) (rest-self _ _) (step-lost (λ c. tt) (c .step-lost .ensures) (c .before .enum-told .given .1) _ _ _ (c .before .before .before .tag .ensures))))
 
 integer-behind-requires : tie.Need-integer-behind-requires
-integer-behind-requires c κs = omega (arith, (tag-took (rest-self _ _) (c .before .equals .given .1) 61 (c .before .before .before .tag .ensures)) .up, (tag-took (rest-self _ _) (c .before .equals .given .1) 61 (c .before .before .before .tag .ensures)) .inside, c .before .before .before .before .before .pre)
+integer-behind-requires c κs = let t = tag-took (rest-self _ _) (c .before .equals .given .1) 61 (c .before .before .before .tag .ensures) in omega (arith, t .up, t .inside, c .before .before .before .before .before .pre)
 
 enum-known-number : tie.Need-enum-known-number
 enum-known-number c = c .match2 .keys1
@@ -40,7 +40,7 @@ unfolding response-code
 returns-2 c = (begin (response-code) _ _ (on _ (tag-took (rest-self _ _) (c .before .before .before .before .before .equals .given .1) 61 (c .before .before .before .before .before .before .before .tag .ensures)) (pair-lose _ _ _ (c .number-lost .result) (c .before .before .before .integer-behind .ensures .at) (integer-behind-lost (c .before .before .before .integer-behind .ensures) (c .number-lost .ensures) (c .before .enum-told2 .given .1)))))
 
 blank-at-requires : tie.Need-blank-at-requires
-blank-at-requires c κs = omega (arith, (integer-behind-took (c .before .before .before .integer-behind .ensures) (c .before .number .given .1)) .up, (integer-behind-took (c .before .before .before .integer-behind .ensures) (c .before .number .given .1)) .inside, c .before .before .before .integer-behind .ensures .at .from, c .before .before .before .before .before .before .before .before .before .pre)
+blank-at-requires c κs = let t = integer-behind-took (c .before .before .before .integer-behind .ensures) (c .before .number .given .1) in omega (arith, t .up, t .inside, c .before .before .before .integer-behind .ensures .at .from, c .before .before .before .before .before .before .before .before .before .pre)
 
 returns-3 : tie.Need-returns-3
 unfolding response-code
