@@ -16,6 +16,9 @@ use crate::counts::Count;
 use crate::counts::count_end;
 use crate::maturity::api_maturity;
 use crate::optional::optional;
+use crate::steps::blank_at;
+use crate::steps::integer_behind;
+use crate::steps::tag_behind;
 use crate::writing::First;
 use crate::writing::Wrote;
 use crate::writing::first_word;
@@ -26,7 +29,6 @@ use lexing::answers::step_lost;
 use lexing::blanks::whitespace0;
 use lexing::integers::Number;
 use lexing::integers::number_lost;
-use lexing::integers::positive_integer;
 use lexing::parts::rest_at;
 use lexing::strings::quoted_string;
 use lexing::words::parse_id;
@@ -56,31 +58,26 @@ pub fn constant_annotation(part: &[u8], base: usize) -> Step
     requires { ⌜ base + length (now part) ≤ text-limit ⌝ }
     ensures { λ r. ⌜ Skips constant-annotation r base (now (part .entry)) ⌝ }
 {
-    let w1 = whitespace0(part, base);
-    let c1 = w1.next;
+    let c1 = blank_at(part, base, base);
     let key = parse_id(rest_at(part, base, c1), c1);
     let Step::Next(c2) = key else {
         return Step::Not(step_lost(key));
     };
-    let w2 = whitespace0(rest_at(part, base, c2), c2);
-    let c3 = w2.next;
-    let equals = tag(rest_at(part, base, c3), c3, b'=');
-    let Step::Next(c4) = equals else {
+    let equals = tag_behind(part, base, c2, b'=');
+    let Step::Next(c3) = equals else {
         return Step::Not(step_lost(equals));
     };
-    let w3 = whitespace0(rest_at(part, base, c4), c4);
-    let c5 = w3.next;
-    let value = quoted_string(rest_at(part, base, c5), c5);
-    let Step::Next(c6) = value else {
+    let c4 = blank_at(part, base, c3);
+    let value = quoted_string(rest_at(part, base, c4), c4);
+    let Step::Next(c5) = value else {
         return Step::Not(step_lost(value));
     };
-    let w4 = whitespace0(rest_at(part, base, c6), c6);
-    let c7 = w4.next;
-    let comma = optional_comma(rest_at(part, base, c7), c7);
-    let Step::Next(c8) = comma else {
+    let c6 = blank_at(part, base, c5);
+    let comma = optional_comma(rest_at(part, base, c6), c6);
+    let Step::Next(c7) = comma else {
         return Step::Not(step_lost(comma));
     };
-    Step::Next(c8)
+    Step::Next(c7)
 }
 
 // An annotation with the blanks before it.
@@ -119,13 +116,11 @@ fn annotations_in_brackets(part: &[u8], base: usize) -> Step
     let Step::Next(c2) = run else {
         return Step::Not(step_lost(run));
     };
-    let w = whitespace0(rest_at(part, base, c2), c2);
-    let c3 = w.next;
-    let close = tag(rest_at(part, base, c3), c3, b']');
-    let Step::Next(c4) = close else {
+    let close = tag_behind(part, base, c2, b']');
+    let Step::Next(c3) = close else {
         return Step::Not(step_lost(close));
     };
-    Step::Next(c4)
+    Step::Next(c3)
 }
 
 // The annotations of an entry are read and dropped.
@@ -141,49 +136,40 @@ fn entry_end(part: &[u8], base: usize) -> Step
     requires { ⌜ base + length (now part) ≤ text-limit ⌝ }
     ensures { λ r. ⌜ EndTo r base (now (part .entry)) ⌝ }
 {
-    let w1 = whitespace0(part, base);
-    let c1 = w1.next;
+    let c1 = blank_at(part, base, base);
     let notes = constant_annotations_list(rest_at(part, base, c1), c1);
     let Step::Next(c2) = notes else {
         return Step::Not(step_lost(notes));
     };
-    let w2 = whitespace0(rest_at(part, base, c2), c2);
-    let c3 = w2.next;
-    let semicolon = tag(rest_at(part, base, c3), c3, b';');
-    let Step::Next(c4) = semicolon else {
+    let semicolon = tag_behind(part, base, c2, b';');
+    let Step::Next(c3) = semicolon else {
         return Step::Not(step_lost(semicolon));
     };
-    Step::Next(c4)
+    Step::Next(c3)
 }
 
 pub fn constant_entry(part: &[u8], base: usize) -> EntryRead
     requires { ⌜ base + length (now part) ≤ text-limit ⌝ }
     ensures { λ r. ⌜ EntryTo constant-entry r base (now (part .entry)) ⌝ }
 {
-    let w1 = whitespace0(part, base);
-    let c1 = w1.next;
+    let c1 = blank_at(part, base, base);
     let m = api_maturity(rest_at(part, base, c1), c1);
     let maturity = m.level;
     let c2 = m.next;
-    let w2 = whitespace0(rest_at(part, base, c2), c2);
-    let c3 = w2.next;
+    let c3 = blank_at(part, base, c2);
     let name = parse_id(rest_at(part, base, c3), c3);
     let Step::Next(c4) = name else {
         return EntryRead::NoEntry(step_lost(name));
     };
-    let w3 = whitespace0(rest_at(part, base, c4), c4);
-    let c5 = w3.next;
-    let equals = tag(rest_at(part, base, c5), c5, b'=');
-    let Step::Next(c6) = equals else {
+    let equals = tag_behind(part, base, c4, b'=');
+    let Step::Next(c5) = equals else {
         return EntryRead::NoEntry(step_lost(equals));
     };
-    let w4 = whitespace0(rest_at(part, base, c6), c6);
-    let c7 = w4.next;
-    let value = positive_integer(rest_at(part, base, c7), c7);
-    let Number::Value(code, c8) = value else {
+    let value = integer_behind(part, base, c5);
+    let Number::Value(code, c6) = value else {
         return EntryRead::NoEntry(number_lost(value));
     };
-    let last = entry_end(rest_at(part, base, c8), c8);
+    let last = entry_end(rest_at(part, base, c6), c6);
     let Step::Next(next) = last else {
         return EntryRead::NoEntry(step_lost(last));
     };

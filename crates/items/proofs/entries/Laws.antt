@@ -8,15 +8,15 @@ use lib.Seq.{length-take-le}
 use Rattle.lexing.specs.reply.{Reply, ok, Parser, _>>_, opt, many0}
 use Rattle.lexing.specs.words.{Word, word, tag}
 use Rattle.lexing.specs.blanks.{Doc, whitespace0}
-use Rattle.lexing.specs.strings.{span}
-use Rattle.lexing.specs.answers.{Rest, lostReply, lostOf, reply, stepAnswer}
+use Rattle.lexing.specs.strings.{span, annotation-escape, quoted-string}
+use Rattle.lexing.specs.answers.{Rest, lostReply, lostOf, reply, stepAnswer, spanTo, stringReply}
 use Rattle.lexing.specs.declared.answers.Lost.{Lost}
 use Rattle.lexing.specs.declared.answers.Step.{Step}
 use Rattle.lexing.specs.declared.answers.Step.the-variants.{Next, Not}
 use Rattle.lexing.proofs.Onward.{Onward}
 use Rattle.lexing.proofs.Locality.{Consumes, chain-ret, chain-many0, chain-opt, chain-then, consumes-then-right}
 use Rattle.lexing.proofs.TokenLocality.{whitespace0-chain}
-use Rattle.lexing.proofs.Slicing.{Took, took, walks, rest-self, begin, on, told-next, step-lost}
+use Rattle.lexing.proofs.Slicing.{Took, took, walks, rest-self, begin, on, told-next, step-lost, string-took}
 use Rattle.items.specs.entries.{Annotation, constant-annotation, blank-annotation, annotations-in-brackets, constant-annotations-list, Entry, constant-entry, blank-entry, constant-entries}
 use Rattle.items.specs.records.{Record, at, value, entry-record, plain, each, word-extent}
 use Rattle.items.specs.layout.{packed, width, from-top, offset, size, further-word, word-count, catalogue-words, catalogue-bytes, record-words, words-bytes, big-endian, layout-20}
@@ -40,6 +40,10 @@ no-annotation = record { key = word 0 []; value = span 0 0 }
 
 pub comma-onward : Onward (opt (tag 44))
 comma-onward = walks (chain-opt (punct-local 44 refl .on-chain))
+
+pub quoted-took : {b n : ℕ} {u r : List ℕ} {a : Step} {c : ℕ} → Rest b u n r → a ≡ Next c → stringReply a n r ≡ quoted-string n r → Took quoted-string b u n (spanTo n c) c
+unfolding quoted-string
+quoted-took q e h = string-took q e annotation-escape h
 
 pub annotation-onward : Onward constant-annotation
 annotation-onward = walks (constant-annotation-local .on-chain)
@@ -73,8 +77,8 @@ end-onward e = walks (chain-then whitespace0-chain (chain-then (constant-annotat
 pub end-took : (e : Entry) {b n : ℕ} {u r : List ℕ} {a : Step} {c : ℕ} → Rest b u n r → a ≡ Next c → EndTo a n r → Took (entry-end e) b u n e c
 end-took e {b} {n} {u} {r} {a} {c} q d h = took (end-onward e) q (told-next (λ c. e) a c n r (entry-end e n r) d (h .reads e))
 
-pub end-lost : (e : Entry) {b n : ℕ} {u r : List ℕ} {a : Step} {l l' : Lost} → Rest b u n r → l' ≡ lostOf a → a ≡ Not l → EndTo a n r → lostReply l' ≡ entry-end e n (drop (n - b) u)
-end-lost e {b} {n} {u} {r} {a} {l} {l'} q d z h = step-lost (λ c. e) d z n r (entry-end e n r) (h .reads e) ∙ ap (entry-end e n) (q .same)
+pub end-none : (e : Entry) {n : ℕ} {r : List ℕ} {a : Step} {l l' : Lost} → l' ≡ lostOf a → a ≡ Not l → EndTo a n r → lostReply l' ≡ entry-end e n r
+end-none e {n} {r} d z h = step-lost (λ c. e) d z n r (entry-end e n r) (h .reads e)
 
 -- where an entry ends, from the numbers alone
 pub end-up : {n : ℕ} {r : List ℕ} {a : Step} {c : ℕ} → a ≡ Next c → EndTo a n r → n ≤ c

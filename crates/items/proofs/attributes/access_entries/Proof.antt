@@ -12,22 +12,22 @@ access-entry-requires : tie.Need-access-entry-requires
 access-entry-requires c κs = search needs
 
 enum-known-first : tie.Need-enum-known-first
-enum-known-first c = search needs
+enum-known-first c = c .match .keys1
 
 enum-told : tie.Need-enum-told
-enum-told c = search needs
+enum-told c = c .match .keys2
 
 access-lost-requires : tie.Need-access-lost-requires
-access-lost-requires c κs = search needs
+access-lost-requires c κs = tt
 
 list-end-requires : tie.Need-list-end-requires
-list-end-requires c κs = search needs
+list-end-requires c κs = tt
 
 returns : tie.Need-returns
 returns c = entries-none (c .before .access-lost .result) _ _ (access-lost access-entry (c .before .before .before .before .access-entry .ensures) (c .before .access-lost .ensures) (c .before .before .enum-told .given .1)) (c .list-end .ensures)
 
 grants-with-requires : tie.Need-grants-with-requires
-grants-with-requires c κs = search needs
+grants-with-requires c κs = tt
 
 rest-at-requires : tie.Need-rest-at-requires
 rest-at-requires c κs = let t = (read-as (c .before .before .before .before .access-entry .ensures) (c .before .before .first .given .1) entry-onward (rest-self _ _) refl) in omega (arith, t .step .up, t .step .inside)

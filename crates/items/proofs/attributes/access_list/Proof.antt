@@ -19,67 +19,67 @@ keyword-behind-requires : tie.Need-keyword-behind-requires
 keyword-behind-requires c κs = omega (arith, c .before .before .pre)
 
 enum-known-access : tie.Need-enum-known-access
-enum-known-access c = search needs
+enum-known-access c = c .match .keys1
 
 enum-told : tie.Need-enum-told
-enum-told c = search needs
+enum-told c = c .match .keys2
 
 step-lost-requires : tie.Need-step-lost-requires
-step-lost-requires c κs = search needs
+step-lost-requires c κs = tt
 
 returns : tie.Need-returns
 unfolding access-list
 returns c = list-not no-grants _ _ _ _ (begin (access-list) _ _ (pair-fall _ _ _ (c .step-lost .result) (c .before .before .before .keyword-behind .ensures .at) (skips-lost (c .step-lost .ensures) (c .before .enum-told .given .1) (c .before .before .before .keyword-behind .ensures))))
 
 tag-behind-requires : tie.Need-tag-behind-requires
-tag-behind-requires c κs = omega (arith, (keyword-behind-took (ascii "access") (c .before .access .given .1) (c .before .before .before .keyword-behind .ensures)) .up, (keyword-behind-took (ascii "access") (c .before .access .given .1) (c .before .before .before .keyword-behind .ensures)) .inside, c .before .before .before .before .before .before .pre)
+tag-behind-requires c κs = let t = keyword-behind-took (ascii "access") (c .before .access .given .1) (c .before .before .before .keyword-behind .ensures) in omega (arith, t .up, t .inside, c .before .before .before .before .before .before .pre)
 
 enum-known-opening : tie.Need-enum-known-opening
-enum-known-opening c = search needs
+enum-known-opening c = c .match2 .keys1
 
 enum-told-2 : tie.Need-enum-told-2
-enum-told-2 c = search needs
+enum-told-2 c = c .match2 .keys2
 
 step-lost-requires-2 : tie.Need-step-lost-requires-2
-step-lost-requires-2 c κs = search needs
+step-lost-requires-2 c κs = tt
 
 returns-2 : tie.Need-returns-2
 unfolding access-list
 returns-2 c = list-not no-grants _ _ _ _ (begin (access-list) _ _ (pair-on _ _ _ (keyword-behind-took (ascii "access") (c .before .before .before .before .before .access .given .1) (c .before .before .before .before .before .before .before .keyword-behind .ensures)) (pair-fall _ _ _ (c .step-lost2 .result) (c .before .before .before .tag-behind .ensures .at) (skips-lost (c .step-lost2 .ensures) (c .before .enum-told2 .given .1) (c .before .before .before .tag-behind .ensures)))))
 
 blank-at-requires : tie.Need-blank-at-requires
-blank-at-requires c κs = omega (arith, (tag-behind-took 40 (c .before .opening .given .1) (c .before .before .before .tag-behind .ensures)) .up, (tag-behind-took 40 (c .before .opening .given .1) (c .before .before .before .tag-behind .ensures)) .inside, c .before .before .before .tag-behind .ensures .at .from, c .before .before .before .before .before .before .before .before .before .before .pre)
+blank-at-requires c κs = let t = tag-behind-took 40 (c .before .opening .given .1) (c .before .before .before .tag-behind .ensures) in omega (arith, t .up, t .inside, c .before .before .before .tag-behind .ensures .at .from, c .before .before .before .before .before .before .before .before .before .before .pre)
 
 rest-at-requires : tie.Need-rest-at-requires
-rest-at-requires c κs = omega (arith, (blank-at-took (c .blank-at .ensures)) .up, (blank-at-took (c .blank-at .ensures)) .inside, c .blank-at .ensures .at .from)
+rest-at-requires c κs = let t = blank-at-took (c .blank-at .ensures) in omega (arith, t .up, t .inside, c .blank-at .ensures .at .from)
 
 access-entries-requires : tie.Need-access-entries-requires
 access-entries-requires c κs = omega (arith, c .rest-at .ensures .size, c .before .before .before .before .before .before .before .before .before .before .before .before .pre)
 
 enum-known-entries : tie.Need-enum-known-entries
-enum-known-entries c = search needs
+enum-known-entries c = c .match3 .keys1
 
 enum-told-3 : tie.Need-enum-told-3
-enum-told-3 c = search needs
+enum-told-3 c = c .match3 .keys2
 
 list-lost-requires : tie.Need-list-lost-requires
-list-lost-requires c κs = search needs
+list-lost-requires c κs = tt
 
 returns-3 : tie.Need-returns-3
 unfolding access-list
 returns-3 c = list-not no-grants _ _ _ _ (begin (access-list) _ _ (pair-on _ _ _ (keyword-behind-took (ascii "access") (c .before .before .before .before .before .before .before .before .before .before .before .access .given .1) (c .before .before .before .before .before .before .before .before .before .before .before .before .before .keyword-behind .ensures)) (pair-on _ _ _ (tag-behind-took 40 (c .before .before .before .before .before .before .before .opening .given .1) (c .before .before .before .before .before .before .before .before .before .tag-behind .ensures)) (on _ (blank-at-took (c .before .before .before .before .before .blank-at .ensures)) (lose _ _ (c .list-lost .result) (c .before .before .before .before .rest-at .ensures) (list-lost no-grants (separated-list0 comma access-entry) (c .before .before .before .access-entries .ensures) (c .list-lost .ensures) (c .before .enum-told3 .given .1)))))))
 
 tag-behind-requires-2 : tie.Need-tag-behind-requires-2
-tag-behind-requires-2 c κs = omega (arith, ((read-as (c .before .before .before .access-entries .ensures) (c .before .entries .given .1) entries-onward (c .before .before .before .before .rest-at .ensures) refl) .step) .up, ((read-as (c .before .before .before .access-entries .ensures) (c .before .entries .given .1) entries-onward (c .before .before .before .before .rest-at .ensures) refl) .step) .inside, c .before .before .before .before .rest-at .ensures .from, c .before .before .before .before .before .before .before .before .before .before .before .before .before .before .before .before .pre)
+tag-behind-requires-2 c κs = let t = (read-as (c .before .before .before .access-entries .ensures) (c .before .entries .given .1) entries-onward (c .before .before .before .before .rest-at .ensures) refl) .step in omega (arith, t .up, t .inside, c .before .before .before .before .rest-at .ensures .from, c .before .before .before .before .before .before .before .before .before .before .before .before .before .before .before .before .pre)
 
 enum-known-closing : tie.Need-enum-known-closing
-enum-known-closing c = search needs
+enum-known-closing c = c .match4 .keys1
 
 enum-told-4 : tie.Need-enum-told-4
-enum-told-4 c = search needs
+enum-told-4 c = c .match4 .keys2
 
 step-lost-requires-3 : tie.Need-step-lost-requires-3
-step-lost-requires-3 c κs = search needs
+step-lost-requires-3 c κs = tt
 
 returns-4 : tie.Need-returns-4
 unfolding access-list

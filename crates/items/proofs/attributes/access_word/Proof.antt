@@ -17,7 +17,7 @@ keyword-requires : tie.Need-keyword-requires
 keyword-requires c κs = search needs
 
 enum-known-read : tie.Need-enum-known-read
-enum-known-read c = search needs
+enum-known-read c = c .match .keys1
 
 sub-operation-by : tie.Need-sub-operation-by
 sub-operation-by c = omega (arith, (keyword-took (rest-self _ _) (c .before .read .given .1) (ascii "read") (c .before .before .before .keyword .ensures)) .up)
@@ -30,7 +30,7 @@ unfolding any-keyword
 returns c = operation-is (ascii "read") Read _ _ _ _ _ (c .before .before .before .before .keyword .ensures) (c .before .before .read .given .1) read-operation (c .operation-by .ensures) (or-here _ _ _ _ _ _ _ (told-next (wordAt _ _) _ _ _ _ _ (c .before .before .read .given .1) (c .before .before .before .before .keyword .ensures)))
 
 enum-told : tie.Need-enum-told
-enum-told c = search needs
+enum-told c = c .match .keys2
 
 slice-aggregate-keyword-2 : tie.Need-slice-aggregate-keyword-2
 slice-aggregate-keyword-2 c = search needs
@@ -39,7 +39,7 @@ keyword-requires-2 : tie.Need-keyword-requires-2
 keyword-requires-2 c κs = search needs
 
 enum-known-write : tie.Need-enum-known-write
-enum-known-write c = search needs
+enum-known-write c = c .match2 .keys1
 
 sub-operation-by-2 : tie.Need-sub-operation-by-2
 sub-operation-by-2 c = omega (arith, (keyword-took (rest-self _ _) (c .before .write .given .1) (ascii "write") (c .before .before .before .keyword2 .ensures)) .up)
@@ -52,7 +52,7 @@ unfolding any-keyword
 returns-2 c = operation-is (ascii "write") Write _ _ _ _ _ (c .before .before .before .before .keyword2 .ensures) (c .before .before .write .given .1) write-operation (c .operation-by2 .ensures) (or-next _ _ _ _ _ _ _ _ (keyword-not (ascii "read") _ _ _ (c .before .before .before .before .before .before .before .before .keyword .ensures) _ (c .before .before .before .before .before .before .enum-told .given .1)) (or-here _ _ _ _ _ _ _ (told-next (wordAt _ _) _ _ _ _ _ (c .before .before .write .given .1) (c .before .before .before .before .keyword2 .ensures))))
 
 enum-told-2 : tie.Need-enum-told-2
-enum-told-2 c = search needs
+enum-told-2 c = c .match2 .keys2
 
 returns-3 : tie.Need-returns-3
 returns-3 c = operation-none _ _ (keyword-not (ascii "read") _ _ _ (c .before .before .before .before .before .before .keyword .ensures) _ (c .before .before .before .before .enum-told .given .1)) (keyword-not (ascii "write") _ _ _ (c .before .before .keyword2 .ensures) _ (c .enum-told2 .given .1))

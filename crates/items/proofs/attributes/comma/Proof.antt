@@ -1,4 +1,3 @@
-use borrow.Author.Needs.{needs}
 use Rattle.items.proofs.attributes.comma.Statement.{statement}
 use Rattle.items.proofs.attributes.comma.Tie as tie
 use Rattle.items.specs.members.{comma}
@@ -11,20 +10,20 @@ tag-behind-requires : tie.Need-tag-behind-requires
 tag-behind-requires c κs = omega (arith, c .before .pre)
 
 enum-known-separator : tie.Need-enum-known-separator
-enum-known-separator c = search needs
+enum-known-separator c = c .match .keys1
 
 enum-told : tie.Need-enum-told
-enum-told c = search needs
+enum-told c = c .match .keys2
 
 step-lost-requires : tie.Need-step-lost-requires
-step-lost-requires c κs = search needs
+step-lost-requires c κs = tt
 
 returns : tie.Need-returns
 unfolding comma
 returns c = (begin (comma) _ _ (pair-fall _ _ _ (c .step-lost .result) (c .before .before .before .tag-behind .ensures .at) (skips-lost (c .step-lost .ensures) (c .before .enum-told .given .1) (c .before .before .before .tag-behind .ensures))))
 
 blank-at-requires : tie.Need-blank-at-requires
-blank-at-requires c κs = omega (arith, (tag-behind-took 44 (c .before .separator .given .1) (c .before .before .before .tag-behind .ensures)) .up, (tag-behind-took 44 (c .before .separator .given .1) (c .before .before .before .tag-behind .ensures)) .inside, c .before .before .before .before .before .pre)
+blank-at-requires c κs = let t = tag-behind-took 44 (c .before .separator .given .1) (c .before .before .before .tag-behind .ensures) in omega (arith, t .up, t .inside, c .before .before .before .before .before .pre)
 
 returns-2 : tie.Need-returns-2
 unfolding comma

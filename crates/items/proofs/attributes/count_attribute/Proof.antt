@@ -11,13 +11,13 @@ parse-attribute-after-doc-maturity-requires : tie.Need-parse-attribute-after-doc
 parse-attribute-after-doc-maturity-requires c κs = search needs
 
 enum-known-r : tie.Need-enum-known-r
-enum-known-r c = search needs
+enum-known-r c = c .match .keys1
 
 enum-told : tie.Need-enum-told
-enum-told c = search needs
+enum-told c = c .match .keys2
 
 attribute-lost-requires : tie.Need-attribute-lost-requires
-attribute-lost-requires c κs = search needs
+attribute-lost-requires c κs = tt
 
 returns : tie.Need-returns
 returns c = count-not _ _ _ _ (c .attribute-lost .result) (read-lost (c .before .before .before .parse-attribute-after-doc-maturity .ensures) (c .before .enum-told .given .1) attributeLost (c .attribute-lost .ensures) refl)

@@ -1,4 +1,3 @@
-use borrow.Author.Needs.{needs}
 use Rattle.items.proofs.attributes.grant_by.Statement.{statement}
 use Rattle.items.proofs.attributes.grant_by.Tie as tie
 use mathlib.Core.Path.{sym, ap}
@@ -6,13 +5,13 @@ use Rattle.items.specs.inner.attributes.{grantBy}
 use Rattle.items.specs.declared.attributes.Operation.{Operation}
 
 enum-told : tie.Need-enum-told
-enum-told c = search needs
+enum-told c = c .match .keys1
 
 enum-told-2 : tie.Need-enum-told-2
-enum-told-2 c = search needs
+enum-told-2 c = c .match .keys2
 
 enum-told-3 : tie.Need-enum-told-3
-enum-told-3 c = search needs
+enum-told-3 c = c .match .keys3
 
 returns : tie.Need-returns
 returns c = sym (ap (λ (x : Operation). grantBy x (c .before .before .args .privilege) (c .before .before .args .at)) (c .enum-told .given .1))

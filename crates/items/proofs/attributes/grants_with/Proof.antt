@@ -1,25 +1,24 @@
-use borrow.Author.Needs.{needs}
 use Rattle.items.proofs.attributes.grants_with.Statement.{statement}
 use Rattle.items.proofs.attributes.grants_with.Tie as tie
 use Rattle.items.proofs.attributes.Laws.{grants-with, grants-refused}
 
 enum-known-grants : tie.Need-enum-known-grants
-enum-known-grants c = search needs
+enum-known-grants c = c .match .keys1
 
 enum-told : tie.Need-enum-told
-enum-told c = search needs
+enum-told c = c .match .keys2
 
 returns : tie.Need-returns
 returns c = grants-refused _ _ _ (c .enum-told .given .1)
 
 enum-known-grant : tie.Need-enum-known-grant
-enum-known-grant c = search needs
+enum-known-grant c = c .match2 .keys1
 
 enum-known-grant-2 : tie.Need-enum-known-grant-2
-enum-known-grant-2 c = search needs
+enum-known-grant-2 c = c .match2 .keys2
 
 enum-known-grant-3 : tie.Need-enum-known-grant-3
-enum-known-grant-3 c = search needs
+enum-known-grant-3 c = c .match2 .keys3
 
 returns-2 : tie.Need-returns-2
 returns-2 c = grants-with _ _ (c .before .before .before .before .grants .given .1) (c .before .grant .given .1)

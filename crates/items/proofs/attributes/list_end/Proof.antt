@@ -1,4 +1,3 @@
-use borrow.Author.Needs.{needs}
 use Rattle.items.proofs.attributes.list_end.Statement.{statement}
 use Rattle.items.proofs.attributes.list_end.Tie as tie
 use mathlib.Core.Path.{sym, ap}
@@ -6,10 +5,10 @@ use Rattle.lexing.specs.declared.answers.Lost.{Lost}
 use Rattle.items.specs.inner.attributes.{listEnd}
 
 enum-told : tie.Need-enum-told
-enum-told c = search needs
+enum-told c = c .match .keys1
 
 enum-known-l : tie.Need-enum-known-l
-enum-known-l c = search needs
+enum-known-l c = c .match .keys2
 
 returns : tie.Need-returns
 returns c = sym (ap (λ (x : Lost). listEnd x (c .before .before .args .grants) (c .before .before .args .c)) (c .enum-told .given .1))

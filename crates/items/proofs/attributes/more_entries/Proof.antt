@@ -25,22 +25,22 @@ separated-entry-requires : tie.Need-separated-entry-requires Inv-loop μ-loop
 separated-entry-requires c κs = search needs
 
 enum-known-r : tie.Need-enum-known-r Inv-loop μ-loop
-enum-known-r c = search needs
+enum-known-r c = c .match .keys1
 
 enum-told : tie.Need-enum-told Inv-loop μ-loop
-enum-told c = search needs
+enum-told c = c .match .keys2
 
 access-lost-requires : tie.Need-access-lost-requires Inv-loop μ-loop
-access-lost-requires c κs = search needs
+access-lost-requires c κs = tt
 
 list-end-requires : tie.Need-list-end-requires Inv-loop μ-loop
-list-end-requires c κs = search needs
+list-end-requires c κs = tt
 
 returns : tie.Need-returns Inv-loop μ-loop
 returns c = granting-ends (c .before .access-lost .result) (c .before .before .before .before .before .before .loop .inv) (c .before .before .before .before .before .rest-at .ensures) (access-lost separated-entry (c .before .before .before .before .separated-entry .ensures) (c .before .access-lost .ensures) (c .before .before .enum-told .given .1)) (c .list-end .ensures)
 
 grants-with-requires : tie.Need-grants-with-requires Inv-loop μ-loop
-grants-with-requires c κs = search needs
+grants-with-requires c κs = tt
 
 loop-less : tie.Need-loop-less Inv-loop μ-loop
 loop-less c = let s = granting-more (c .before .before .before .before .before .before .loop .inv) (read-as (c .before .before .before .before .separated-entry .ensures) (c .before .before .r .given .1) separated-onward (c .before .before .before .before .before .rest-at .ensures) refl) (access-small separated-entry (c .before .before .before .before .separated-entry .ensures) (c .before .before .r .given .1)) (c .grants-with .ensures) in omega (arith, s .1, s .0 .run .inside)

@@ -1,19 +1,18 @@
-use borrow.Author.Needs.{needs}
 use Rattle.items.proofs.attributes.optional_list.Statement.{statement}
 use Rattle.items.proofs.attributes.optional_list.Tie as tie
 use Rattle.items.proofs.attributes.Laws.{optional-there, optional-end}
 
 enum-known-r : tie.Need-enum-known-r
-enum-known-r c = search needs
+enum-known-r c = c .match .keys1
 
 enum-told : tie.Need-enum-told
-enum-told c = search needs
+enum-told c = c .match .keys2
 
 returns : tie.Need-returns
 returns c = optional-there _ _ (c .enum-told .given .1)
 
 list-end-requires : tie.Need-list-end-requires
-list-end-requires c κs = search needs
+list-end-requires c κs = tt
 
 returns-2 : tie.Need-returns-2
 returns-2 c = optional-end _ (c .before .before .r .given .1) (c .list-end .ensures)

@@ -22,89 +22,89 @@ slice-aggregate-keyword-behind : tie.Need-slice-aggregate-keyword-behind
 slice-aggregate-keyword-behind c = search needs
 
 keyword-behind-requires : tie.Need-keyword-behind-requires
-keyword-behind-requires c κs = omega (arith, (set-took (rest-self _ _) (c .before .keywords-set .ensures)) .up, (set-took (rest-self _ _) (c .before .keywords-set .ensures)) .inside, c .before .before .before .pre)
+keyword-behind-requires c κs = let t = set-took (rest-self _ _) (c .before .keywords-set .ensures) in omega (arith, t .up, t .inside, c .before .before .before .pre)
 
 enum-known-attribute : tie.Need-enum-known-attribute
-enum-known-attribute c = search needs
+enum-known-attribute c = c .match .keys1
 
 enum-told : tie.Need-enum-told
-enum-told c = search needs
+enum-told c = c .match .keys2
 
 step-lost-requires : tie.Need-step-lost-requires
-step-lost-requires c κs = search needs
+step-lost-requires c κs = tt
 
 returns : tie.Need-returns
 unfolding parse-attribute-after-doc-maturity
 returns c = read-not _ refl tt (begin (parse-attribute-after-doc-maturity (docOf (c .before .before .before .before .before .before .before .args .doc)) (c .before .before .before .before .before .before .before .args .maturity)) _ _ (go _ (set-took (rest-self _ _) (c .before .before .before .before .before .keywords-set .ensures)) (pair-fall _ _ _ (c .step-lost .result) (c .before .before .before .keyword-behind .ensures .at) (skips-lost (c .step-lost .ensures) (c .before .enum-told .given .1) (c .before .before .before .keyword-behind .ensures)))))
 
 gap-at-requires : tie.Need-gap-at-requires
-gap-at-requires c κs = omega (arith, (keyword-behind-took (ascii "attribute") (c .before .attribute .given .1) (c .before .before .before .keyword-behind .ensures)) .up, (keyword-behind-took (ascii "attribute") (c .before .attribute .given .1) (c .before .before .before .keyword-behind .ensures)) .inside, c .before .before .before .keyword-behind .ensures .at .from, c .before .before .before .before .before .before .before .pre)
+gap-at-requires c κs = let t = keyword-behind-took (ascii "attribute") (c .before .attribute .given .1) (c .before .before .before .keyword-behind .ensures) in omega (arith, t .up, t .inside, c .before .before .before .keyword-behind .ensures .at .from, c .before .before .before .before .before .before .before .pre)
 
 enum-known-gap : tie.Need-enum-known-gap
-enum-known-gap c = search needs
+enum-known-gap c = c .match2 .keys1
 
 enum-told-2 : tie.Need-enum-told-2
-enum-told-2 c = search needs
+enum-told-2 c = c .match2 .keys2
 
 step-lost-requires-2 : tie.Need-step-lost-requires-2
-step-lost-requires-2 c κs = search needs
+step-lost-requires-2 c κs = tt
 
 returns-2 : tie.Need-returns-2
 unfolding parse-attribute-after-doc-maturity
 returns-2 c = read-not _ refl tt (begin (parse-attribute-after-doc-maturity (docOf (c .before .before .before .before .before .before .before .before .before .before .before .args .doc)) (c .before .before .before .before .before .before .before .before .before .before .before .args .maturity)) _ _ (go _ (set-took (rest-self _ _) (c .before .before .before .before .before .before .before .before .before .keywords-set .ensures)) (pair-on _ _ _ (keyword-behind-took (ascii "attribute") (c .before .before .before .before .before .attribute .given .1) (c .before .before .before .before .before .before .before .keyword-behind .ensures)) (fall _ _ (c .step-lost2 .result) (c .before .before .before .gap-at .ensures .at) (skips-lost (c .step-lost2 .ensures) (c .before .enum-told2 .given .1) (c .before .before .before .gap-at .ensures))))))
 
 rest-at-requires : tie.Need-rest-at-requires
-rest-at-requires c κs = omega (arith, (gap-at-took (c .before .gap .given .1) (c .before .before .before .gap-at .ensures)) .up, (gap-at-took (c .before .gap .given .1) (c .before .before .before .gap-at .ensures)) .inside, c .before .before .before .gap-at .ensures .at .from)
+rest-at-requires c κs = let t = gap-at-took (c .before .gap .given .1) (c .before .before .before .gap-at .ensures) in omega (arith, t .up, t .inside, c .before .before .before .gap-at .ensures .at .from)
 
 attribute-access-requires : tie.Need-attribute-access-requires
 attribute-access-requires c κs = omega (arith, c .rest-at .ensures .size, c .before .before .before .before .before .before .before .before .before .before .before .before .pre)
 
 enum-known-access : tie.Need-enum-known-access
-enum-known-access c = search needs
+enum-known-access c = c .match3 .keys1
 
 enum-told-3 : tie.Need-enum-told-3
-enum-told-3 c = search needs
+enum-told-3 c = c .match3 .keys2
 
 privileges-lost-requires : tie.Need-privileges-lost-requires
-privileges-lost-requires c κs = search needs
+privileges-lost-requires c κs = tt
 
 returns-3 : tie.Need-returns-3
 unfolding parse-attribute-after-doc-maturity
 returns-3 c = read-not _ refl tt (begin (parse-attribute-after-doc-maturity (docOf (c .before .before .before .before .before .before .before .before .before .before .before .before .before .before .before .before .args .doc)) (c .before .before .before .before .before .before .before .before .before .before .before .before .before .before .before .before .args .maturity)) _ _ (go _ (set-took (rest-self _ _) (c .before .before .before .before .before .before .before .before .before .before .before .before .before .before .keywords-set .ensures)) (pair-on _ _ _ (keyword-behind-took (ascii "attribute") (c .before .before .before .before .before .before .before .before .before .before .attribute .given .1) (c .before .before .before .before .before .before .before .before .before .before .before .before .keyword-behind .ensures)) (on _ (gap-at-took (c .before .before .before .before .before .before .gap .given .1) (c .before .before .before .before .before .before .before .before .gap-at .ensures)) (lose _ _ (c .privileges-lost .result) (c .before .before .before .before .rest-at .ensures) (read-lost (c .before .before .before .attribute-access .ensures) (c .before .enum-told3 .given .1) privilegesLost (c .privileges-lost .ensures) refl))))))
 
 blank-at-requires : tie.Need-blank-at-requires
-blank-at-requires c κs = omega (arith, (read-took (c .before .before .before .attribute-access .ensures) (c .before .access .given .1) attribute-access-onward (c .before .before .before .before .rest-at .ensures) refl) .up, (read-took (c .before .before .before .attribute-access .ensures) (c .before .access .given .1) attribute-access-onward (c .before .before .before .before .rest-at .ensures) refl) .inside, c .before .before .before .before .rest-at .ensures .from, c .before .before .before .before .before .before .before .before .before .before .before .before .before .before .before .before .pre)
+blank-at-requires c κs = let t = read-took (c .before .before .before .attribute-access .ensures) (c .before .access .given .1) attribute-access-onward (c .before .before .before .before .rest-at .ensures) refl in omega (arith, t .up, t .inside, c .before .before .before .before .rest-at .ensures .from, c .before .before .before .before .before .before .before .before .before .before .before .before .before .before .before .before .pre)
 
 rest-at-requires-2 : tie.Need-rest-at-requires-2
-rest-at-requires-2 c κs = omega (arith, (blank-at-took (c .blank-at .ensures)) .up, (blank-at-took (c .blank-at .ensures)) .inside, c .blank-at .ensures .at .from)
+rest-at-requires-2 c κs = let t = blank-at-took (c .blank-at .ensures) in omega (arith, t .up, t .inside, c .blank-at .ensures .at .from)
 
 parse-struct-field-requires : tie.Need-parse-struct-field-requires
 parse-struct-field-requires c κs = omega (arith, c .rest-at2 .ensures .size, c .before .before .before .before .before .before .before .before .before .before .before .before .before .before .before .before .before .before .pre)
 
 enum-known-r : tie.Need-enum-known-r
-enum-known-r c = search needs
+enum-known-r c = c .match4 .keys1
 
 enum-told-4 : tie.Need-enum-told-4
-enum-told-4 c = search needs
+enum-told-4 c = c .match4 .keys2
 
 struct-field-lost-requires : tie.Need-struct-field-lost-requires
-struct-field-lost-requires c κs = search needs
+struct-field-lost-requires c κs = tt
 
 returns-4 : tie.Need-returns-4
 unfolding parse-attribute-after-doc-maturity
 returns-4 c = read-not _ refl tt (begin (parse-attribute-after-doc-maturity (docOf (c .before .before .before .before .before .before .before .before .before .before .before .before .before .before .before .before .before .before .before .before .before .before .args .doc)) (c .before .before .before .before .before .before .before .before .before .before .before .before .before .before .before .before .before .before .before .before .before .before .args .maturity)) _ _ (go _ (set-took (rest-self _ _) (c .before .before .before .before .before .before .before .before .before .before .before .before .before .before .before .before .before .before .before .before .keywords-set .ensures)) (pair-on _ _ _ (keyword-behind-took (ascii "attribute") (c .before .before .before .before .before .before .before .before .before .before .before .before .before .before .before .before .attribute .given .1) (c .before .before .before .before .before .before .before .before .before .before .before .before .before .before .before .before .before .before .keyword-behind .ensures)) (on _ (gap-at-took (c .before .before .before .before .before .before .before .before .before .before .before .before .gap .given .1) (c .before .before .before .before .before .before .before .before .before .before .before .before .before .before .gap-at .ensures)) (go _ (read-took (c .before .before .before .before .before .before .before .before .before .attribute-access .ensures) (c .before .before .before .before .before .before .before .access .given .1) attribute-access-onward (c .before .before .before .before .before .before .before .before .before .before .rest-at .ensures) refl) (on _ (blank-at-took (c .before .before .before .before .before .blank-at .ensures)) (lose _ _ (c .struct-field-lost .result) (c .before .before .before .before .rest-at2 .ensures) (struct-field-none parse-struct-field-on (c .before .before .before .before .rest-at2 .ensures) (c .before .before .before .parse-struct-field .ensures) (c .struct-field-lost .ensures) (c .before .enum-told4 .given .1)))))))))
 
 tag-behind-requires : tie.Need-tag-behind-requires
-tag-behind-requires c κs = omega (arith, (struct-field-took parse-struct-field-on (c .before .before .before .before .rest-at2 .ensures) (c .before .before .before .parse-struct-field .ensures) (c .before .r .given .1)) .up, (struct-field-took parse-struct-field-on (c .before .before .before .before .rest-at2 .ensures) (c .before .before .before .parse-struct-field .ensures) (c .before .r .given .1)) .inside, c .before .before .before .before .rest-at2 .ensures .from, c .before .before .before .before .before .before .before .before .before .before .before .before .before .before .before .before .before .before .before .before .before .before .pre)
+tag-behind-requires c κs = let t = struct-field-took parse-struct-field-on (c .before .before .before .before .rest-at2 .ensures) (c .before .before .before .parse-struct-field .ensures) (c .before .r .given .1) in omega (arith, t .up, t .inside, c .before .before .before .before .rest-at2 .ensures .from, c .before .before .before .before .before .before .before .before .before .before .before .before .before .before .before .before .before .before .before .before .before .before .pre)
 
 enum-known-semicolon : tie.Need-enum-known-semicolon
-enum-known-semicolon c = search needs
+enum-known-semicolon c = c .match5 .keys1
 
 enum-told-5 : tie.Need-enum-told-5
-enum-told-5 c = search needs
+enum-told-5 c = c .match5 .keys2
 
 step-lost-requires-3 : tie.Need-step-lost-requires-3
-step-lost-requires-3 c κs = search needs
+step-lost-requires-3 c κs = tt
 
 returns-5 : tie.Need-returns-5
 unfolding parse-attribute-after-doc-maturity

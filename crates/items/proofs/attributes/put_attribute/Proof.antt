@@ -8,7 +8,7 @@ use Rattle.items.proofs.writing.Laws.{documented-fits}
 use Rattle.items.proofs.attributes.Laws.{attribute-put}
 
 doc-bit-requires : tie.Need-doc-bit-requires
-doc-bit-requires c κs = search needs
+doc-bit-requires c κs = tt
 
 mul-t7 : tie.Need-mul-t7
 mul-t7 c = omega (arith, c .before .before .before .pre .1 .1 .flags)

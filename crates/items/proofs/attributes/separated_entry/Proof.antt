@@ -10,13 +10,13 @@ comma-requires : tie.Need-comma-requires
 comma-requires c κs = search needs
 
 enum-known-separator : tie.Need-enum-known-separator
-enum-known-separator c = search needs
+enum-known-separator c = c .match .keys1
 
 enum-told : tie.Need-enum-told
-enum-told c = search needs
+enum-told c = c .match .keys2
 
 step-lost-requires : tie.Need-step-lost-requires
-step-lost-requires c κs = search needs
+step-lost-requires c κs = tt
 
 returns : tie.Need-returns
 returns c = access-not separated-entry _ _ _ (begin separated-entry _ _ (fall _ _ (c .step-lost .result) (rest-self _ _) (step-lost (λ c. tt) (c .step-lost .ensures) (c .before .enum-told .given .1) _ _ _ (c .before .before .before .comma .ensures))))

@@ -15,13 +15,13 @@ choice-head-requires : tie.Need-choice-head-requires
 choice-head-requires c κs = search needs
 
 enum-known-head : tie.Need-enum-known-head
-enum-known-head c = search needs
+enum-known-head c = c .match .keys1
 
 enum-told : tie.Need-enum-told
-enum-told c = search needs
+enum-told c = c .match .keys2
 
 choice-head-lost-requires : tie.Need-choice-head-lost-requires
-choice-head-lost-requires c κs = search needs
+choice-head-lost-requires c κs = tt
 
 returns : tie.Need-returns
 returns c = headed-lost (choice-headed _) _ (read-lost (c .before .before .before .choice-head .ensures) (c .before .enum-told .given .1) choiceHeadLost (c .choice-head-lost .ensures) refl)
@@ -33,10 +33,10 @@ constant-entries-list-requires : tie.Need-constant-entries-list-requires
 constant-entries-list-requires c κs = search needs
 
 enum-known-run : tie.Need-enum-known-run
-enum-known-run c = search needs
+enum-known-run c = c .match2 .keys1
 
 enum-told-2 : tie.Need-enum-told-2
-enum-told-2 c = search needs
+enum-told-2 c = c .match2 .keys2
 
 returns-2 : tie.Need-returns-2
 returns-2 c = headed-pass (choice-headed _) (read-took (c .before .before .before .before .before .before .before .choice-head .ensures) (c .before .before .before .before .before .head .given .1) (choice-head-onward _) (rest-self _ _) refl) _ _ (c .enum-told2 .given .1) (c .before .before .before .rest-at .ensures) (count-lost _ (c .enum-told2 .given .1) _ _ (c .before .before .constant-entries-list .ensures))

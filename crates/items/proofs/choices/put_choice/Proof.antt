@@ -7,10 +7,10 @@ use Rattle.items.proofs.writing.Laws.{bit-small, documented-fits}
 use Rattle.items.proofs.choices.Laws.{choice-first-put}
 
 doc-bit-requires : tie.Need-doc-bit-requires
-doc-bit-requires c κs = search needs
+doc-bit-requires c κs = tt
 
 flag-requires : tie.Need-flag-requires
-flag-requires c κs = search needs
+flag-requires c κs = tt
 
 mul-t9 : tie.Need-mul-t9
 mul-t9 c = let z = bit-small (c .before .before .before .args .head .shared) in let y = c .flag .ensures in omega (arith, z, y)

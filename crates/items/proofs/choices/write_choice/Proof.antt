@@ -15,10 +15,10 @@ choice-head-requires : tie.Need-choice-head-requires
 choice-head-requires c κs = search needs
 
 enum-known-head : tie.Need-enum-known-head
-enum-known-head c = search needs
+enum-known-head c = c .match .keys1
 
 enum-told : tie.Need-enum-told
-enum-told c = search needs
+enum-told c = c .match .keys2
 
 returns : tie.Need-returns
 returns c = absurd (headed-found (choice-headed _) (frontOf (c .before .before .before .before .before .before .args .front)) (c .before .before .before .before .before .before .pre .1 .1) (c .enum-told .given .0 .0) (read-lost (c .before .before .choice-head .ensures) (c .enum-told .given .1) choiceHeadLost (sym (ap choiceHeadLost (c .enum-told .given .1))) refl))

@@ -11,13 +11,13 @@ tag-requires : tie.Need-tag-requires
 tag-requires c κs = search needs
 
 enum-known-brace : tie.Need-enum-known-brace
-enum-known-brace c = search needs
+enum-known-brace c = c .match .keys1
 
 enum-told : tie.Need-enum-told
-enum-told c = search needs
+enum-told c = c .match .keys2
 
 step-lost-requires : tie.Need-step-lost-requires
-step-lost-requires c κs = search needs
+step-lost-requires c κs = tt
 
 returns : tie.Need-returns
 returns c = record { counts = λ p. count-not _ _ _ _ (c .step-lost .result) (braces-unopened _ _ _ (c .step-lost .result) (step-lost _ (c .step-lost .ensures) (c .before .enum-told .given .1) _ _ _ (c .before .before .before .tag .ensures))) }
@@ -29,10 +29,10 @@ cluster-members-requires : tie.Need-cluster-members-requires
 cluster-members-requires c κs = omega (arith, c .rest-at .ensures .size, c .before .before .before .before .before .before .pre)
 
 enum-known-run : tie.Need-enum-known-run
-enum-known-run c = search needs
+enum-known-run c = c .match2 .keys1
 
 enum-told-2 : tie.Need-enum-told-2
-enum-told-2 c = search needs
+enum-told-2 c = c .match2 .keys2
 
 returns-2 : tie.Need-returns-2
 returns-2 c = record { counts = λ p. count-pass _ _ _ _ _ _ (c .enum-told2 .given .1) (braces-lost _ _ _ (tag-took (rest-self _ _) (c .before .before .before .before .before .brace .given .1) 123 (c .before .before .before .before .before .before .before .tag .ensures)) (c .enum-told2 .given .0 .0) (c .before .before .before .rest-at .ensures) (count-lost _ (c .enum-told2 .given .1) _ _ (c .before .before .cluster-members .ensures .counts p))) }
@@ -50,13 +50,13 @@ tag-requires-2 : tie.Need-tag-requires-2
 tag-requires-2 c κs = omega (arith, c .rest-at3 .ensures .size, c .before .before .before .before .before .before .before .before .before .before .before .before .before .pre)
 
 enum-known-close : tie.Need-enum-known-close
-enum-known-close c = search needs
+enum-known-close c = c .match3 .keys1
 
 enum-told-3 : tie.Need-enum-told-3
-enum-told-3 c = search needs
+enum-told-3 c = c .match3 .keys2
 
 step-lost-requires-2 : tie.Need-step-lost-requires-2
-step-lost-requires-2 c κs = search needs
+step-lost-requires-2 c κs = tt
 
 returns-3 : tie.Need-returns-3
 returns-3 c = record { counts = λ p. count-not _ _ _ _ (c .step-lost2 .result) (braces-unclosed _ _ _ (tag-took (rest-self _ _) (c .before .before .before .before .before .before .before .before .before .before .before .before .before .brace .given .1) 123 (c .before .before .before .before .before .before .before .before .before .before .before .before .before .before .before .tag .ensures)) ((count-took members-on (c .before .before .before .before .before .before .before .before .before .before .before .rest-at .ensures) (c .before .before .before .before .before .before .before .before .run .given .1) (c .before .before .before .before .before .before .before .before .before .before .cluster-members .ensures .counts 0)) .step) (blank-took (c .before .before .before .before .before .before .rest-at2 .ensures) (c .before .before .before .before .before .whitespace0 .ensures)) (c .step-lost2 .result) (c .before .before .before .before .rest-at3 .ensures) (step-lost _ (c .step-lost2 .ensures) (c .before .enum-told3 .given .1) _ _ _ (c .before .before .before .tag2 .ensures))) }

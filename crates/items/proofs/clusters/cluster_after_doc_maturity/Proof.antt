@@ -15,13 +15,13 @@ cluster-head-requires : tie.Need-cluster-head-requires
 cluster-head-requires c κs = search needs
 
 enum-known-head : tie.Need-enum-known-head
-enum-known-head c = search needs
+enum-known-head c = c .match .keys1
 
 enum-told : tie.Need-enum-told
-enum-told c = search needs
+enum-told c = c .match .keys2
 
 cluster-head-lost-requires : tie.Need-cluster-head-lost-requires
-cluster-head-lost-requires c κs = search needs
+cluster-head-lost-requires c κs = tt
 
 returns : tie.Need-returns
 returns c = headed-lost cluster-headed _ (read-lost (c .before .before .before .cluster-head .ensures) (c .before .enum-told .given .1) clusterHeadLost (c .cluster-head-lost .ensures) refl)
@@ -33,10 +33,10 @@ braced-members-requires : tie.Need-braced-members-requires
 braced-members-requires c κs = search needs
 
 enum-known-run : tie.Need-enum-known-run
-enum-known-run c = search needs
+enum-known-run c = c .match2 .keys1
 
 enum-told-2 : tie.Need-enum-told-2
-enum-told-2 c = search needs
+enum-told-2 c = c .match2 .keys2
 
 returns-2 : tie.Need-returns-2
 returns-2 c = headed-pass cluster-headed (read-took (c .before .before .before .before .before .before .before .cluster-head .ensures) (c .before .before .before .before .before .head .given .1) cluster-head-on (rest-self _ _) refl) _ _ (c .enum-told2 .given .1) (c .before .before .before .rest-at .ensures) (count-lost _ (c .enum-told2 .given .1) _ _ (c .before .before .braced-members .ensures .counts 0))

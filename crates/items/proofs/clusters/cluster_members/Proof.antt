@@ -22,16 +22,16 @@ parse-cluster-member-requires : tie.Need-parse-cluster-member-requires Inv-loop 
 parse-cluster-member-requires c κs = search needs
 
 enum-known-r : tie.Need-enum-known-r Inv-loop μ-loop
-enum-known-r c = search needs
+enum-known-r c = c .match .keys1
 
 enum-told : tie.Need-enum-told Inv-loop μ-loop
-enum-told c = search needs
+enum-told c = c .match .keys2
 
 count-lost-requires : tie.Need-count-lost-requires Inv-loop μ-loop
-count-lost-requires c κs = search needs
+count-lost-requires c κs = tt
 
 count-end-requires : tie.Need-count-end-requires Inv-loop μ-loop
-count-end-requires c κs = search needs
+count-end-requires c κs = tt
 
 returns : tie.Need-returns Inv-loop μ-loop
 returns c = members-end (c .before .before .before .before .before .before .loop .inv) (c .before .before .before .before .before .rest-at .ensures) (c .before .before .before .before .parse-cluster-member .ensures) _ _ (c .before .before .enum-told .given .1) (c .before .count-lost .ensures) (c .count-end .ensures)

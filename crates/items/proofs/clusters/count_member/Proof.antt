@@ -5,13 +5,13 @@ use Rattle.lexing.specs.answers.{docOf}
 use Rattle.items.proofs.clusters.Laws.{kind-counts, counts-revision, counts-bitmap, counts-enum, counts-struct, counts-attribute, counts-command, counts-event, counts-unknown}
 
 enum-told : tie.Need-enum-told
-enum-told c = search needs
+enum-told c = c .match .keys1
 
 count-revision-requires : tie.Need-count-revision-requires
 count-revision-requires c κs = search needs
 
 enum-told-2 : tie.Need-enum-told-2
-enum-told-2 c = search needs
+enum-told-2 c = c .match .keys2
 
 slice-aggregate-choice-after-doc-maturity : tie.Need-slice-aggregate-choice-after-doc-maturity
 slice-aggregate-choice-after-doc-maturity c = search needs
@@ -20,7 +20,7 @@ choice-after-doc-maturity-requires : tie.Need-choice-after-doc-maturity-requires
 choice-after-doc-maturity-requires c κs = search needs
 
 enum-told-3 : tie.Need-enum-told-3
-enum-told-3 c = search needs
+enum-told-3 c = c .match .keys3
 
 slice-aggregate-choice-after-doc-maturity-2 : tie.Need-slice-aggregate-choice-after-doc-maturity-2
 slice-aggregate-choice-after-doc-maturity-2 c = search needs
@@ -29,31 +29,31 @@ choice-after-doc-maturity-requires-2 : tie.Need-choice-after-doc-maturity-requir
 choice-after-doc-maturity-requires-2 c κs = search needs
 
 enum-told-4 : tie.Need-enum-told-4
-enum-told-4 c = search needs
+enum-told-4 c = c .match .keys4
 
 parse-struct-after-doc-maturity-requires : tie.Need-parse-struct-after-doc-maturity-requires
 parse-struct-after-doc-maturity-requires c κs = search needs
 
 enum-told-5 : tie.Need-enum-told-5
-enum-told-5 c = search needs
+enum-told-5 c = c .match .keys5
 
 count-attribute-requires : tie.Need-count-attribute-requires
 count-attribute-requires c κs = search needs
 
 enum-told-6 : tie.Need-enum-told-6
-enum-told-6 c = search needs
+enum-told-6 c = c .match .keys6
 
 count-command-requires : tie.Need-count-command-requires
 count-command-requires c κs = search needs
 
 enum-told-7 : tie.Need-enum-told-7
-enum-told-7 c = search needs
+enum-told-7 c = c .match .keys7
 
 parse-event-after-doc-maturity-requires : tie.Need-parse-event-after-doc-maturity-requires
 parse-event-after-doc-maturity-requires c κs = search needs
 
 enum-told-8 : tie.Need-enum-told-8
-enum-told-8 c = search needs
+enum-told-8 c = c .match .keys8
 
 returns : tie.Need-returns
 returns c = kind-counts (docOf (c .before .before .before .before .args .doc)) (c .before .before .before .before .args .maturity) _ _ (c .before .enum-told .given .1) (counts-revision (docOf (c .before .before .before .before .args .doc)) (c .before .before .before .before .args .maturity) _ _ (c .count-revision .ensures))

@@ -10,13 +10,13 @@ parse-revision-requires : tie.Need-parse-revision-requires
 parse-revision-requires c κs = search needs
 
 enum-known-r : tie.Need-enum-known-r
-enum-known-r c = search needs
+enum-known-r c = c .match .keys1
 
 enum-told : tie.Need-enum-told
-enum-told c = search needs
+enum-told c = c .match .keys2
 
 number-lost-requires : tie.Need-number-lost-requires
-number-lost-requires c κs = search needs
+number-lost-requires c κs = tt
 
 returns : tie.Need-returns
 returns c = revision-lost (c .number-lost .result) (read-lost (c .before .before .before .parse-revision .ensures) (c .before .enum-told .given .1) numberLost (c .number-lost .ensures) refl)

@@ -7,13 +7,13 @@ keyword-requires : tie.Need-keyword-requires
 keyword-requires c κs = search needs
 
 enum-told : tie.Need-enum-told
-enum-told c = search needs
+enum-told c = c .match .keys1
 
 returns : tie.Need-returns
 returns c = either-first _ _ _ _ (c .before .before .keyword .ensures) (c .enum-told .given .1)
 
 enum-told-2 : tie.Need-enum-told-2
-enum-told-2 c = search needs
+enum-told-2 c = c .match .keys2
 
 keyword-requires-2 : tie.Need-keyword-requires-2
 keyword-requires-2 c κs = search needs

@@ -11,10 +11,10 @@ keyword-requires : tie.Need-keyword-requires
 keyword-requires c κs = search needs
 
 enum-known-word : tie.Need-enum-known-word
-enum-known-word c = search needs
+enum-known-word c = c .match .keys1
 
 enum-told : tie.Need-enum-told
-enum-told c = search needs
+enum-told c = c .match .keys2
 
 word-kind-requires : tie.Need-word-kind-requires
 word-kind-requires c κs = (c .before .before .before .before .before .pre .0, (c .before .before .before .before .before .pre .1, keyword-absent (ascii "shared") _ _ _ (c .before .before .keyword .ensures) _ (c .enum-told .given .1)))

@@ -11,7 +11,7 @@ count-member-requires : tie.Need-count-member-requires
 count-member-requires c κs = search needs
 
 raise-requires : tie.Need-raise-requires
-raise-requires c κs = search needs
+raise-requires c κs = tt
 
 returns : tie.Need-returns
 returns c = member-counted (docOf (c .before .before .before .before .args .doc)) (c .before .before .before .before .args .maturity) _ _ (c .before .before .member-kind .result) (c .before .count-member .result) _ (c .before .before .member-kind .ensures) (c .before .count-member .ensures) (c .raise .ensures)

@@ -8,7 +8,7 @@ use Rattle.items.proofs.writing.Laws.{documented-fits, front-kept}
 use Rattle.items.proofs.clusters.Whole.{cluster-first-put}
 
 doc-bit-requires : tie.Need-doc-bit-requires
-doc-bit-requires c κs = search needs
+doc-bit-requires c κs = tt
 
 sub-put-word : tie.Need-sub-put-word
 sub-put-word c = search needs

@@ -9,22 +9,22 @@ use Rattle.items.proofs.writing.Laws.{written-same}
 use Rattle.items.proofs.clusters.Whole.{bitmaps, enums, structs, attributes, commands, events, kind-room, kind-written, revision-written, revision-found, unknown-found}
 
 enum-told : tie.Need-enum-told
-enum-told c = search needs
+enum-told c = c .match .keys1
 
 parse-revision-requires : tie.Need-parse-revision-requires
 parse-revision-requires c κs = search needs
 
 enum-known-r : tie.Need-enum-known-r
-enum-known-r c = search needs
+enum-known-r c = c .match2 .keys1
 
 enum-told-2 : tie.Need-enum-told-2
-enum-told-2 c = search needs
+enum-told-2 c = c .match2 .keys2
 
 returns : tie.Need-returns
 returns c = absurd (revision-found (docOf (c .before .before .before .before .before .before .before .args .doc)) (c .before .before .before .before .before .before .before .args .maturity) (c .before .before .before .enum-told .given .1) _ _ (c .before .before .before .before .before .before .before .pre .1 .1 .1) (c .enum-told2 .given .0 .0) (read-lost (c .before .before .parse-revision .ensures) (c .enum-told2 .given .1) numberLost (sym (ap numberLost (c .enum-told2 .given .1))) refl))
 
 enum-told-3 : tie.Need-enum-told-3
-enum-told-3 c = search needs
+enum-told-3 c = c .match .keys2
 
 slice-aggregate-write-choice : tie.Need-slice-aggregate-write-choice
 slice-aggregate-write-choice c = search needs
@@ -33,10 +33,10 @@ write-choice-requires : tie.Need-write-choice-requires
 write-choice-requires c κs = (c .before .before .before .before .before .before .pre .0, (record { place-fits = omega arith; maturity-fits = c .before .before .before .before .before .before .pre .1 .1 .0; doc-fits = c .before .before .before .before .before .before .pre .1 .0 }, kind-room (bitmaps (docOf (c .before .before .before .before .before .before .args .doc)) (c .before .before .before .before .before .before .args .maturity)) (c .before .before .enum-told3 .given .1) _ _ (c .before .before .before .before .before .before .pre .1 .1 .1)))
 
 kept-requires : tie.Need-kept-requires
-kept-requires c κs = search needs
+kept-requires c κs = tt
 
 enum-told-4 : tie.Need-enum-told-4
-enum-told-4 c = search needs
+enum-told-4 c = c .match .keys3
 
 slice-aggregate-write-choice-2 : tie.Need-slice-aggregate-write-choice-2
 slice-aggregate-write-choice-2 c = search needs
@@ -45,46 +45,46 @@ write-choice-requires-2 : tie.Need-write-choice-requires-2
 write-choice-requires-2 c κs = (c .before .before .before .before .before .before .pre .0, (record { place-fits = omega arith; maturity-fits = c .before .before .before .before .before .before .pre .1 .1 .0; doc-fits = c .before .before .before .before .before .before .pre .1 .0 }, kind-room (enums (docOf (c .before .before .before .before .before .before .args .doc)) (c .before .before .before .before .before .before .args .maturity)) (c .before .before .enum-told4 .given .1) _ _ (c .before .before .before .before .before .before .pre .1 .1 .1)))
 
 kept-requires-2 : tie.Need-kept-requires-2
-kept-requires-2 c κs = search needs
+kept-requires-2 c κs = tt
 
 enum-told-5 : tie.Need-enum-told-5
-enum-told-5 c = search needs
+enum-told-5 c = c .match .keys4
 
 write-struct-requires : tie.Need-write-struct-requires
 write-struct-requires c κs = (c .before .before .before .before .before .pre .0, (record { place-fits = omega arith; maturity-fits = c .before .before .before .before .before .pre .1 .1 .0; doc-fits = c .before .before .before .before .before .pre .1 .0 }, kind-room (structs (docOf (c .before .before .before .before .before .args .doc)) (c .before .before .before .before .before .args .maturity)) (c .before .enum-told5 .given .1) _ _ (c .before .before .before .before .before .pre .1 .1 .1)))
 
 kept-requires-3 : tie.Need-kept-requires-3
-kept-requires-3 c κs = search needs
+kept-requires-3 c κs = tt
 
 enum-told-6 : tie.Need-enum-told-6
-enum-told-6 c = search needs
+enum-told-6 c = c .match .keys5
 
 write-attribute-requires : tie.Need-write-attribute-requires
 write-attribute-requires c κs = (c .before .before .before .before .before .pre .0, (record { place-fits = omega arith; maturity-fits = c .before .before .before .before .before .pre .1 .1 .0; doc-fits = c .before .before .before .before .before .pre .1 .0 }, kind-room (attributes (docOf (c .before .before .before .before .before .args .doc)) (c .before .before .before .before .before .args .maturity)) (c .before .enum-told6 .given .1) _ _ (c .before .before .before .before .before .pre .1 .1 .1)))
 
 kept-requires-4 : tie.Need-kept-requires-4
-kept-requires-4 c κs = search needs
+kept-requires-4 c κs = tt
 
 enum-told-7 : tie.Need-enum-told-7
-enum-told-7 c = search needs
+enum-told-7 c = c .match .keys6
 
 write-command-requires : tie.Need-write-command-requires
 write-command-requires c κs = (c .before .before .before .before .before .pre .0, (record { place-fits = omega arith; maturity-fits = c .before .before .before .before .before .pre .1 .1 .0; doc-fits = c .before .before .before .before .before .pre .1 .0 }, kind-room (commands (docOf (c .before .before .before .before .before .args .doc)) (c .before .before .before .before .before .args .maturity)) (c .before .enum-told7 .given .1) _ _ (c .before .before .before .before .before .pre .1 .1 .1)))
 
 kept-requires-5 : tie.Need-kept-requires-5
-kept-requires-5 c κs = search needs
+kept-requires-5 c κs = tt
 
 enum-told-8 : tie.Need-enum-told-8
-enum-told-8 c = search needs
+enum-told-8 c = c .match .keys7
 
 write-event-requires : tie.Need-write-event-requires
 write-event-requires c κs = (c .before .before .before .before .before .pre .0, (record { place-fits = omega arith; maturity-fits = c .before .before .before .before .before .pre .1 .1 .0; doc-fits = c .before .before .before .before .before .pre .1 .0 }, kind-room (events (docOf (c .before .before .before .before .before .args .doc)) (c .before .before .before .before .before .args .maturity)) (c .before .enum-told8 .given .1) _ _ (c .before .before .before .before .before .pre .1 .1 .1)))
 
 kept-requires-6 : tie.Need-kept-requires-6
-kept-requires-6 c κs = search needs
+kept-requires-6 c κs = tt
 
 enum-told-9 : tie.Need-enum-told-9
-enum-told-9 c = search needs
+enum-told-9 c = c .match .keys8
 
 returns-2 : tie.Need-returns-2
 returns-2 c = revision-written (docOf (c .before .before .before .before .before .before .before .before .args .doc)) (c .before .before .before .before .before .before .before .before .args .maturity) (c .before .before .before .before .enum-told .given .1) _ _ (c .before .before .before .before .before .before .before .before .args .last) (c .before .before .before .parse-revision .ensures) (c .before .r .given .1)

@@ -17,14 +17,14 @@ keyword-requires : tie.Need-keyword-requires
 keyword-requires c κs = search needs
 
 enum-known-ram : tie.Need-enum-known-ram
-enum-known-ram c = search needs
+enum-known-ram c = c .match .keys1
 
 returns : tie.Need-returns
 unfolding attribute-handling-type
 returns c = read-is refl (or-here _ _ _ _ _ _ _ (keyword-value (ascii "ram") 0 _ _ _ (c .before .before .before .keyword .ensures) _ (c .before .ram .given .1))) (omega arith)
 
 enum-told : tie.Need-enum-told
-enum-told c = search needs
+enum-told c = c .match .keys2
 
 slice-aggregate-keyword-2 : tie.Need-slice-aggregate-keyword-2
 slice-aggregate-keyword-2 c = search needs
@@ -33,14 +33,14 @@ keyword-requires-2 : tie.Need-keyword-requires-2
 keyword-requires-2 c κs = search needs
 
 enum-known-callback : tie.Need-enum-known-callback
-enum-known-callback c = search needs
+enum-known-callback c = c .match2 .keys1
 
 returns-2 : tie.Need-returns-2
 unfolding attribute-handling-type
 returns-2 c = read-is refl (or-past _ _ _ _ _ (keyword-not (ascii "ram") 0 _ _ _ (c .before .before .before .before .before .before .before .keyword .ensures) _ (c .before .before .before .before .before .enum-told .given .1)) tt (or-here _ _ _ _ _ _ _ (keyword-value (ascii "callback") 1 _ _ _ (c .before .before .before .keyword2 .ensures) _ (c .before .callback .given .1)))) (omega arith)
 
 enum-told-2 : tie.Need-enum-told-2
-enum-told-2 c = search needs
+enum-told-2 c = c .match2 .keys2
 
 slice-aggregate-keyword-3 : tie.Need-slice-aggregate-keyword-3
 slice-aggregate-keyword-3 c = search needs
@@ -49,14 +49,14 @@ keyword-requires-3 : tie.Need-keyword-requires-3
 keyword-requires-3 c κs = search needs
 
 enum-known-persist : tie.Need-enum-known-persist
-enum-known-persist c = search needs
+enum-known-persist c = c .match3 .keys1
 
 returns-3 : tie.Need-returns-3
 unfolding attribute-handling-type
 returns-3 c = read-is refl (or-past _ _ _ _ _ (keyword-not (ascii "ram") 0 _ _ _ (c .before .before .before .before .before .before .before .before .before .before .before .keyword .ensures) _ (c .before .before .before .before .before .before .before .before .before .enum-told .given .1)) tt (or-past _ _ _ _ _ (keyword-not (ascii "callback") 1 _ _ _ (c .before .before .before .before .before .before .before .keyword2 .ensures) _ (c .before .before .before .before .before .enum-told2 .given .1)) tt (keyword-value (ascii "persist") 2 _ _ _ (c .before .before .before .keyword3 .ensures) _ (c .before .persist .given .1)))) (omega arith)
 
 enum-told-3 : tie.Need-enum-told-3
-enum-told-3 c = search needs
+enum-told-3 c = c .match3 .keys2
 
 returns-4 : tie.Need-returns-4
 unfolding attribute-handling-type

@@ -13,10 +13,10 @@ tag-requires : tie.Need-tag-requires
 tag-requires c κs = search needs
 
 enum-known-brace : tie.Need-enum-known-brace
-enum-known-brace c = search needs
+enum-known-brace c = c .match .keys1
 
 enum-told : tie.Need-enum-told
-enum-told c = search needs
+enum-told c = c .match .keys2
 
 returns : tie.Need-returns
 returns c = absurd (placed-open part-tries (c .before .before .before .before .before .pre .1) (c .enum-told .given .0 .0) (told-not (λ c. tt) _ _ _ _ _ (c .enum-told .given .1) (c .before .before .tag .ensures)))

@@ -15,13 +15,13 @@ instantiation-head-requires : tie.Need-instantiation-head-requires
 instantiation-head-requires c κs = search needs
 
 enum-known-head : tie.Need-enum-known-head
-enum-known-head c = search needs
+enum-known-head c = c .match .keys1
 
 enum-told : tie.Need-enum-told
-enum-told c = search needs
+enum-told c = c .match .keys2
 
 named-lost-requires : tie.Need-named-lost-requires
-named-lost-requires c κs = search needs
+named-lost-requires c κs = tt
 
 returns : tie.Need-returns
 returns c = headed-lost instantiation-headed _ (read-lost (c .before .before .before .instantiation-head .ensures) (c .before .enum-told .given .1) namedLost (c .named-lost .ensures) refl) .counts tt
@@ -33,10 +33,10 @@ instances-requires : tie.Need-instances-requires
 instances-requires c κs = search needs
 
 enum-known-run : tie.Need-enum-known-run
-enum-known-run c = search needs
+enum-known-run c = c .match2 .keys1
 
 enum-told-2 : tie.Need-enum-told-2
-enum-told-2 c = search needs
+enum-told-2 c = c .match2 .keys2
 
 returns-2 : tie.Need-returns-2
 returns-2 c = headed-pass instantiation-headed (named-took (c .before .before .before .before .before .before .before .instantiation-head .ensures) (c .before .before .before .before .before .head .given .1) instantiation-head-on (rest-self _ _)) _ _ (c .enum-told2 .given .1) (c .before .before .before .rest-at .ensures) (count-lost _ (c .enum-told2 .given .1) _ _ (c .before .before .instances .ensures)) .counts tt

@@ -34,19 +34,19 @@ part-tries-requires : tie.Need-part-tries-requires Inv-loop μ-loop
 part-tries-requires c κs = search needs
 
 enum-known-r : tie.Need-enum-known-r Inv-loop μ-loop
-enum-known-r c = search needs
+enum-known-r c = c .match .keys1
 
 enum-told : tie.Need-enum-told Inv-loop μ-loop
-enum-told c = search needs
+enum-told c = c .match .keys2
 
 tried-lost-requires : tie.Need-tried-lost-requires Inv-loop μ-loop
-tried-lost-requires c κs = search needs
+tried-lost-requires c κs = tt
 
 further-requires : tie.Need-further-requires Inv-loop μ-loop
-further-requires c κs = search needs
+further-requires c κs = tt
 
 tried-end-requires : tie.Need-tried-end-requires Inv-loop μ-loop
-tried-end-requires c κs = search needs
+tried-end-requires c κs = tt
 
 returns : tie.Need-returns Inv-loop μ-loop
 returns c = seeking-ends (each-elementwise part-records) part-tries-inside part-tries-consumes (c .before .before .before .before .before .before .before .before .before .loop .inv) (blank-took (c .before .before .before .before .before .before .before .before .rest-at .ensures) (c .before .before .before .before .before .before .before .whitespace0 .ensures)) (c .before .before .tried-lost .result) (c .before .before .before .before .before .before .rest-at2 .ensures) (weighed-lost (c .before .before .tried-lost .ensures) (c .before .before .before .enum-told .given .1) _ _ (c .before .before .before .before .before .part-tries .ensures)) (c .before .further .ensures) (c .tried-end .ensures)

@@ -14,16 +14,16 @@ tag-requires : tie.Need-tag-requires
 tag-requires c κs = search needs
 
 enum-known-close : tie.Need-enum-known-close
-enum-known-close c = search needs
+enum-known-close c = c .match .keys1
 
 enum-told : tie.Need-enum-told
-enum-told c = search needs
+enum-told c = c .match .keys2
 
 step-lost-requires : tie.Need-step-lost-requires
-step-lost-requires c κs = search needs
+step-lost-requires c κs = tt
 
 further-requires : tie.Need-further-requires
-further-requires c κs = search needs
+further-requires c κs = tt
 
 returns : tie.Need-returns
 returns c = deep-missing _ (blank-took (rest-self _ _) (c .before .before .before .before .before .before .whitespace0 .ensures)) (c .before .step-lost .result) (c .before .before .before .before .before .rest-at .ensures) (step-lost (λ c. tt) (c .before .step-lost .ensures) (c .before .before .enum-told .given .1) _ _ _ (c .before .before .before .before .tag .ensures)) (c .further .ensures)

@@ -1,4 +1,3 @@
-use borrow.Author.Needs.{needs}
 use Rattle.items.proofs.endpoints.default_number.Statement.{statement}
 use Rattle.items.proofs.endpoints.default_number.Tie as tie
 use mathlib.Core.Path.{sym, ap, _∙_}
@@ -7,13 +6,13 @@ use Rattle.items.specs.answers.endpoints.{defaultOf}
 use Rattle.items.specs.declared.endpoints.Default.{Default}
 
 enum-told : tie.Need-enum-told
-enum-told c = search needs
+enum-told c = c .match .keys1
 
 enum-known-d : tie.Need-enum-known-d
-enum-known-d c = search needs
+enum-known-d c = c .match .keys2
 
 value-number-requires : tie.Need-value-number-requires
-value-number-requires c κs = search needs
+value-number-requires c κs = tt
 
 returns : tie.Need-returns
 unfolding default-number

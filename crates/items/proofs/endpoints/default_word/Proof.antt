@@ -1,4 +1,3 @@
-use borrow.Author.Needs.{needs}
 use Rattle.items.proofs.endpoints.default_word.Statement.{statement}
 use Rattle.items.proofs.endpoints.default_word.Tie as tie
 use mathlib.Core.Path.{sym, ap, _∙_}
@@ -9,10 +8,10 @@ use Rattle.items.specs.declared.endpoints.Default.{Default}
 use Rattle.items.proofs.endpoints.Laws.{default-fits}
 
 enum-told : tie.Need-enum-told
-enum-told c = search needs
+enum-told c = c .match .keys1
 
 enum-known-d : tie.Need-enum-known-d
-enum-known-d c = search needs
+enum-known-d c = c .match .keys2
 
 value-word-requires : tie.Need-value-word-requires
 value-word-requires c κs = default-fits _ (c .before .d .given .1) (c .before .before .before .pre)

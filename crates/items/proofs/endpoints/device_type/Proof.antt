@@ -22,64 +22,64 @@ name-behind-requires : tie.Need-name-behind-requires
 name-behind-requires c κs = search needs
 
 enum-known-named : tie.Need-enum-known-named
-enum-known-named c = search needs
+enum-known-named c = c .match .keys1
 
 enum-told : tie.Need-enum-told
-enum-told c = search needs
+enum-told c = c .match .keys2
 
 named-lost-requires : tie.Need-named-lost-requires
-named-lost-requires c κs = search needs
+named-lost-requires c κs = tt
 
 returns : tie.Need-returns
 unfolding device-type
 returns c = read-not _ refl tt (begin (device-type) _ _ (lose _ _ (c .named-lost .result) (rest-self _ _) (read-lost (c .before .before .before .name-behind .ensures) (c .before .enum-told .given .1) namedLost (c .named-lost .ensures) refl)))
 
 tag-behind-requires : tie.Need-tag-behind-requires
-tag-behind-requires c κs = omega (arith, (named-took (c .before .before .before .name-behind .ensures) (c .before .named .given .1) (name-behind-on (ascii "device") (ascii "type")) (rest-self _ _)) .up, (named-took (c .before .before .before .name-behind .ensures) (c .before .named .given .1) (name-behind-on (ascii "device") (ascii "type")) (rest-self _ _)) .inside, c .before .before .before .before .before .before .before .pre)
+tag-behind-requires c κs = let t = named-took (c .before .before .before .name-behind .ensures) (c .before .named .given .1) (name-behind-on (ascii "device") (ascii "type")) (rest-self _ _) in omega (arith, t .up, t .inside, c .before .before .before .before .before .before .before .pre)
 
 enum-known-equals : tie.Need-enum-known-equals
-enum-known-equals c = search needs
+enum-known-equals c = c .match2 .keys1
 
 enum-told-2 : tie.Need-enum-told-2
-enum-told-2 c = search needs
+enum-told-2 c = c .match2 .keys2
 
 step-lost-requires : tie.Need-step-lost-requires
-step-lost-requires c κs = search needs
+step-lost-requires c κs = tt
 
 returns-2 : tie.Need-returns-2
 unfolding device-type
 returns-2 c = read-not _ refl tt (begin (device-type) _ _ (go _ (named-took (c .before .before .before .before .before .before .before .name-behind .ensures) (c .before .before .before .before .before .named .given .1) (name-behind-on (ascii "device") (ascii "type")) (rest-self _ _)) (pair-fall _ _ _ (c .step-lost .result) (c .before .before .before .tag-behind .ensures .at) (skips-lost (c .step-lost .ensures) (c .before .enum-told2 .given .1) (c .before .before .before .tag-behind .ensures)))))
 
 integer-behind-requires : tie.Need-integer-behind-requires
-integer-behind-requires c κs = omega (arith, (tag-behind-took 61 (c .before .equals .given .1) (c .before .before .before .tag-behind .ensures)) .up, (tag-behind-took 61 (c .before .equals .given .1) (c .before .before .before .tag-behind .ensures)) .inside, c .before .before .before .tag-behind .ensures .at .from, c .before .before .before .before .before .before .before .before .before .before .before .pre)
+integer-behind-requires c κs = let t = tag-behind-took 61 (c .before .equals .given .1) (c .before .before .before .tag-behind .ensures) in omega (arith, t .up, t .inside, c .before .before .before .tag-behind .ensures .at .from, c .before .before .before .before .before .before .before .before .before .before .before .pre)
 
 enum-known-number : tie.Need-enum-known-number
-enum-known-number c = search needs
+enum-known-number c = c .match3 .keys1
 
 enum-told-3 : tie.Need-enum-told-3
-enum-told-3 c = search needs
+enum-told-3 c = c .match3 .keys2
 
 number-lost-requires : tie.Need-number-lost-requires
-number-lost-requires c κs = search needs
+number-lost-requires c κs = tt
 
 returns-3 : tie.Need-returns-3
 unfolding device-type
 returns-3 c = read-not _ refl tt (begin (device-type) _ _ (go _ (named-took (c .before .before .before .before .before .before .before .before .before .before .before .name-behind .ensures) (c .before .before .before .before .before .before .before .before .before .named .given .1) (name-behind-on (ascii "device") (ascii "type")) (rest-self _ _)) (pair-on _ _ _ (tag-behind-took 61 (c .before .before .before .before .before .equals .given .1) (c .before .before .before .before .before .before .before .tag-behind .ensures)) (pair-lose _ _ _ (c .number-lost .result) (c .before .before .before .integer-behind .ensures .at) (integer-behind-lost (c .before .before .before .integer-behind .ensures) (c .number-lost .ensures) (c .before .enum-told3 .given .1))))))
 
 rest-at-requires : tie.Need-rest-at-requires
-rest-at-requires c κs = omega (arith, (integer-behind-took (c .before .before .before .integer-behind .ensures) (c .before .number .given .1)) .up, (integer-behind-took (c .before .before .before .integer-behind .ensures) (c .before .number .given .1)) .inside, c .before .before .before .integer-behind .ensures .at .from)
+rest-at-requires c κs = let t = integer-behind-took (c .before .before .before .integer-behind .ensures) (c .before .number .given .1) in omega (arith, t .up, t .inside, c .before .before .before .integer-behind .ensures .at .from)
 
 device-version-requires : tie.Need-device-version-requires
 device-version-requires c κs = omega (arith, c .rest-at .ensures .size, c .before .before .before .before .before .before .before .before .before .before .before .before .before .before .before .before .pre)
 
 enum-known-last : tie.Need-enum-known-last
-enum-known-last c = search needs
+enum-known-last c = c .match4 .keys1
 
 enum-told-4 : tie.Need-enum-told-4
-enum-told-4 c = search needs
+enum-told-4 c = c .match4 .keys2
 
 number-lost-requires-2 : tie.Need-number-lost-requires-2
-number-lost-requires-2 c κs = search needs
+number-lost-requires-2 c κs = tt
 
 returns-4 : tie.Need-returns-4
 unfolding device-type

@@ -12,13 +12,13 @@ tag-behind-requires : tie.Need-tag-behind-requires
 tag-behind-requires c κs = omega (arith, c .before .pre)
 
 enum-known-comma : tie.Need-enum-known-comma
-enum-known-comma c = search needs
+enum-known-comma c = c .match .keys1
 
 enum-told : tie.Need-enum-told
-enum-told c = search needs
+enum-told c = c .match .keys2
 
 step-lost-requires : tie.Need-step-lost-requires
-step-lost-requires c κs = search needs
+step-lost-requires c κs = tt
 
 returns : tie.Need-returns
 unfolding device-version
@@ -28,48 +28,48 @@ slice-aggregate-keyword-behind : tie.Need-slice-aggregate-keyword-behind
 slice-aggregate-keyword-behind c = search needs
 
 keyword-behind-requires : tie.Need-keyword-behind-requires
-keyword-behind-requires c κs = omega (arith, (tag-behind-took 44 (c .before .before .comma .given .1) (c .before .before .before .before .tag-behind .ensures)) .up, (tag-behind-took 44 (c .before .before .comma .given .1) (c .before .before .before .before .tag-behind .ensures)) .inside, c .before .before .before .before .before .before .pre)
+keyword-behind-requires c κs = let t = tag-behind-took 44 (c .before .before .comma .given .1) (c .before .before .before .before .tag-behind .ensures) in omega (arith, t .up, t .inside, c .before .before .before .before .before .before .pre)
 
 enum-known-key : tie.Need-enum-known-key
-enum-known-key c = search needs
+enum-known-key c = c .match2 .keys1
 
 enum-told-2 : tie.Need-enum-told-2
-enum-told-2 c = search needs
+enum-told-2 c = c .match2 .keys2
 
 step-lost-requires-2 : tie.Need-step-lost-requires-2
-step-lost-requires-2 c κs = search needs
+step-lost-requires-2 c κs = tt
 
 returns-2 : tie.Need-returns-2
 unfolding device-version
 returns-2 c = (begin (device-version) _ _ (pair-on _ _ _ (tag-behind-took 44 (c .before .before .before .before .before .before .comma .given .1) (c .before .before .before .before .before .before .before .before .tag-behind .ensures)) (pair-fall _ _ _ (c .step-lost2 .result) (c .before .before .before .keyword-behind .ensures .at) (skips-lost (c .step-lost2 .ensures) (c .before .enum-told2 .given .1) (c .before .before .before .keyword-behind .ensures)))))
 
 integer-behind-requires : tie.Need-integer-behind-requires
-integer-behind-requires c κs = omega (arith, (keyword-behind-took (ascii "version") (c .before .key .given .1) (c .before .before .before .keyword-behind .ensures)) .up, (keyword-behind-took (ascii "version") (c .before .key .given .1) (c .before .before .before .keyword-behind .ensures)) .inside, c .before .before .before .keyword-behind .ensures .at .from, c .before .before .before .before .before .before .before .before .before .before .pre)
+integer-behind-requires c κs = let t = keyword-behind-took (ascii "version") (c .before .key .given .1) (c .before .before .before .keyword-behind .ensures) in omega (arith, t .up, t .inside, c .before .before .before .keyword-behind .ensures .at .from, c .before .before .before .before .before .before .before .before .before .before .pre)
 
 enum-known-number : tie.Need-enum-known-number
-enum-known-number c = search needs
+enum-known-number c = c .match3 .keys1
 
 enum-told-3 : tie.Need-enum-told-3
-enum-told-3 c = search needs
+enum-told-3 c = c .match3 .keys2
 
 number-lost-requires : tie.Need-number-lost-requires
-number-lost-requires c κs = search needs
+number-lost-requires c κs = tt
 
 returns-3 : tie.Need-returns-3
 unfolding device-version
 returns-3 c = (begin (device-version) _ _ (pair-on _ _ _ (tag-behind-took 44 (c .before .before .before .before .before .before .before .before .before .before .comma .given .1) (c .before .before .before .before .before .before .before .before .before .before .before .before .tag-behind .ensures)) (pair-on _ _ _ (keyword-behind-took (ascii "version") (c .before .before .before .before .before .key .given .1) (c .before .before .before .before .before .before .before .keyword-behind .ensures)) (pair-lose _ _ _ (c .number-lost .result) (c .before .before .before .integer-behind .ensures .at) (integer-behind-lost (c .before .before .before .integer-behind .ensures) (c .number-lost .ensures) (c .before .enum-told3 .given .1))))))
 
 tag-behind-requires-2 : tie.Need-tag-behind-requires-2
-tag-behind-requires-2 c κs = omega (arith, (integer-behind-took (c .before .before .before .integer-behind .ensures) (c .before .number .given .1)) .up, (integer-behind-took (c .before .before .before .integer-behind .ensures) (c .before .number .given .1)) .inside, c .before .before .before .integer-behind .ensures .at .from, c .before .before .before .before .before .before .before .before .before .before .before .before .before .before .pre)
+tag-behind-requires-2 c κs = let t = integer-behind-took (c .before .before .before .integer-behind .ensures) (c .before .number .given .1) in omega (arith, t .up, t .inside, c .before .before .before .integer-behind .ensures .at .from, c .before .before .before .before .before .before .before .before .before .before .before .before .before .before .pre)
 
 enum-known-semicolon : tie.Need-enum-known-semicolon
-enum-known-semicolon c = search needs
+enum-known-semicolon c = c .match4 .keys1
 
 enum-told-4 : tie.Need-enum-told-4
-enum-told-4 c = search needs
+enum-told-4 c = c .match4 .keys2
 
 step-lost-requires-3 : tie.Need-step-lost-requires-3
-step-lost-requires-3 c κs = search needs
+step-lost-requires-3 c κs = tt
 
 returns-4 : tie.Need-returns-4
 unfolding device-version

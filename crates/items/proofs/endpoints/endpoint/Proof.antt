@@ -12,13 +12,13 @@ endpoint-head-requires : tie.Need-endpoint-head-requires
 endpoint-head-requires c κs = search needs
 
 enum-known-head : tie.Need-enum-known-head
-enum-known-head c = search needs
+enum-known-head c = c .match .keys1
 
 enum-told : tie.Need-enum-told
-enum-told c = search needs
+enum-told c = c .match .keys2
 
 number-lost-requires : tie.Need-number-lost-requires
-number-lost-requires c κs = search needs
+number-lost-requires c κs = tt
 
 returns : tie.Need-returns
 returns c = headed-lost endpoint-headed _ (integer-lost (c .number-lost .ensures) (c .before .enum-told .given .1) _ _ _ (c .before .before .before .endpoint-head .ensures)) .counts tt
@@ -30,10 +30,10 @@ parts-requires : tie.Need-parts-requires
 parts-requires c κs = search needs
 
 enum-known-run : tie.Need-enum-known-run
-enum-known-run c = search needs
+enum-known-run c = c .match2 .keys1
 
 enum-told-2 : tie.Need-enum-told-2
-enum-told-2 c = search needs
+enum-told-2 c = c .match2 .keys2
 
 returns-2 : tie.Need-returns-2
 returns-2 c = headed-pass endpoint-headed (number-took endpoint-head-on (rest-self _ _) (c .before .before .before .before .before .head .given .1) (c .before .before .before .before .before .before .before .endpoint-head .ensures)) _ _ (c .enum-told2 .given .1) (c .before .before .before .rest-at .ensures) (count-lost _ (c .enum-told2 .given .1) _ _ (c .before .before .parts .ensures)) .counts tt

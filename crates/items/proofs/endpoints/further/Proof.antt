@@ -1,4 +1,3 @@
-use borrow.Author.Needs.{needs}
 use Rattle.items.proofs.endpoints.further.Statement.{statement}
 use Rattle.items.proofs.endpoints.further.Tie as tie
 use mathlib.Core.Path.{sym, ap, _∙_}
@@ -7,13 +6,13 @@ use Rattle.lexing.specs.declared.answers.Lost.the-variants.{Fail}
 use Rattle.items.specs.inner.endpoints.{furtherLost}
 
 enum-known-l : tie.Need-enum-known-l
-enum-known-l c = search needs
+enum-known-l c = c .match .keys1
 
 furthest-requires : tie.Need-furthest-requires
-furthest-requires c κs = search needs
+furthest-requires c κs = tt
 
 enum-known-l-2 : tie.Need-enum-known-l-2
-enum-known-l-2 c = search needs
+enum-known-l-2 c = c .match .keys2
 
 returns : tie.Need-returns
 returns c = ap Fail (c .furthest .ensures) ∙ sym (ap (λ (x : Lost). furtherLost x (c .before .before .before .before .args .q)) (c .before .before .l .given .1))

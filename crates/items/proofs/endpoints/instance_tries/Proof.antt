@@ -18,26 +18,26 @@ attribute-instantiation-requires : tie.Need-attribute-instantiation-requires
 attribute-instantiation-requires c κs = search needs
 
 enum-known-attribute : tie.Need-enum-known-attribute
-enum-known-attribute c = search needs
+enum-known-attribute c = c .match .keys1
 
 returns : tie.Need-returns
 unfolding instance-tries
 returns c = try-is attribute-instance (read-took (c .before .before .before .attribute-instantiation .ensures) (c .before .attribute .given .1) attribute-instance-on (rest-self _ _) refl) attribute-instantiation-consumes (λ (i : Instance). instance-record i ∷ []) (attribute-words _) (omega arith) (try-here attribute-instance (read-took (c .before .before .before .attribute-instantiation .ensures) (c .before .attribute .given .1) attribute-instance-on (rest-self _ _) refl) _ _)
 
 enum-told : tie.Need-enum-told
-enum-told c = search needs
+enum-told c = c .match .keys2
 
 attribute-instance-lost-requires : tie.Need-attribute-instance-lost-requires
-attribute-instance-lost-requires c κs = search needs
+attribute-instance-lost-requires c κs = tt
 
 further-requires : tie.Need-further-requires
-further-requires c κs = search needs
+further-requires c κs = tt
 
 enum-known-first : tie.Need-enum-known-first
-enum-known-first c = search needs
+enum-known-first c = c .match2 .keys1
 
 enum-told-2 : tie.Need-enum-told-2
-enum-told-2 c = search needs
+enum-told-2 c = c .match2 .keys2
 
 returns-2 : tie.Need-returns-2
 unfolding instance-tries
@@ -53,26 +53,26 @@ named-after-requires : tie.Need-named-after-requires
 named-after-requires c κs = search needs
 
 enum-known-command : tie.Need-enum-known-command
-enum-known-command c = search needs
+enum-known-command c = c .match3 .keys1
 
 returns-3 : tie.Need-returns-3
 unfolding instance-tries
 returns-3 c = try-is command-instance (named-took (c .before .before .before .named-after .ensures) (c .before .command .given .1) (named-after-on _ _) (rest-self _ _)) (named-after-consumes _ _) (λ (i : Instance). instance-record i ∷ []) (command-words _) (omega arith) (intercept-next _ _ _ _ _ (c .before .before .before .before .before .before .before .before .before .before .attribute-instance-lost .result) (c .before .before .before .before .before .before .before .before .before .further .ensures) (mapped-not attribute-instance attribute-instantiation _ _ (c .before .before .before .before .before .before .before .before .before .before .attribute-instance-lost .result) (read-lost (c .before .before .before .before .before .before .before .before .before .before .before .before .before .attribute-instantiation .ensures) (c .before .before .before .before .before .before .before .before .before .before .before .enum-told .given .1) attributeInstanceLost (c .before .before .before .before .before .before .before .before .before .before .attribute-instance-lost .ensures) refl)) (c .before .before .before .before .before .before .before .first .given .1) (try-here command-instance (named-took (c .before .before .before .named-after .ensures) (c .before .command .given .1) (named-after-on _ _) (rest-self _ _)) _ _))
 
 enum-told-3 : tie.Need-enum-told-3
-enum-told-3 c = search needs
+enum-told-3 c = c .match3 .keys2
 
 named-lost-requires : tie.Need-named-lost-requires
-named-lost-requires c κs = search needs
+named-lost-requires c κs = tt
 
 further-requires-2 : tie.Need-further-requires-2
-further-requires-2 c κs = search needs
+further-requires-2 c κs = tt
 
 enum-known-second : tie.Need-enum-known-second
-enum-known-second c = search needs
+enum-known-second c = c .match4 .keys1
 
 enum-told-4 : tie.Need-enum-told-4
-enum-told-4 c = search needs
+enum-told-4 c = c .match4 .keys2
 
 returns-4 : tie.Need-returns-4
 unfolding instance-tries
@@ -88,20 +88,20 @@ named-after-requires-2 : tie.Need-named-after-requires-2
 named-after-requires-2 c κs = search needs
 
 enum-known-event : tie.Need-enum-known-event
-enum-known-event c = search needs
+enum-known-event c = c .match5 .keys1
 
 returns-5 : tie.Need-returns-5
 unfolding instance-tries
 returns-5 c = try-is event-instance (named-took (c .before .before .before .named-after2 .ensures) (c .before .event .given .1) (named-after-on _ _) (rest-self _ _)) (named-after-consumes _ _) (λ (i : Instance). instance-record i ∷ []) (event-words _) (omega arith) (intercept-next _ _ _ _ _ (c .before .before .before .before .before .before .before .before .before .before .before .before .before .before .before .before .before .before .before .before .attribute-instance-lost .result) (c .before .before .before .before .before .before .before .before .before .before .before .before .before .before .before .before .before .before .before .further .ensures) (mapped-not attribute-instance attribute-instantiation _ _ (c .before .before .before .before .before .before .before .before .before .before .before .before .before .before .before .before .before .before .before .before .attribute-instance-lost .result) (read-lost (c .before .before .before .before .before .before .before .before .before .before .before .before .before .before .before .before .before .before .before .before .before .before .before .attribute-instantiation .ensures) (c .before .before .before .before .before .before .before .before .before .before .before .before .before .before .before .before .before .before .before .before .before .enum-told .given .1) attributeInstanceLost (c .before .before .before .before .before .before .before .before .before .before .before .before .before .before .before .before .before .before .before .before .attribute-instance-lost .ensures) refl)) (c .before .before .before .before .before .before .before .before .before .before .before .before .before .before .before .before .before .first .given .1) (intercept-next _ _ _ _ _ (c .before .before .before .before .before .before .before .before .before .before .named-lost .result) (c .before .before .before .before .before .before .before .before .before .further2 .ensures) (mapped-not command-instance _ _ _ (c .before .before .before .before .before .before .before .before .before .before .named-lost .result) (read-lost (c .before .before .before .before .before .before .before .before .before .before .before .before .before .named-after .ensures) (c .before .before .before .before .before .before .before .before .before .before .before .enum-told3 .given .1) namedLost (c .before .before .before .before .before .before .before .before .before .before .named-lost .ensures) refl)) (c .before .before .before .before .before .before .before .second .given .1) (try-here event-instance (named-took (c .before .before .before .named-after2 .ensures) (c .before .event .given .1) (named-after-on _ _) (rest-self _ _)) _ _)))
 
 enum-told-5 : tie.Need-enum-told-5
-enum-told-5 c = search needs
+enum-told-5 c = c .match5 .keys2
 
 named-lost-requires-2 : tie.Need-named-lost-requires-2
-named-lost-requires-2 c κs = search needs
+named-lost-requires-2 c κs = tt
 
 further-requires-3 : tie.Need-further-requires-3
-further-requires-3 c κs = search needs
+further-requires-3 c κs = tt
 
 returns-6 : tie.Need-returns-6
 unfolding instance-tries

@@ -15,7 +15,7 @@ blank-at-requires : tie.Need-blank-at-requires
 blank-at-requires c κs = omega (arith, c .before .pre)
 
 rest-at-requires : tie.Need-rest-at-requires
-rest-at-requires c κs = omega (arith, (blank-at-took (c .blank-at .ensures)) .up, (blank-at-took (c .blank-at .ensures)) .inside)
+rest-at-requires c κs = let t = blank-at-took (c .blank-at .ensures) in omega (arith, t .up, t .inside)
 
 slice-aggregate-name-behind : tie.Need-slice-aggregate-name-behind
 slice-aggregate-name-behind c = search needs
@@ -27,20 +27,20 @@ name-behind-requires : tie.Need-name-behind-requires
 name-behind-requires c κs = omega (arith, c .before .before .rest-at .ensures .size, c .before .before .before .before .before .pre)
 
 enum-known-named : tie.Need-enum-known-named
-enum-known-named c = search needs
+enum-known-named c = c .match .keys1
 
 enum-told : tie.Need-enum-told
-enum-told c = search needs
+enum-told c = c .match .keys2
 
 named-lost-requires : tie.Need-named-lost-requires
-named-lost-requires c κs = search needs
+named-lost-requires c κs = tt
 
 returns : tie.Need-returns
 unfolding instantiation-head
 returns c = read-not _ refl tt (begin (instantiation-head) _ _ (on _ (blank-at-took (c .before .before .before .before .before .before .before .blank-at .ensures)) (lose _ _ (c .named-lost .result) (c .before .before .before .before .before .before .rest-at .ensures) (read-lost (c .before .before .before .name-behind .ensures) (c .before .enum-told .given .1) namedLost (c .named-lost .ensures) refl))))
 
 blank-at-requires-2 : tie.Need-blank-at-requires-2
-blank-at-requires-2 c κs = omega (arith, (named-took (c .before .before .before .name-behind .ensures) (c .before .named .given .1) (name-behind-on (ascii "server") (ascii "cluster")) (c .before .before .before .before .before .before .rest-at .ensures)) .up, (named-took (c .before .before .before .name-behind .ensures) (c .before .named .given .1) (name-behind-on (ascii "server") (ascii "cluster")) (c .before .before .before .before .before .before .rest-at .ensures)) .inside, c .before .before .before .before .before .before .rest-at .ensures .from, c .before .before .before .before .before .before .before .before .before .pre)
+blank-at-requires-2 c κs = let t = named-took (c .before .before .before .name-behind .ensures) (c .before .named .given .1) (name-behind-on (ascii "server") (ascii "cluster")) (c .before .before .before .before .before .before .rest-at .ensures) in omega (arith, t .up, t .inside, c .before .before .before .before .before .before .rest-at .ensures .from, c .before .before .before .before .before .before .before .before .before .pre)
 
 returns-2 : tie.Need-returns-2
 unfolding instantiation-head

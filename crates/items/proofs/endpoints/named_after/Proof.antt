@@ -15,29 +15,29 @@ name-behind-requires : tie.Need-name-behind-requires
 name-behind-requires c κs = search needs
 
 enum-known-named : tie.Need-enum-known-named
-enum-known-named c = search needs
+enum-known-named c = c .match .keys1
 
 enum-told : tie.Need-enum-told
-enum-told c = search needs
+enum-told c = c .match .keys2
 
 named-lost-requires : tie.Need-named-lost-requires
-named-lost-requires c κs = search needs
+named-lost-requires c κs = tt
 
 returns : tie.Need-returns
 unfolding named-after
 returns c = read-not _ refl tt (begin (named-after _ _) _ _ (lose _ _ (c .named-lost .result) (rest-self _ _) (read-lost (c .before .before .before .name-behind .ensures) (c .before .enum-told .given .1) namedLost (c .named-lost .ensures) refl)))
 
 tag-behind-requires : tie.Need-tag-behind-requires
-tag-behind-requires c κs = omega (arith, (named-took (c .before .before .before .name-behind .ensures) (c .before .named .given .1) (name-behind-on _ _) (rest-self _ _)) .up, (named-took (c .before .before .before .name-behind .ensures) (c .before .named .given .1) (name-behind-on _ _) (rest-self _ _)) .inside, c .before .before .before .before .before .before .before .pre)
+tag-behind-requires c κs = let t = named-took (c .before .before .before .name-behind .ensures) (c .before .named .given .1) (name-behind-on _ _) (rest-self _ _) in omega (arith, t .up, t .inside, c .before .before .before .before .before .before .before .pre)
 
 enum-known-semicolon : tie.Need-enum-known-semicolon
-enum-known-semicolon c = search needs
+enum-known-semicolon c = c .match2 .keys1
 
 enum-told-2 : tie.Need-enum-told-2
-enum-told-2 c = search needs
+enum-told-2 c = c .match2 .keys2
 
 step-lost-requires : tie.Need-step-lost-requires
-step-lost-requires c κs = search needs
+step-lost-requires c κs = tt
 
 returns-2 : tie.Need-returns-2
 unfolding named-after

@@ -15,16 +15,16 @@ whitespace1-requires : tie.Need-whitespace1-requires
 whitespace1-requires c κs = search needs
 
 enum-known-gap : tie.Need-enum-known-gap
-enum-known-gap c = search needs
+enum-known-gap c = c .match .keys1
 
 enum-told : tie.Need-enum-told
-enum-told c = search needs
+enum-told c = c .match .keys2
 
 gap-lost-requires : tie.Need-gap-lost-requires
-gap-lost-requires c κs = search needs
+gap-lost-requires c κs = tt
 
 optional-value-requires : tie.Need-optional-value-requires
-optional-value-requires c κs = search needs
+optional-value-requires c κs = tt
 
 returns : tie.Need-returns
 returns c = optional-is (NoValue (c .before .gap-lost .result)) _ _ _ (c .optional-value .ensures) (read-not _ refl tt (begin (whitespace1 >> default-attribute-value) _ _ (fall _ _ (c .before .gap-lost .result) (rest-self _ _) (gap-lost (c .before .gap-lost .ensures) (c .before .before .enum-told .given .1) _ _ _ (c .before .before .before .before .whitespace1 .ensures)))))
@@ -36,7 +36,7 @@ default-attribute-value-requires : tie.Need-default-attribute-value-requires
 default-attribute-value-requires c κs = omega (arith, c .rest-at .ensures .size, c .before .before .before .before .before .before .pre)
 
 optional-value-requires-2 : tie.Need-optional-value-requires-2
-optional-value-requires-2 c κs = search needs
+optional-value-requires-2 c κs = tt
 
 returns-2 : tie.Need-returns-2
 returns-2 c = optional-is (c .before .default-attribute-value .result) _ _ _ (c .optional-value2 .ensures) (value-behind (c .before .default-attribute-value .result) (gap-took (rest-self _ _) (c .before .before .before .before .gap .given .1) (c .before .before .before .before .before .before .whitespace1 .ensures)) (c .before .before .rest-at .ensures) (c .before .default-attribute-value .ensures))

@@ -19,26 +19,26 @@ device-type-requires : tie.Need-device-type-requires
 device-type-requires c κs = search needs
 
 enum-known-device : tie.Need-enum-known-device
-enum-known-device c = search needs
+enum-known-device c = c .match .keys1
 
 returns : tie.Need-returns
 unfolding part-tries
 returns c = try-is device (read-took (c .before .before .before .device-type .ensures) (c .before .device .given .1) device-type-on (rest-self _ _) refl) device-type-consumes part-records (device-words _) (omega arith) (try-here device (read-took (c .before .before .before .device-type .ensures) (c .before .device .given .1) device-type-on (rest-self _ _) refl) _ _)
 
 enum-told : tie.Need-enum-told
-enum-told c = search needs
+enum-told c = c .match .keys2
 
 device-type-lost-requires : tie.Need-device-type-lost-requires
-device-type-lost-requires c κs = search needs
+device-type-lost-requires c κs = tt
 
 further-requires : tie.Need-further-requires
-further-requires c κs = search needs
+further-requires c κs = tt
 
 enum-known-first : tie.Need-enum-known-first
-enum-known-first c = search needs
+enum-known-first c = c .match2 .keys1
 
 enum-told-2 : tie.Need-enum-told-2
-enum-told-2 c = search needs
+enum-told-2 c = c .match2 .keys2
 
 returns-2 : tie.Need-returns-2
 unfolding part-tries
@@ -48,26 +48,26 @@ blank-binding-requires : tie.Need-blank-binding-requires
 blank-binding-requires c κs = search needs
 
 enum-known-binding : tie.Need-enum-known-binding
-enum-known-binding c = search needs
+enum-known-binding c = c .match3 .keys1
 
 returns-3 : tie.Need-returns-3
 unfolding part-tries blank-binding
 returns-3 c = try-is binding (named-took (c .before .before .before .blank-binding .ensures) (c .before .binding .given .1) blank-binding-on (rest-self _ _)) blank-binding-consumes part-records (binding-words _) (omega arith) (intercept-next _ _ _ _ _ (c .before .before .before .before .before .before .before .before .device-type-lost .result) (c .before .before .before .before .before .before .before .further .ensures) (mapped-not device device-type _ _ (c .before .before .before .before .before .before .before .before .device-type-lost .result) (read-lost (c .before .before .before .before .before .before .before .before .before .before .before .device-type .ensures) (c .before .before .before .before .before .before .before .before .before .enum-told .given .1) deviceTypeLost (c .before .before .before .before .before .before .before .before .device-type-lost .ensures) refl)) (c .before .before .before .before .before .first .given .1) (try-here binding (named-took (c .before .before .before .blank-binding .ensures) (c .before .binding .given .1) blank-binding-on (rest-self _ _)) _ _))
 
 enum-told-3 : tie.Need-enum-told-3
-enum-told-3 c = search needs
+enum-told-3 c = c .match3 .keys2
 
 named-lost-requires : tie.Need-named-lost-requires
-named-lost-requires c κs = search needs
+named-lost-requires c κs = tt
 
 further-requires-2 : tie.Need-further-requires-2
-further-requires-2 c κs = search needs
+further-requires-2 c κs = tt
 
 enum-known-second : tie.Need-enum-known-second
-enum-known-second c = search needs
+enum-known-second c = c .match4 .keys1
 
 enum-told-4 : tie.Need-enum-told-4
-enum-told-4 c = search needs
+enum-told-4 c = c .match4 .keys2
 
 returns-4 : tie.Need-returns-4
 unfolding part-tries blank-binding
@@ -77,20 +77,20 @@ cluster-instantiation-requires : tie.Need-cluster-instantiation-requires
 cluster-instantiation-requires c κs = search needs
 
 enum-known-instantiation : tie.Need-enum-known-instantiation
-enum-known-instantiation c = search needs
+enum-known-instantiation c = c .match5 .keys1
 
 returns-5 : tie.Need-returns-5
 unfolding part-tries blank-binding
 returns-5 c = let k = (count-took cluster-instantiation-on (rest-self _ _) (c .before .instantiation .given .1) (c .before .before .before .cluster-instantiation .ensures)) in try-counts instantiation (k .step) part-records (k .words) (k .few) (intercept-next _ _ _ _ _ (c .before .before .before .before .before .before .before .before .before .before .before .before .before .before .before .before .device-type-lost .result) (c .before .before .before .before .before .before .before .before .before .before .before .before .before .before .before .further .ensures) (mapped-not device device-type _ _ (c .before .before .before .before .before .before .before .before .before .before .before .before .before .before .before .before .device-type-lost .result) (read-lost (c .before .before .before .before .before .before .before .before .before .before .before .before .before .before .before .before .before .before .before .device-type .ensures) (c .before .before .before .before .before .before .before .before .before .before .before .before .before .before .before .before .before .enum-told .given .1) deviceTypeLost (c .before .before .before .before .before .before .before .before .before .before .before .before .before .before .before .before .device-type-lost .ensures) refl)) (c .before .before .before .before .before .before .before .before .before .before .before .before .before .first .given .1) (intercept-next _ _ _ _ _ (c .before .before .before .before .before .before .before .before .named-lost .result) (c .before .before .before .before .before .before .before .further2 .ensures) (mapped-not binding blank-binding _ _ (c .before .before .before .before .before .before .before .before .named-lost .result) (read-lost (c .before .before .before .before .before .before .before .before .before .before .before .blank-binding .ensures) (c .before .before .before .before .before .before .before .before .before .enum-told3 .given .1) namedLost (c .before .before .before .before .before .before .before .before .named-lost .ensures) refl)) (c .before .before .before .before .before .second .given .1) (try-here instantiation (k .step) _ _)))
 
 enum-told-5 : tie.Need-enum-told-5
-enum-told-5 c = search needs
+enum-told-5 c = c .match5 .keys2
 
 count-lost-requires : tie.Need-count-lost-requires
-count-lost-requires c κs = search needs
+count-lost-requires c κs = tt
 
 further-requires-3 : tie.Need-further-requires-3
-further-requires-3 c κs = search needs
+further-requires-3 c κs = tt
 
 returns-6 : tie.Need-returns-6
 unfolding part-tries blank-binding

@@ -11,13 +11,13 @@ tag-requires : tie.Need-tag-requires
 tag-requires c κs = search needs
 
 enum-known-brace : tie.Need-enum-known-brace
-enum-known-brace c = search needs
+enum-known-brace c = c .match .keys1
 
 enum-told : tie.Need-enum-told
-enum-told c = search needs
+enum-told c = c .match .keys2
 
 step-lost-requires : tie.Need-step-lost-requires
-step-lost-requires c κs = search needs
+step-lost-requires c κs = tt
 
 returns : tie.Need-returns
 returns c = deep-unopened part-tries _ (step-lost (λ c. tt) (c .step-lost .ensures) (c .before .enum-told .given .1) _ _ _ (c .before .before .before .tag .ensures))
@@ -29,13 +29,13 @@ count-parts-requires : tie.Need-count-parts-requires
 count-parts-requires c κs = search needs
 
 enum-known-run : tie.Need-enum-known-run
-enum-known-run c = search needs
+enum-known-run c = c .match2 .keys1
 
 enum-told-2 : tie.Need-enum-told-2
-enum-told-2 c = search needs
+enum-told-2 c = c .match2 .keys2
 
 tried-lost-requires : tie.Need-tried-lost-requires
-tried-lost-requires c κs = search needs
+tried-lost-requires c κs = tt
 
 returns-2 : tie.Need-returns-2
 returns-2 c = deep-lost part-tries (tag-took (rest-self _ _) (c .before .before .before .before .before .before .brace .given .1) 123 (c .before .before .before .before .before .before .before .before .tag .ensures)) _ (c .before .before .before .before .rest-at .ensures) (weighed-lost (c .tried-lost .ensures) (c .before .enum-told2 .given .1) _ _ (c .before .before .before .count-parts .ensures))
@@ -47,13 +47,13 @@ deep-close-requires : tie.Need-deep-close-requires
 deep-close-requires c κs = search needs
 
 enum-known-close : tie.Need-enum-known-close
-enum-known-close c = search needs
+enum-known-close c = c .match3 .keys1
 
 enum-told-3 : tie.Need-enum-told-3
-enum-told-3 c = search needs
+enum-told-3 c = c .match3 .keys2
 
 step-lost-requires-2 : tie.Need-step-lost-requires-2
-step-lost-requires-2 c κs = search needs
+step-lost-requires-2 c κs = tt
 
 returns-3 : tie.Need-returns-3
 returns-3 c = deep-unclosed part-tries (tag-took (rest-self _ _) (c .before .before .before .before .before .before .before .before .before .before .before .brace .given .1) 123 (c .before .before .before .before .before .before .before .before .before .before .before .before .before .tag .ensures)) (weighed-took parts-run-on (c .before .before .before .before .before .before .before .before .before .rest-at .ensures) (c .before .before .before .before .before .before .run .given .1) (c .before .before .before .before .before .before .before .before .count-parts .ensures)) _ (c .before .before .before .before .rest-at2 .ensures) (step-lost (λ c. tt) (c .step-lost2 .ensures) (c .before .enum-told3 .given .1) _ _ _ (c .before .before .before .deep-close .ensures))

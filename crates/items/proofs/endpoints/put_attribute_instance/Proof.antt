@@ -11,7 +11,7 @@ mul-flags : tie.Need-mul-flags
 mul-flags c = omega (arith, c .before .before .pre .1 .small)
 
 default-number-requires : tie.Need-default-number-requires
-default-number-requires c κs = search needs
+default-number-requires c κs = tt
 
 mul-flags-2 : tie.Need-mul-flags-2
 mul-flags-2 c = omega (arith, number-small (defaultOf (c .before .before .before .args .a .default)), c .default-number .ensures, c .before .before .before .pre .1 .small)

@@ -1,4 +1,3 @@
-use borrow.Author.Needs.{needs}
 use Rattle.items.proofs.endpoints.tried_end.Statement.{statement}
 use Rattle.items.proofs.endpoints.tried_end.Tie as tie
 use mathlib.Core.Path.{sym, ap}
@@ -6,10 +5,10 @@ use Rattle.lexing.specs.declared.answers.Lost.{Lost}
 use Rattle.items.specs.inner.endpoints.{triedEnd}
 
 enum-known-l : tie.Need-enum-known-l
-enum-known-l c = search needs
+enum-known-l c = c .match .keys1
 
 enum-known-l-2 : tie.Need-enum-known-l-2
-enum-known-l-2 c = search needs
+enum-known-l-2 c = c .match .keys2
 
 returns : tie.Need-returns
 returns c = sym (ap (λ (x : Lost). triedEnd x (c .before .before .before .args .n) (c .before .before .before .args .c)) (c .before .l .given .1))

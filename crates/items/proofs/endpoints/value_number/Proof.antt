@@ -1,4 +1,3 @@
-use borrow.Author.Needs.{needs}
 use Rattle.items.proofs.endpoints.value_number.Statement.{statement}
 use Rattle.items.proofs.endpoints.value_number.Tie as tie
 use mathlib.Core.Path.{sym, ap}
@@ -8,16 +7,16 @@ use Rattle.items.specs.answers.endpoints.{valueOf}
 use Rattle.items.specs.declared.endpoints.DefaultValue.{DefaultValue}
 
 enum-told : tie.Need-enum-told
-enum-told c = search needs
+enum-told c = c .match .keys1
 
 enum-told-2 : tie.Need-enum-told-2
-enum-told-2 c = search needs
+enum-told-2 c = c .match .keys2
 
 enum-told-3 : tie.Need-enum-told-3
-enum-told-3 c = search needs
+enum-told-3 c = c .match .keys3
 
 enum-told-4 : tie.Need-enum-told-4
-enum-told-4 c = search needs
+enum-told-4 c = c .match .keys4
 
 returns : tie.Need-returns
 unfolding default-number

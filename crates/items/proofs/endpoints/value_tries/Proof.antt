@@ -16,40 +16,40 @@ positive-integer-requires : tie.Need-positive-integer-requires
 positive-integer-requires c κs = search needs
 
 enum-known-number : tie.Need-enum-known-number
-enum-known-number c = search needs
+enum-known-number c = c .match .keys1
 
 returns : tie.Need-returns
 unfolding value-tries
 returns c = read-is refl (or-here _ _ _ _ _ _ _ (number-try _ _ (c .before .before .before .positive-integer .ensures) (c .before .number .given .1))) tt
 
 enum-told : tie.Need-enum-told
-enum-told c = search needs
+enum-told c = c .match .keys2
 
 number-lost-requires : tie.Need-number-lost-requires
-number-lost-requires c κs = search needs
+number-lost-requires c κs = tt
 
 enum-known-lost : tie.Need-enum-known-lost
-enum-known-lost c = search needs
+enum-known-lost c = c .match2 .keys1
 
 returns-2 : tie.Need-returns-2
 unfolding value-tries
 returns-2 c = read-not _ refl tt (or-stop _ _ _ _ _ _ (number-stop _ _ (c .before .before .before .before .before .before .positive-integer .ensures) (c .before .before .before .number-lost .ensures) (c .before .before .before .before .enum-told .given .1) (c .before .lost .given .1)))
 
 enum-told-2 : tie.Need-enum-told-2
-enum-told-2 c = search needs
+enum-told-2 c = c .match2 .keys2
 
 signed-integer-requires : tie.Need-signed-integer-requires
 signed-integer-requires c κs = search needs
 
 enum-known-signed : tie.Need-enum-known-signed
-enum-known-signed c = search needs
+enum-known-signed c = c .match3 .keys1
 
 returns-3 : tie.Need-returns-3
 unfolding value-tries
 returns-3 c = read-is refl (or-past _ _ _ _ _ (number-not _ _ (c .before .before .before .before .before .before .before .before .before .positive-integer .ensures) (c .before .before .before .before .before .before .number-lost .ensures) (c .before .before .before .before .before .before .before .enum-told .given .1) (c .before .before .before .before .enum-told2 .given .1)) tt (or-here _ _ _ _ _ _ _ (signed-try _ _ (c .before .before .before .signed-integer .ensures) (c .before .signed .given .1)))) tt
 
 enum-told-3 : tie.Need-enum-told-3
-enum-told-3 c = search needs
+enum-told-3 c = c .match3 .keys2
 
 slice-aggregate-keyword : tie.Need-slice-aggregate-keyword
 slice-aggregate-keyword c = search needs
@@ -58,14 +58,14 @@ keyword-requires : tie.Need-keyword-requires
 keyword-requires c κs = search needs
 
 enum-known-yes : tie.Need-enum-known-yes
-enum-known-yes c = search needs
+enum-known-yes c = c .match4 .keys1
 
 returns-4 : tie.Need-returns-4
 unfolding value-tries
 returns-4 c = read-is refl (or-past _ _ _ _ _ (number-not _ _ (c .before .before .before .before .before .before .before .before .before .before .before .before .before .positive-integer .ensures) (c .before .before .before .before .before .before .before .before .before .before .number-lost .ensures) (c .before .before .before .before .before .before .before .before .before .before .before .enum-told .given .1) (c .before .before .before .before .before .before .before .before .enum-told2 .given .1)) tt (or-past _ _ _ _ _ (signed-not _ _ (c .before .before .before .before .before .before .before .signed-integer .ensures) _ (c .before .before .before .before .before .enum-told3 .given .1)) tt (or-here _ _ _ _ _ _ _ (keyword-value (ascii "true") (truth true) _ _ _ (c .before .before .before .keyword .ensures) _ (c .before .yes .given .1))))) tt
 
 enum-told-4 : tie.Need-enum-told-4
-enum-told-4 c = search needs
+enum-told-4 c = c .match4 .keys2
 
 slice-aggregate-keyword-2 : tie.Need-slice-aggregate-keyword-2
 slice-aggregate-keyword-2 c = search needs
@@ -74,26 +74,26 @@ keyword-requires-2 : tie.Need-keyword-requires-2
 keyword-requires-2 c κs = search needs
 
 enum-known-no : tie.Need-enum-known-no
-enum-known-no c = search needs
+enum-known-no c = c .match5 .keys1
 
 returns-5 : tie.Need-returns-5
 unfolding value-tries
 returns-5 c = read-is refl (or-past _ _ _ _ _ (number-not _ _ (c .before .before .before .before .before .before .before .before .before .before .before .before .before .before .before .before .before .positive-integer .ensures) (c .before .before .before .before .before .before .before .before .before .before .before .before .before .before .number-lost .ensures) (c .before .before .before .before .before .before .before .before .before .before .before .before .before .before .before .enum-told .given .1) (c .before .before .before .before .before .before .before .before .before .before .before .before .enum-told2 .given .1)) tt (or-past _ _ _ _ _ (signed-not _ _ (c .before .before .before .before .before .before .before .before .before .before .before .signed-integer .ensures) _ (c .before .before .before .before .before .before .before .before .before .enum-told3 .given .1)) tt (or-past _ _ _ _ _ (keyword-not (ascii "true") (truth true) _ _ _ (c .before .before .before .before .before .before .before .keyword .ensures) _ (c .before .before .before .before .before .enum-told4 .given .1)) tt (or-here _ _ _ _ _ _ _ (keyword-value (ascii "false") (truth false) _ _ _ (c .before .before .before .keyword2 .ensures) _ (c .before .no .given .1)))))) tt
 
 enum-told-5 : tie.Need-enum-told-5
-enum-told-5 c = search needs
+enum-told-5 c = c .match5 .keys2
 
 default-string-requires : tie.Need-default-string-requires
 default-string-requires c κs = search needs
 
 enum-known-string : tie.Need-enum-known-string
-enum-known-string c = search needs
+enum-known-string c = c .match6 .keys1
 
 enum-told-6 : tie.Need-enum-told-6
-enum-told-6 c = search needs
+enum-told-6 c = c .match6 .keys2
 
 step-lost-requires : tie.Need-step-lost-requires
-step-lost-requires c κs = search needs
+step-lost-requires c κs = tt
 
 returns-6 : tie.Need-returns-6
 unfolding value-tries

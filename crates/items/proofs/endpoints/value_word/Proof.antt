@@ -10,25 +10,25 @@ use Rattle.items.specs.declared.endpoints.DefaultValue.{DefaultValue}
 use Rattle.items.proofs.endpoints.Laws.{span-fits}
 
 enum-known-v : tie.Need-enum-known-v
-enum-known-v c = search needs
+enum-known-v c = c .match .keys1
 
 enum-known-v-2 : tie.Need-enum-known-v-2
-enum-known-v-2 c = search needs
+enum-known-v-2 c = c .match .keys2
 
 twos-complement-requires : tie.Need-twos-complement-requires
-twos-complement-requires c κs = search needs
+twos-complement-requires c κs = tt
 
 enum-known-v-3 : tie.Need-enum-known-v-3
-enum-known-v-3 c = search needs
+enum-known-v-3 c = c .match .keys3
 
 flag-requires : tie.Need-flag-requires
-flag-requires c κs = search needs
+flag-requires c κs = tt
 
 cast-result : tie.Need-cast-result
 cast-result c = search needs
 
 enum-known-v-4 : tie.Need-enum-known-v-4
-enum-known-v-4 c = search needs
+enum-known-v-4 c = c .match .keys4
 
 span-word-requires : tie.Need-span-word-requires
 span-word-requires c κs = span-fits _ (c .before .v4 .given .1) (c .before .before .before .pre)

@@ -14,10 +14,10 @@ instantiation-head-requires : tie.Need-instantiation-head-requires
 instantiation-head-requires c κs = search needs
 
 enum-known-head : tie.Need-enum-known-head
-enum-known-head c = search needs
+enum-known-head c = c .match .keys1
 
 enum-told : tie.Need-enum-told
-enum-told c = search needs
+enum-told c = c .match .keys2
 
 returns : tie.Need-returns
 returns c = absurd (headed-found instantiation-headed tt (c .before .before .before .before .before .pre .1) (c .enum-told .given .0 .0) (read-lost (c .before .before .instantiation-head .ensures) (c .enum-told .given .1) namedLost (sym (ap namedLost (c .enum-told .given .1))) refl))

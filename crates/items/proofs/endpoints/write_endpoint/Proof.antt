@@ -13,10 +13,10 @@ endpoint-head-requires : tie.Need-endpoint-head-requires
 endpoint-head-requires c κs = search needs
 
 enum-known-head : tie.Need-enum-known-head
-enum-known-head c = search needs
+enum-known-head c = c .match .keys1
 
 enum-told : tie.Need-enum-told
-enum-told c = search needs
+enum-told c = c .match .keys2
 
 returns : tie.Need-returns
 returns c = absurd (headed-found endpoint-headed tt (c .before .before .before .before .before .pre .1) (c .enum-told .given .0 .0) (integer-lost (sym (ap numberLost (c .enum-told .given .1))) (c .enum-told .given .1) _ _ _ (c .before .before .endpoint-head .ensures)))

@@ -23,7 +23,7 @@ attribute-instantiation-requires : tie.Need-attribute-instantiation-requires
 attribute-instantiation-requires c κs = search needs
 
 enum-known-attribute : tie.Need-enum-known-attribute
-enum-known-attribute c = search needs
+enum-known-attribute c = c .match .keys1
 
 put-attribute-instance-requires : tie.Need-put-attribute-instance-requires
 unfolding instance-tries
@@ -41,7 +41,7 @@ unfolding instance-tries
 returns c = try-written (first-found (mapped attribute-instantiation attribute-instance) (mapped (named-after (ascii "handle") (ascii "command")) command-instance) (mapped (named-after (ascii "emits") (ascii "event")) event-instance) (try-took attribute-instance (read-took (c .before .before .before .before .before .before .before .attribute-instantiation .ensures) (c .before .before .before .before .before .attribute .given .1) attribute-instance-on (rest-self _ _) refl))) (attribute-words _) (c .before .before .put-attribute-instance .ensures ∙ ap (λ (x : Record). put (c .before .before .before .before .before .before .before .before .before .before .args .at) (catalogue-bytes layout-20 (x ∷ [])) (now (c .before .before .before .before .before .before .before .before .before .before .args .out))) (instance-parts-is _ (c .before .before .before .before .before .before .before .before .before .before .args .part .now) _ (read-within (c .before .before .before .before .before .before .before .attribute-instantiation .ensures) (c .before .before .before .before .before .attribute .given .1)) ((read-took (c .before .before .before .before .before .before .before .attribute-instantiation .ensures) (c .before .before .before .before .before .attribute .given .1) attribute-instance-on (rest-self _ _) refl) .inside)))
 
 enum-told : tie.Need-enum-told
-enum-told c = search needs
+enum-told c = c .match .keys2
 
 slice-aggregate-named-after : tie.Need-slice-aggregate-named-after
 slice-aggregate-named-after c = search needs
@@ -53,7 +53,7 @@ named-after-requires : tie.Need-named-after-requires
 named-after-requires c κs = search needs
 
 enum-known-command : tie.Need-enum-known-command
-enum-known-command c = search needs
+enum-known-command c = c .match2 .keys1
 
 put-named-requires : tie.Need-put-named-requires
 unfolding instance-tries
@@ -71,7 +71,7 @@ unfolding instance-tries instance-record
 returns-2 c = try-written (second-found (mapped attribute-instantiation attribute-instance) (mapped (named-after (ascii "handle") (ascii "command")) command-instance) (mapped (named-after (ascii "emits") (ascii "event")) event-instance) (first-missed (mapped attribute-instantiation attribute-instance) (mapped (named-after (ascii "handle") (ascii "command")) command-instance) (mapped (named-after (ascii "emits") (ascii "event")) event-instance) (c .before .before .before .before .before .before .before .before .before .before .before .before .before .before .before .pre .1) (c .before .before .before .before .before .before .before .before .before .before .enum-told .given .0 .0) (mapped-not attribute-instance attribute-instantiation _ _ (c .before .before .before .before .before .before .before .before .before .before .enum-told .given .0 .0) (read-lost (c .before .before .before .before .before .before .before .before .before .before .before .before .attribute-instantiation .ensures) (c .before .before .before .before .before .before .before .before .before .before .enum-told .given .1) attributeInstanceLost (sym (ap attributeInstanceLost (c .before .before .before .before .before .before .before .before .before .before .enum-told .given .1))) refl)) .1) (try-took command-instance (named-took (c .before .before .before .before .before .before .before .named-after .ensures) (c .before .before .before .before .before .command .given .1) (named-after-on _ _) (rest-self _ _)))) (command-words _) (c .before .before .put-named .ensures ∙ ap (λ (x : Record). put (c .before .before .before .before .before .before .before .before .before .before .before .before .before .before .before .args .at) (catalogue-bytes layout-20 (x ∷ [])) (now (c .before .before .before .before .before .before .before .before .before .before .before .before .before .before .before .args .out))) (name-parts-is _ (c .before .before .before .before .before .before .before .before .before .before .before .before .before .before .before .args .part .now) 15 (named-in (c .before .before .before .before .before .before .before .named-after .ensures) (c .before .before .before .before .before .command .given .1)) ((named-took (c .before .before .before .before .before .before .before .named-after .ensures) (c .before .before .before .before .before .command .given .1) (named-after-on _ _) (rest-self _ _)) .inside)))
 
 enum-told-2 : tie.Need-enum-told-2
-enum-told-2 c = search needs
+enum-told-2 c = c .match2 .keys2
 
 slice-aggregate-named-after-3 : tie.Need-slice-aggregate-named-after-3
 slice-aggregate-named-after-3 c = search needs
@@ -83,10 +83,10 @@ named-after-requires-2 : tie.Need-named-after-requires-2
 named-after-requires-2 c κs = search needs
 
 enum-known-event : tie.Need-enum-known-event
-enum-known-event c = search needs
+enum-known-event c = c .match3 .keys1
 
 enum-told-3 : tie.Need-enum-told-3
-enum-told-3 c = search needs
+enum-told-3 c = c .match3 .keys2
 
 returns-3 : tie.Need-returns-3
 unfolding instance-tries

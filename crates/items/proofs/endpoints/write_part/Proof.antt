@@ -22,7 +22,7 @@ device-type-requires : tie.Need-device-type-requires
 device-type-requires c κs = search needs
 
 enum-known-device : tie.Need-enum-known-device
-enum-known-device c = search needs
+enum-known-device c = c .match .keys1
 
 put-device-type-requires : tie.Need-put-device-type-requires
 unfolding part-tries blank-binding
@@ -40,13 +40,13 @@ unfolding part-tries blank-binding
 returns c = try-written (first-found (mapped device-type device) (mapped blank-binding binding) (mapped cluster-instantiation instantiation) (try-took device (read-took (c .before .before .before .before .before .before .before .device-type .ensures) (c .before .before .before .before .before .device .given .1) device-type-on (rest-self _ _) refl))) (device-words _) (c .before .before .put-device-type .ensures ∙ ap (λ (x : List Record). put (c .before .before .before .before .before .before .before .before .before .before .args .at) (catalogue-bytes layout-20 x) (now (c .before .before .before .before .before .before .before .before .before .before .args .out))) (device-parts-is _ (c .before .before .before .before .before .before .before .before .before .before .args .part .now) _ (read-within (c .before .before .before .before .before .before .before .device-type .ensures) (c .before .before .before .before .before .device .given .1)) ((read-took (c .before .before .before .before .before .before .before .device-type .ensures) (c .before .before .before .before .before .device .given .1) device-type-on (rest-self _ _) refl) .inside)))
 
 enum-told : tie.Need-enum-told
-enum-told c = search needs
+enum-told c = c .match .keys2
 
 blank-binding-requires : tie.Need-blank-binding-requires
 blank-binding-requires c κs = search needs
 
 enum-known-binding : tie.Need-enum-known-binding
-enum-known-binding c = search needs
+enum-known-binding c = c .match2 .keys1
 
 put-named-requires : tie.Need-put-named-requires
 unfolding part-tries blank-binding
@@ -64,7 +64,7 @@ unfolding part-tries blank-binding part-records
 returns-2 c = try-written (second-found (mapped device-type device) (mapped blank-binding binding) (mapped cluster-instantiation instantiation) (first-missed (mapped device-type device) (mapped blank-binding binding) (mapped cluster-instantiation instantiation) (c .before .before .before .before .before .before .before .before .before .before .before .before .before .pre .1) (c .before .before .before .before .before .before .before .before .enum-told .given .0 .0) (mapped-not device device-type _ _ (c .before .before .before .before .before .before .before .before .enum-told .given .0 .0) (read-lost (c .before .before .before .before .before .before .before .before .before .before .device-type .ensures) (c .before .before .before .before .before .before .before .before .enum-told .given .1) deviceTypeLost (sym (ap deviceTypeLost (c .before .before .before .before .before .before .before .before .enum-told .given .1))) refl)) .1) (try-took binding (named-took (c .before .before .before .before .before .before .before .blank-binding .ensures) (c .before .before .before .before .before .binding .given .1) blank-binding-on (rest-self _ _)))) (binding-words _) (c .before .before .put-named .ensures ∙ ap (λ (x : List Record). put (c .before .before .before .before .before .before .before .before .before .before .before .before .before .args .at) (catalogue-bytes layout-20 x) (now (c .before .before .before .before .before .before .before .before .before .before .before .before .before .args .out))) (ap (λ (x : Record). x ∷ []) (name-parts-is _ (c .before .before .before .before .before .before .before .before .before .before .before .before .before .args .part .now) 12 (named-in (c .before .before .before .before .before .before .before .blank-binding .ensures) (c .before .before .before .before .before .binding .given .1)) ((named-took (c .before .before .before .before .before .before .before .blank-binding .ensures) (c .before .before .before .before .before .binding .given .1) blank-binding-on (rest-self _ _)) .inside))))
 
 enum-told-2 : tie.Need-enum-told-2
-enum-told-2 c = search needs
+enum-told-2 c = c .match2 .keys2
 
 write-cluster-instantiation-requires : tie.Need-write-cluster-instantiation-requires
 unfolding part-tries blank-binding

@@ -34,7 +34,7 @@ tag-requires : tie.Need-tag-requires Inv-loop μ-loop
 tag-requires c κs = search needs
 
 enum-known-close : tie.Need-enum-known-close Inv-loop μ-loop
-enum-known-close c = search needs
+enum-known-close c = c .match .keys1
 
 same-length : tie.Need-same-length Inv-loop μ-loop
 same-length c = placing-same (each-elementwise part-records) part-tries-inside part-tries-consumes _ _ _ _ (c .before .before .before .before .before .before .before .before .before .before .pre .1) (c .before .before .before .before .before .before .before .loop .inv)
@@ -43,7 +43,7 @@ returns : tie.Need-returns Inv-loop μ-loop
 returns c = placing-ends (each-elementwise part-records) part-tries-inside part-tries-consumes _ _ _ _ (c .before .before .before .before .before .before .before .before .before .before .pre .1) (c .before .before .before .before .before .before .before .loop .inv) (blank-took (c .before .before .before .before .before .before .rest-at .ensures) (c .before .before .before .before .before .whitespace0 .ensures)) (c .before .before .before .before .rest-at2 .ensures) parts-unclosing (tag-took (c .before .before .before .before .rest-at2 .ensures) (c .before .close .given .1) 125 (c .before .before .before .tag .ensures))
 
 enum-told : tie.Need-enum-told Inv-loop μ-loop
-enum-told c = search needs
+enum-told c = c .match .keys2
 
 rest-at-requires-3 : tie.Need-rest-at-requires-3 Inv-loop μ-loop
 rest-at-requires-3 c κs = omega (arith, (blank-took (c .before .before .before .before .before .rest-at .ensures) (c .before .before .before .before .whitespace0 .ensures)) .up, (blank-took (c .before .before .before .before .before .rest-at .ensures) (c .before .before .before .before .whitespace0 .ensures)) .inside, c .before .before .before .before .before .rest-at .ensures .from)

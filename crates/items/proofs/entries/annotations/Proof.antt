@@ -27,13 +27,13 @@ blank-annotation-requires : tie.Need-blank-annotation-requires Inv-loop μ-loop
 blank-annotation-requires c κs = search needs
 
 enum-known-r : tie.Need-enum-known-r Inv-loop μ-loop
-enum-known-r c = search needs
+enum-known-r c = c .match .keys1
 
 enum-told : tie.Need-enum-told Inv-loop μ-loop
-enum-told c = search needs
+enum-told c = c .match .keys2
 
 optional-requires : tie.Need-optional-requires Inv-loop μ-loop
-optional-requires c κs = search needs
+optional-requires c κs = tt
 
 returns : tie.Need-returns Inv-loop μ-loop
 returns c = many0-skips blank-annotation-consumes _ (c .before .before .before .before .before .loop .inv .1) (c .before .before .before .before .rest-at .ensures) (c .before .before .before .blank-annotation .ensures) (c .before .enum-told .given .1) (c .optional .ensures)

@@ -1,99 +1,70 @@
 use borrow.Author.Needs.{needs}
 use Rattle.items.proofs.entries.annotations_in_brackets.Statement.{statement}
 use Rattle.items.proofs.entries.annotations_in_brackets.Tie as tie
-use native.Mathlib.Omega.{arith}
 use mathlib.Core.List.{[]}
-use Rattle.lexing.proofs.Slicing.{rest-self, begin, go, on, lose, fall, done, blank-took, tag-took, step-lost}
 use Rattle.items.specs.entries.{annotations-in-brackets}
-use Rattle.items.proofs.optional.Laws.{skip-took, skip-lost}
 use Rattle.items.proofs.Dropping.{skip-is, skip-not}
+use native.Mathlib.Omega.{arith}
+use Rattle.lexing.proofs.Slicing.{rest-self, begin, go, on, lose, fall, done, tag-took, step-lost}
+use Rattle.items.proofs.Pairs.{pair-on, pair-fall}
+use Rattle.items.proofs.steps.Laws.{tag-behind-took, skips-lost}
+use Rattle.items.proofs.optional.Laws.{skip-took, skip-lost}
 use Rattle.items.proofs.entries.Laws.{annotations-onward}
 
 tag-requires : tie.Need-tag-requires
 tag-requires c κs = search needs
 
 enum-known-bracket : tie.Need-enum-known-bracket
-enum-known-bracket c = search needs
+enum-known-bracket c = c .match .keys1
 
 enum-told : tie.Need-enum-told
-enum-told c = search needs
+enum-told c = c .match .keys2
 
 step-lost-requires : tie.Need-step-lost-requires
-step-lost-requires c κs = search needs
+step-lost-requires c κs = tt
 
 returns : tie.Need-returns
 unfolding annotations-in-brackets
-returns c = skip-not _ [] _ _ _ (begin annotations-in-brackets _ _ (fall _ _ (c .step-lost .result) (rest-self _ _) (step-lost _ (c .step-lost .ensures) (c .before .enum-told .given .1) _ _ _ (c .before .before .before .tag .ensures))))
+returns c = skip-not _ [] _ _ _ (begin (annotations-in-brackets) _ _ (fall _ _ (c .step-lost .result) (rest-self _ _) (step-lost (λ c. tt) (c .step-lost .ensures) (c .before .enum-told .given .1) _ _ _ (c .before .before .before .tag .ensures))))
 
 rest-at-requires : tie.Need-rest-at-requires
-rest-at-requires c κs = omega (arith, (tag-took (rest-self _ _) (c .before .bracket .given .1) 91 (c .before .before .before .tag .ensures)) .up, (tag-took (rest-self _ _) (c .before .bracket .given .1) 91 (c .before .before .before .tag .ensures)) .inside)
+rest-at-requires c κs = let t = tag-took (rest-self _ _) (c .before .bracket .given .1) 91 (c .before .before .before .tag .ensures) in omega (arith, t .up, t .inside)
 
 annotations-requires : tie.Need-annotations-requires
-annotations-requires c κs = search needs
+annotations-requires c κs = omega (arith, c .rest-at .ensures .size, c .before .before .before .before .before .before .pre)
 
 enum-known-run : tie.Need-enum-known-run
-enum-known-run c = search needs
+enum-known-run c = c .match2 .keys1
 
 enum-told-2 : tie.Need-enum-told-2
-enum-told-2 c = search needs
+enum-told-2 c = c .match2 .keys2
 
 step-lost-requires-2 : tie.Need-step-lost-requires-2
-step-lost-requires-2 c κs = search needs
+step-lost-requires-2 c κs = tt
 
 returns-2 : tie.Need-returns-2
 unfolding annotations-in-brackets
-returns-2 c = skip-not _ [] _ _ _ (begin annotations-in-brackets _ _ (on _ (tag-took (rest-self _ _) (c .before .before .before .before .before .before .bracket .given .1) 91 (c .before .before .before .before .before .before .before .before .tag .ensures)) (lose _ _ (c .step-lost2 .result) (c .before .before .before .before .rest-at .ensures) (skip-lost (c .step-lost2 .ensures) (c .before .enum-told2 .given .1) _ _ (c .before .before .before .annotations .ensures)))))
+returns-2 c = skip-not _ [] _ _ _ (begin (annotations-in-brackets) _ _ (on _ (tag-took (rest-self _ _) (c .before .before .before .before .before .before .bracket .given .1) 91 (c .before .before .before .before .before .before .before .before .tag .ensures)) (lose _ _ (c .step-lost2 .result) (c .before .before .before .before .rest-at .ensures) (skip-lost (c .step-lost2 .ensures) (c .before .enum-told2 .given .1) _ _ (c .before .before .before .annotations .ensures)))))
 
-rest-at-requires-2 : tie.Need-rest-at-requires-2
-rest-at-requires-2 c κs = omega (arith, (skip-took annotations-onward (c .before .before .before .before .rest-at .ensures) (c .before .run .given .1) (c .before .before .before .annotations .ensures)) .up, (skip-took annotations-onward (c .before .before .before .before .rest-at .ensures) (c .before .run .given .1) (c .before .before .before .annotations .ensures)) .inside, c .before .before .before .before .rest-at .ensures .from)
-
-whitespace0-requires : tie.Need-whitespace0-requires
-whitespace0-requires c κs = search needs
-
-rest-at-requires-3 : tie.Need-rest-at-requires-3
-rest-at-requires-3 c κs = search needs
-
-tag-requires-2 : tie.Need-tag-requires-2
-tag-requires-2 c κs = search needs
+tag-behind-requires : tie.Need-tag-behind-requires
+tag-behind-requires c κs = let t = skip-took annotations-onward (c .before .before .before .before .rest-at .ensures) (c .before .run .given .1) (c .before .before .before .annotations .ensures) in omega (arith, t .up, t .inside, c .before .before .before .before .rest-at .ensures .from, c .before .before .before .before .before .before .before .before .before .before .pre)
 
 enum-known-close : tie.Need-enum-known-close
-enum-known-close c = search needs
+enum-known-close c = c .match3 .keys1
 
 enum-told-3 : tie.Need-enum-told-3
-enum-told-3 c = search needs
+enum-told-3 c = c .match3 .keys2
 
 step-lost-requires-3 : tie.Need-step-lost-requires-3
-step-lost-requires-3 c κs = search needs
+step-lost-requires-3 c κs = tt
 
 returns-3 : tie.Need-returns-3
 unfolding annotations-in-brackets
-returns-3 c = skip-not _ [] _ _ _ (begin annotations-in-brackets _ _ (on _ (tag-took (rest-self _ _) (c .before .before .before .before .before .before .before .before .before .before .before .before .before .bracket .given .1) 91 (c .before .before .before .before .before .before .before .before .before .before .before .before .before .before .before .tag .ensures)) (go _ (skip-took annotations-onward (c .before .before .before .before .before .before .before .before .before .before .before .rest-at .ensures) (c .before .before .before .before .before .before .before .before .run .given .1) (c .before .before .before .before .before .before .before .before .before .before .annotations .ensures)) (on _ (blank-took (c .before .before .before .before .before .before .rest-at2 .ensures) (c .before .before .before .before .before .whitespace0 .ensures)) (fall _ _ (c .step-lost3 .result) (c .before .before .before .before .rest-at3 .ensures) (step-lost _ (c .step-lost3 .ensures) (c .before .enum-told3 .given .1) _ _ _ (c .before .before .before .tag2 .ensures)))))))
+returns-3 c = skip-not _ [] _ _ _ (begin (annotations-in-brackets) _ _ (on _ (tag-took (rest-self _ _) (c .before .before .before .before .before .before .before .before .before .before .bracket .given .1) 91 (c .before .before .before .before .before .before .before .before .before .before .before .before .tag .ensures)) (go _ (skip-took annotations-onward (c .before .before .before .before .before .before .before .before .rest-at .ensures) (c .before .before .before .before .before .run .given .1) (c .before .before .before .before .before .before .before .annotations .ensures)) (pair-fall _ _ _ (c .step-lost3 .result) (c .before .before .before .tag-behind .ensures .at) (skips-lost (c .step-lost3 .ensures) (c .before .enum-told3 .given .1) (c .before .before .before .tag-behind .ensures))))))
 
 returns-4 : tie.Need-returns-4
 unfolding annotations-in-brackets
-returns-4 c = skip-is _ _ _ _ _ (begin annotations-in-brackets _ _ (on _ (tag-took (rest-self _ _) (c .before .before .before .before .before .before .before .before .before .before .before .before .before .bracket .given .1) 91 (c .before .before .before .before .before .before .before .before .before .before .before .before .before .before .before .tag .ensures)) (go _ (skip-took annotations-onward (c .before .before .before .before .before .before .before .before .before .before .before .rest-at .ensures) (c .before .before .before .before .before .before .before .before .run .given .1) (c .before .before .before .before .before .before .before .before .before .before .annotations .ensures)) (on _ (blank-took (c .before .before .before .before .before .before .rest-at2 .ensures) (c .before .before .before .before .before .whitespace0 .ensures)) (on _ (tag-took (c .before .before .before .before .rest-at3 .ensures) (c .before .close .given .1) 93 (c .before .before .before .tag2 .ensures)) (done _ _ _ _))))))
+returns-4 c = skip-is _ _ _ _ _ (begin (annotations-in-brackets) _ _ (on _ (tag-took (rest-self _ _) (c .before .before .before .before .before .before .before .before .before .before .bracket .given .1) 91 (c .before .before .before .before .before .before .before .before .before .before .before .before .tag .ensures)) (go _ (skip-took annotations-onward (c .before .before .before .before .before .before .before .before .rest-at .ensures) (c .before .before .before .before .before .run .given .1) (c .before .before .before .before .before .before .before .annotations .ensures)) (pair-on _ _ _ (tag-behind-took 93 (c .before .close .given .1) (c .before .before .before .tag-behind .ensures)) (done _ _ _ _)))))
 
 pub annotations-in-brackets-spec : {M : Type 1} → statement M
-annotations-in-brackets-spec =
-    tie.close
-    (tie.spec
-    tag-requires
-    enum-known-bracket
-    enum-told
-    step-lost-requires
-    returns
-    rest-at-requires
-    annotations-requires
-    enum-known-run
-    enum-told-2
-    step-lost-requires-2
-    returns-2
-    rest-at-requires-2
-    whitespace0-requires
-    rest-at-requires-3
-    tag-requires-2
-    enum-known-close
-    enum-told-3
-    step-lost-requires-3
-    returns-3
-    returns-4)
+annotations-in-brackets-spec = tie.close (tie.spec tag-requires enum-known-bracket enum-told step-lost-requires returns rest-at-requires annotations-requires enum-known-run enum-told-2 step-lost-requires-2 returns-2 tag-behind-requires enum-known-close enum-told-3 step-lost-requires-3 returns-3 returns-4)

@@ -8,7 +8,7 @@ annotations-in-brackets-requires : tie.Need-annotations-in-brackets-requires
 annotations-in-brackets-requires c κs = search needs
 
 optional-requires : tie.Need-optional-requires
-optional-requires c κs = search needs
+optional-requires c κs = tt
 
 returns : tie.Need-returns
 unfolding constant-annotations-list

@@ -12,13 +12,13 @@ tag-requires : tie.Need-tag-requires
 tag-requires c κs = search needs
 
 enum-known-brace : tie.Need-enum-known-brace
-enum-known-brace c = search needs
+enum-known-brace c = c .match .keys1
 
 enum-told : tie.Need-enum-told
-enum-told c = search needs
+enum-told c = c .match .keys2
 
 step-lost-requires : tie.Need-step-lost-requires
-step-lost-requires c κs = search needs
+step-lost-requires c κs = tt
 
 returns : tie.Need-returns
 unfolding constant-entries-list
@@ -31,10 +31,10 @@ count-entries-requires : tie.Need-count-entries-requires
 count-entries-requires c κs = search needs
 
 enum-known-run : tie.Need-enum-known-run
-enum-known-run c = search needs
+enum-known-run c = c .match2 .keys1
 
 enum-told-2 : tie.Need-enum-told-2
-enum-told-2 c = search needs
+enum-told-2 c = c .match2 .keys2
 
 returns-2 : tie.Need-returns-2
 unfolding constant-entries-list
@@ -53,13 +53,13 @@ tag-requires-2 : tie.Need-tag-requires-2
 tag-requires-2 c κs = search needs
 
 enum-known-close : tie.Need-enum-known-close
-enum-known-close c = search needs
+enum-known-close c = c .match3 .keys1
 
 enum-told-3 : tie.Need-enum-told-3
-enum-told-3 c = search needs
+enum-told-3 c = c .match3 .keys2
 
 step-lost-requires-2 : tie.Need-step-lost-requires-2
-step-lost-requires-2 c κs = search needs
+step-lost-requires-2 c κs = tt
 
 returns-3 : tie.Need-returns-3
 unfolding constant-entries-list

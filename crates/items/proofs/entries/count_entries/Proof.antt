@@ -28,16 +28,16 @@ blank-entry-requires : tie.Need-blank-entry-requires Inv-loop μ-loop
 blank-entry-requires c κs = search needs
 
 enum-known-r : tie.Need-enum-known-r Inv-loop μ-loop
-enum-known-r c = search needs
+enum-known-r c = c .match .keys1
 
 enum-told : tie.Need-enum-told Inv-loop μ-loop
-enum-told c = search needs
+enum-told c = c .match .keys2
 
 entry-lost-requires : tie.Need-entry-lost-requires Inv-loop μ-loop
-entry-lost-requires c κs = search needs
+entry-lost-requires c κs = tt
 
 count-end-requires : tie.Need-count-end-requires Inv-loop μ-loop
-count-end-requires c κs = search needs
+count-end-requires c κs = tt
 
 returns : tie.Need-returns Inv-loop μ-loop
 unfolding constant-entries

@@ -7,7 +7,7 @@ tag-requires : tie.Need-tag-requires
 tag-requires c κs = search needs
 
 optional-requires : tie.Need-optional-requires
-optional-requires c κs = search needs
+optional-requires c κs = tt
 
 returns : tie.Need-returns
 returns c = opt-skips (c .before .tag .result) (tag-skips 44 (c .before .tag .result) (c .before .tag .ensures)) (c .optional .ensures)

@@ -4,19 +4,19 @@ use Rattle.items.proofs.items.count_declaration.Tie as tie
 use Rattle.items.proofs.items.Laws.{clusters, endpoints, enums, bitmaps, structs, top, kind-counted, kind-unknown}
 
 enum-told : tie.Need-enum-told
-enum-told c = search needs
+enum-told c = c .match .keys1
 
 cluster-after-doc-maturity-requires : tie.Need-cluster-after-doc-maturity-requires
 cluster-after-doc-maturity-requires c κs = search needs
 
 enum-told-2 : tie.Need-enum-told-2
-enum-told-2 c = search needs
+enum-told-2 c = c .match .keys2
 
 endpoint-requires : tie.Need-endpoint-requires
 endpoint-requires c κs = search needs
 
 enum-told-3 : tie.Need-enum-told-3
-enum-told-3 c = search needs
+enum-told-3 c = c .match .keys3
 
 slice-aggregate-choice-after-doc-maturity : tie.Need-slice-aggregate-choice-after-doc-maturity
 slice-aggregate-choice-after-doc-maturity c = search needs
@@ -25,7 +25,7 @@ choice-after-doc-maturity-requires : tie.Need-choice-after-doc-maturity-requires
 choice-after-doc-maturity-requires c κs = search needs
 
 enum-told-4 : tie.Need-enum-told-4
-enum-told-4 c = search needs
+enum-told-4 c = c .match .keys4
 
 slice-aggregate-choice-after-doc-maturity-2 : tie.Need-slice-aggregate-choice-after-doc-maturity-2
 slice-aggregate-choice-after-doc-maturity-2 c = search needs
@@ -34,13 +34,13 @@ choice-after-doc-maturity-requires-2 : tie.Need-choice-after-doc-maturity-requir
 choice-after-doc-maturity-requires-2 c κs = search needs
 
 enum-told-5 : tie.Need-enum-told-5
-enum-told-5 c = search needs
+enum-told-5 c = c .match .keys5
 
 parse-struct-after-doc-maturity-requires : tie.Need-parse-struct-after-doc-maturity-requires
 parse-struct-after-doc-maturity-requires c κs = search needs
 
 enum-told-6 : tie.Need-enum-told-6
-enum-told-6 c = search needs
+enum-told-6 c = c .match .keys6
 
 returns : tie.Need-returns
 returns c = kind-counted (c .before .enum-told .given .1) (λ i. clusters (i .doc) (i .maturity)) (c .cluster-after-doc-maturity .ensures .counts)

@@ -14,7 +14,7 @@ count-declaration-requires : tie.Need-count-declaration-requires
 count-declaration-requires c κs = omega (arith, c .rest-at .ensures .size, c .before .before .before .pre .0)
 
 raise-requires : tie.Need-raise-requires
-raise-requires c κs = search needs
+raise-requires c κs = tt
 
 returns : tie.Need-returns
 returns c = started (c .before .before .before .declaration-start .ensures) (c .before .before .rest-at .ensures) (c .before .count-declaration .ensures) (c .raise .ensures)

@@ -42,7 +42,7 @@ member-kind-requires : tie.Need-member-kind-requires
 member-kind-requires c κs = (omega (arith, c .rest-at3 .ensures .size, c .before .before .before .before .before .before .before .before .before .before .before .pre .0), rest-clear (blank-took (c .before .before .before .before .before .rest-at .ensures) (c .before .before .before .before .whitespace0 .ensures)) (c .rest-at3 .ensures))
 
 type-kind-requires : tie.Need-type-kind-requires
-type-kind-requires c κs = search needs
+type-kind-requires c κs = tt
 
 returns-3 : tie.Need-returns-3
 returns-3 c = start-type _ _ (c .before .before .before .before .before .before .before .before .before .before .before .before .before .pre .1) (sym (c .before .before .before .before .before .before .before .before .before .before .starts .ensures) ∙ c .before .before .before .before .before .before .before .before .before .if1 .left) (maturity-took (rest-self _ _) (c .before .before .before .before .before .before .before .before .api-maturity .ensures)) (c .before .before .before .before .before .before .before .before .api-maturity .ensures .small) (blank-took (c .before .before .before .before .before .before .before .rest-at .ensures) (c .before .before .before .before .before .before .whitespace0 .ensures)) (c .before .before .before .before .before .rest-at2 .ensures) (c .before .before .before .before .starts-cluster .ensures) (c .before .before .before .if2 .left) (c .before .before .rest-at3 .ensures) (c .before .member-kind .ensures) (c .type-kind .ensures)

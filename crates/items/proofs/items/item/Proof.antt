@@ -16,10 +16,10 @@ declaration-requires : tie.Need-declaration-requires
 declaration-requires c κs = (omega (arith, c .rest-at .ensures .size, c .before .before .before .pre), rest-clear (blank-took (rest-self _ _) (c .before .whitespace0 .ensures)) (c .rest-at .ensures))
 
 enum-known-r : tie.Need-enum-known-r
-enum-known-r c = search needs
+enum-known-r c = c .match .keys1
 
 enum-told : tie.Need-enum-told
-enum-told c = search needs
+enum-told c = c .match .keys2
 
 returns : tie.Need-returns
 returns c = item-words (c .before .before .before .before .whitespace0 .ensures) (c .before .before .before .rest-at .ensures) (c .before .before .declaration .ensures) (c .enum-told .given .1)
@@ -28,7 +28,7 @@ returns-2 : tie.Need-returns-2
 returns-2 c = item-lost (c .before .before .before .before .before .before .whitespace0 .ensures) (c .before .before .before .before .before .rest-at .ensures) (c .before .before .before .before .declaration .ensures) (c .if1 .taken) (c .before .before .r .given .1)
 
 count-end-requires : tie.Need-count-end-requires
-count-end-requires c κs = search needs
+count-end-requires c κs = tt
 
 returns-3 : tie.Need-returns-3
 returns-3 c = item-blank (c .before .before .before .before .before .before .before .whitespace0 .ensures) (c .before .before .before .before .before .before .rest-at .ensures) (c .before .before .before .before .before .declaration .ensures) (c .before .if1 .left) (c .before .before .before .r .given .1) (c .count-end .ensures)

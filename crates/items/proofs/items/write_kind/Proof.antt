@@ -9,19 +9,19 @@ use Rattle.items.proofs.writing.Laws.{written-same}
 use Rattle.items.proofs.items.Laws.{clusters, endpoints, enums, bitmaps, structs, of-kind, nothing-found}
 
 enum-told : tie.Need-enum-told
-enum-told c = search needs
+enum-told c = c .match .keys1
 
 write-cluster-requires : tie.Need-write-cluster-requires
 write-cluster-requires c κs = (c .before .before .before .before .before .pre .0, (record { place-fits = omega arith; maturity-fits = c .before .before .before .before .before .pre .1 .1 .0; doc-fits = c .before .before .before .before .before .pre .1 .0 }, recorded-room (of-kind (docOf (c .before .before .before .before .before .args .doc)) (c .before .before .before .before .before .args .maturity) (c .before .enum-told .given .1) (clusters (docOf (c .before .before .before .before .before .args .doc)) (c .before .before .before .before .before .args .maturity))) (c .before .before .before .before .before .pre .1 .1 .1)))
 
 enum-told-2 : tie.Need-enum-told-2
-enum-told-2 c = search needs
+enum-told-2 c = c .match .keys2
 
 write-endpoint-requires : tie.Need-write-endpoint-requires
 write-endpoint-requires c κs = (c .before .before .before .before .before .pre .0, recorded-room (of-kind (docOf (c .before .before .before .before .before .args .doc)) (c .before .before .before .before .before .args .maturity) (c .before .enum-told2 .given .1) (endpoints (docOf (c .before .before .before .before .before .args .doc)) (c .before .before .before .before .before .args .maturity))) (c .before .before .before .before .before .pre .1 .1 .1))
 
 enum-told-3 : tie.Need-enum-told-3
-enum-told-3 c = search needs
+enum-told-3 c = c .match .keys3
 
 slice-aggregate-write-choice : tie.Need-slice-aggregate-write-choice
 slice-aggregate-write-choice c = search needs
@@ -30,7 +30,7 @@ write-choice-requires : tie.Need-write-choice-requires
 write-choice-requires c κs = (c .before .before .before .before .before .before .pre .0, (record { place-fits = omega arith; maturity-fits = c .before .before .before .before .before .before .pre .1 .1 .0; doc-fits = c .before .before .before .before .before .before .pre .1 .0 }, recorded-room (of-kind (docOf (c .before .before .before .before .before .before .args .doc)) (c .before .before .before .before .before .before .args .maturity) (c .before .before .enum-told3 .given .1) (enums (docOf (c .before .before .before .before .before .before .args .doc)) (c .before .before .before .before .before .before .args .maturity))) (c .before .before .before .before .before .before .pre .1 .1 .1)))
 
 enum-told-4 : tie.Need-enum-told-4
-enum-told-4 c = search needs
+enum-told-4 c = c .match .keys4
 
 slice-aggregate-write-choice-2 : tie.Need-slice-aggregate-write-choice-2
 slice-aggregate-write-choice-2 c = search needs
@@ -39,13 +39,13 @@ write-choice-requires-2 : tie.Need-write-choice-requires-2
 write-choice-requires-2 c κs = (c .before .before .before .before .before .before .pre .0, (record { place-fits = omega arith; maturity-fits = c .before .before .before .before .before .before .pre .1 .1 .0; doc-fits = c .before .before .before .before .before .before .pre .1 .0 }, recorded-room (of-kind (docOf (c .before .before .before .before .before .before .args .doc)) (c .before .before .before .before .before .before .args .maturity) (c .before .before .enum-told4 .given .1) (bitmaps (docOf (c .before .before .before .before .before .before .args .doc)) (c .before .before .before .before .before .before .args .maturity))) (c .before .before .before .before .before .before .pre .1 .1 .1)))
 
 enum-told-5 : tie.Need-enum-told-5
-enum-told-5 c = search needs
+enum-told-5 c = c .match .keys5
 
 write-struct-requires : tie.Need-write-struct-requires
 write-struct-requires c κs = (c .before .before .before .before .before .pre .0, (record { place-fits = omega arith; maturity-fits = c .before .before .before .before .before .pre .1 .1 .0; doc-fits = c .before .before .before .before .before .pre .1 .0 }, recorded-room (of-kind (docOf (c .before .before .before .before .before .args .doc)) (c .before .before .before .before .before .args .maturity) (c .before .enum-told5 .given .1) (structs (docOf (c .before .before .before .before .before .args .doc)) (c .before .before .before .before .before .args .maturity))) (c .before .before .before .before .before .pre .1 .1 .1)))
 
 enum-told-6 : tie.Need-enum-told-6
-enum-told-6 c = search needs
+enum-told-6 c = c .match .keys6
 
 same-length : tie.Need-same-length
 same-length c = written-same (recorded-room (of-kind (docOf (c .before .before .before .before .before .before .before .before .args .doc)) (c .before .before .before .before .before .before .before .before .args .maturity) (c .before .before .before .before .enum-told .given .1) (clusters (docOf (c .before .before .before .before .before .before .before .before .args .doc)) (c .before .before .before .before .before .before .before .before .args .maturity))) (c .before .before .before .before .before .before .before .before .pre .1 .1 .1)) (c .before .before .write-cluster .ensures) refl

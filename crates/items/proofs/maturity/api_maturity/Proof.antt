@@ -14,14 +14,14 @@ keyword-requires : tie.Need-keyword-requires
 keyword-requires c κs = search needs
 
 enum-known-stable : tie.Need-enum-known-stable
-enum-known-stable c = search needs
+enum-known-stable c = c .match .keys1
 
 returns : tie.Need-returns
 unfolding api-maturity
 returns c = maturity-is 0 _ _ _ (omega arith) (or-here _ _ _ _ _ _ _ (keyword-value (ascii "stable") 0 _ _ _ (c .before .before .before .keyword .ensures) _ (c .before .stable .given .1)))
 
 enum-told : tie.Need-enum-told
-enum-told c = search needs
+enum-told c = c .match .keys2
 
 slice-aggregate-keyword-2 : tie.Need-slice-aggregate-keyword-2
 slice-aggregate-keyword-2 c = search needs
@@ -30,14 +30,14 @@ keyword-requires-2 : tie.Need-keyword-requires-2
 keyword-requires-2 c κs = search needs
 
 enum-known-provisional : tie.Need-enum-known-provisional
-enum-known-provisional c = search needs
+enum-known-provisional c = c .match2 .keys1
 
 returns-2 : tie.Need-returns-2
 unfolding api-maturity
 returns-2 c = maturity-is 1 _ _ _ (omega arith) (or-next _ _ _ _ _ _ _ _ (keyword-none (ascii "stable") 0 _ _ _ (c .before .before .before .before .before .before .before .keyword .ensures) _ (c .before .before .before .before .before .enum-told .given .1) .1) (or-here _ _ _ _ _ _ _ (keyword-value (ascii "provisional") 1 _ _ _ (c .before .before .before .keyword2 .ensures) _ (c .before .provisional .given .1))))
 
 enum-told-2 : tie.Need-enum-told-2
-enum-told-2 c = search needs
+enum-told-2 c = c .match2 .keys2
 
 slice-aggregate-keyword-3 : tie.Need-slice-aggregate-keyword-3
 slice-aggregate-keyword-3 c = search needs
@@ -46,14 +46,14 @@ keyword-requires-3 : tie.Need-keyword-requires-3
 keyword-requires-3 c κs = search needs
 
 enum-known-internal : tie.Need-enum-known-internal
-enum-known-internal c = search needs
+enum-known-internal c = c .match3 .keys1
 
 returns-3 : tie.Need-returns-3
 unfolding api-maturity
 returns-3 c = maturity-is 2 _ _ _ (omega arith) (or-next _ _ _ _ _ _ _ _ (keyword-none (ascii "stable") 0 _ _ _ (c .before .before .before .before .before .before .before .before .before .before .before .keyword .ensures) _ (c .before .before .before .before .before .before .before .before .before .enum-told .given .1) .1) (or-next _ _ _ _ _ _ _ _ (keyword-none (ascii "provisional") 1 _ _ _ (c .before .before .before .before .before .before .before .keyword2 .ensures) _ (c .before .before .before .before .before .enum-told2 .given .1) .1) (or-here _ _ _ _ _ _ _ (keyword-value (ascii "internal") 2 _ _ _ (c .before .before .before .keyword3 .ensures) _ (c .before .internal .given .1)))))
 
 enum-told-3 : tie.Need-enum-told-3
-enum-told-3 c = search needs
+enum-told-3 c = c .match3 .keys2
 
 slice-aggregate-keyword-4 : tie.Need-slice-aggregate-keyword-4
 slice-aggregate-keyword-4 c = search needs
@@ -62,14 +62,14 @@ keyword-requires-4 : tie.Need-keyword-requires-4
 keyword-requires-4 c κs = search needs
 
 enum-known-deprecated : tie.Need-enum-known-deprecated
-enum-known-deprecated c = search needs
+enum-known-deprecated c = c .match4 .keys1
 
 returns-4 : tie.Need-returns-4
 unfolding api-maturity
 returns-4 c = maturity-is 3 _ _ _ (omega arith) (or-next _ _ _ _ _ _ _ _ (keyword-none (ascii "stable") 0 _ _ _ (c .before .before .before .before .before .before .before .before .before .before .before .before .before .before .before .keyword .ensures) _ (c .before .before .before .before .before .before .before .before .before .before .before .before .before .enum-told .given .1) .1) (or-next _ _ _ _ _ _ _ _ (keyword-none (ascii "provisional") 1 _ _ _ (c .before .before .before .before .before .before .before .before .before .before .before .keyword2 .ensures) _ (c .before .before .before .before .before .before .before .before .before .enum-told2 .given .1) .1) (or-next _ _ _ _ _ _ _ _ (keyword-none (ascii "internal") 2 _ _ _ (c .before .before .before .before .before .before .before .keyword3 .ensures) _ (c .before .before .before .before .before .enum-told3 .given .1) .1) (or-here _ _ _ _ _ _ _ (keyword-value (ascii "deprecated") 3 _ _ _ (c .before .before .before .keyword4 .ensures) _ (c .before .deprecated .given .1))))))
 
 enum-told-4 : tie.Need-enum-told-4
-enum-told-4 c = search needs
+enum-told-4 c = c .match4 .keys2
 
 returns-5 : tie.Need-returns-5
 unfolding api-maturity

@@ -20,102 +20,102 @@ keyword-requires : tie.Need-keyword-requires
 keyword-requires c κs = search needs
 
 enum-known-access : tie.Need-enum-known-access
-enum-known-access c = search needs
+enum-known-access c = c .match .keys1
 
 enum-told : tie.Need-enum-told
-enum-told c = search needs
+enum-told c = c .match .keys2
 
 step-lost-requires : tie.Need-step-lost-requires
-step-lost-requires c κs = search needs
+step-lost-requires c κs = tt
 
 returns : tie.Need-returns
 unfolding access-to
 returns c = read-not _ refl tt (begin (access-to (c .before .before .before .before .before .before .before .args .key .now)) _ _ (fall _ _ (c .step-lost .result) (rest-self _ _) (step-lost (wordAt _ _) (c .step-lost .ensures) (c .before .enum-told .given .1) _ _ _ (c .before .before .before .keyword .ensures))))
 
 tag-behind-requires : tie.Need-tag-behind-requires
-tag-behind-requires c κs = omega (arith, (keyword-took (rest-self _ _) (c .before .access .given .1) (ascii "access") (c .before .before .before .keyword .ensures)) .up, (keyword-took (rest-self _ _) (c .before .access .given .1) (ascii "access") (c .before .before .before .keyword .ensures)) .inside, c .before .before .before .before .before .before .before .pre)
+tag-behind-requires c κs = let t = keyword-took (rest-self _ _) (c .before .access .given .1) (ascii "access") (c .before .before .before .keyword .ensures) in omega (arith, t .up, t .inside, c .before .before .before .before .before .before .before .pre)
 
 enum-known-opening : tie.Need-enum-known-opening
-enum-known-opening c = search needs
+enum-known-opening c = c .match2 .keys1
 
 enum-told-2 : tie.Need-enum-told-2
-enum-told-2 c = search needs
+enum-told-2 c = c .match2 .keys2
 
 step-lost-requires-2 : tie.Need-step-lost-requires-2
-step-lost-requires-2 c κs = search needs
+step-lost-requires-2 c κs = tt
 
 returns-2 : tie.Need-returns-2
 unfolding access-to
 returns-2 c = read-not _ refl tt (begin (access-to (c .before .before .before .before .before .before .before .before .before .before .before .args .key .now)) _ _ (on _ (keyword-took (rest-self _ _) (c .before .before .before .before .before .access .given .1) (ascii "access") (c .before .before .before .before .before .before .before .keyword .ensures)) (pair-fall _ _ _ (c .step-lost2 .result) (c .before .before .before .tag-behind .ensures .at) (skips-lost (c .step-lost2 .ensures) (c .before .enum-told2 .given .1) (c .before .before .before .tag-behind .ensures)))))
 
 keyword-behind-requires : tie.Need-keyword-behind-requires
-keyword-behind-requires c κs = omega (arith, (tag-behind-took 40 (c .before .opening .given .1) (c .before .before .before .tag-behind .ensures)) .up, (tag-behind-took 40 (c .before .opening .given .1) (c .before .before .before .tag-behind .ensures)) .inside, c .before .before .before .tag-behind .ensures .at .from, c .before .before .before .before .before .before .before .before .before .before .before .pre)
+keyword-behind-requires c κs = let t = tag-behind-took 40 (c .before .opening .given .1) (c .before .before .before .tag-behind .ensures) in omega (arith, t .up, t .inside, c .before .before .before .tag-behind .ensures .at .from, c .before .before .before .before .before .before .before .before .before .before .before .pre)
 
 enum-known-operation : tie.Need-enum-known-operation
-enum-known-operation c = search needs
+enum-known-operation c = c .match3 .keys1
 
 enum-told-3 : tie.Need-enum-told-3
-enum-told-3 c = search needs
+enum-told-3 c = c .match3 .keys2
 
 step-lost-requires-3 : tie.Need-step-lost-requires-3
-step-lost-requires-3 c κs = search needs
+step-lost-requires-3 c κs = tt
 
 returns-3 : tie.Need-returns-3
 unfolding access-to
 returns-3 c = read-not _ refl tt (begin (access-to (c .before .before .before .before .before .before .before .before .before .before .before .before .before .before .before .args .key .now)) _ _ (on _ (keyword-took (rest-self _ _) (c .before .before .before .before .before .before .before .before .before .access .given .1) (ascii "access") (c .before .before .before .before .before .before .before .before .before .before .before .keyword .ensures)) (pair-on _ _ _ (tag-behind-took 40 (c .before .before .before .before .before .opening .given .1) (c .before .before .before .before .before .before .before .tag-behind .ensures)) (pair-fall _ _ _ (c .step-lost3 .result) (c .before .before .before .keyword-behind .ensures .at) (skips-lost (c .step-lost3 .ensures) (c .before .enum-told3 .given .1) (c .before .before .before .keyword-behind .ensures))))))
 
 rest-at-requires : tie.Need-rest-at-requires
-rest-at-requires c κs = omega (arith, (keyword-behind-took _ (c .before .operation .given .1) (c .before .before .before .keyword-behind .ensures)) .up, (keyword-behind-took _ (c .before .operation .given .1) (c .before .before .before .keyword-behind .ensures)) .inside, c .before .before .before .keyword-behind .ensures .at .from)
+rest-at-requires c κs = let t = keyword-behind-took _ (c .before .operation .given .1) (c .before .before .before .keyword-behind .ensures) in omega (arith, t .up, t .inside, c .before .before .before .keyword-behind .ensures .at .from)
 
 tag-requires : tie.Need-tag-requires
 tag-requires c κs = omega (arith, c .rest-at .ensures .size, c .before .before .before .before .before .before .before .before .before .before .before .before .before .before .before .before .pre)
 
 enum-known-colon : tie.Need-enum-known-colon
-enum-known-colon c = search needs
+enum-known-colon c = c .match4 .keys1
 
 enum-told-4 : tie.Need-enum-told-4
-enum-told-4 c = search needs
+enum-told-4 c = c .match4 .keys2
 
 step-lost-requires-4 : tie.Need-step-lost-requires-4
-step-lost-requires-4 c κs = search needs
+step-lost-requires-4 c κs = tt
 
 returns-4 : tie.Need-returns-4
 unfolding access-to
 returns-4 c = read-not _ refl tt (begin (access-to (c .before .before .before .before .before .before .before .before .before .before .before .before .before .before .before .before .before .before .before .before .args .key .now)) _ _ (on _ (keyword-took (rest-self _ _) (c .before .before .before .before .before .before .before .before .before .before .before .before .before .before .access .given .1) (ascii "access") (c .before .before .before .before .before .before .before .before .before .before .before .before .before .before .before .before .keyword .ensures)) (pair-on _ _ _ (tag-behind-took 40 (c .before .before .before .before .before .before .before .before .before .before .opening .given .1) (c .before .before .before .before .before .before .before .before .before .before .before .before .tag-behind .ensures)) (pair-on _ _ _ (keyword-behind-took _ (c .before .before .before .before .before .before .operation .given .1) (c .before .before .before .before .before .before .before .before .keyword-behind .ensures)) (fall _ _ (c .step-lost4 .result) (c .before .before .before .before .rest-at .ensures) (step-lost (λ c. tt) (c .step-lost4 .ensures) (c .before .enum-told4 .given .1) _ _ _ (c .before .before .before .tag .ensures)))))))
 
 blank-at-requires : tie.Need-blank-at-requires
-blank-at-requires c κs = omega (arith, (tag-took (c .before .before .before .before .rest-at .ensures) (c .before .colon .given .1) 58 (c .before .before .before .tag .ensures)) .up, (tag-took (c .before .before .before .before .rest-at .ensures) (c .before .colon .given .1) 58 (c .before .before .before .tag .ensures)) .inside, c .before .before .before .before .rest-at .ensures .from, c .before .before .before .before .before .before .before .before .before .before .before .before .before .before .before .before .before .before .before .before .pre)
+blank-at-requires c κs = let t = tag-took (c .before .before .before .before .rest-at .ensures) (c .before .colon .given .1) 58 (c .before .before .before .tag .ensures) in omega (arith, t .up, t .inside, c .before .before .before .before .rest-at .ensures .from, c .before .before .before .before .before .before .before .before .before .before .before .before .before .before .before .before .before .before .before .before .pre)
 
 rest-at-requires-2 : tie.Need-rest-at-requires-2
-rest-at-requires-2 c κs = omega (arith, (blank-at-took (c .blank-at .ensures)) .up, (blank-at-took (c .blank-at .ensures)) .inside, c .blank-at .ensures .at .from)
+rest-at-requires-2 c κs = let t = blank-at-took (c .blank-at .ensures) in omega (arith, t .up, t .inside, c .blank-at .ensures .at .from)
 
 access-privilege-requires : tie.Need-access-privilege-requires
 access-privilege-requires c κs = omega (arith, c .rest-at2 .ensures .size, c .before .before .before .before .before .before .before .before .before .before .before .before .before .before .before .before .before .before .before .before .before .before .pre)
 
 enum-known-granted : tie.Need-enum-known-granted
-enum-known-granted c = search needs
+enum-known-granted c = c .match5 .keys1
 
 enum-told-5 : tie.Need-enum-told-5
-enum-told-5 c = search needs
+enum-told-5 c = c .match5 .keys2
 
 level-lost-requires : tie.Need-level-lost-requires
-level-lost-requires c κs = search needs
+level-lost-requires c κs = tt
 
 returns-5 : tie.Need-returns-5
 unfolding access-to
 returns-5 c = read-not _ refl tt (begin (access-to (c .before .before .before .before .before .before .before .before .before .before .before .before .before .before .before .before .before .before .before .before .before .before .before .before .before .before .args .key .now)) _ _ (on _ (keyword-took (rest-self _ _) (c .before .before .before .before .before .before .before .before .before .before .before .before .before .before .before .before .before .before .before .before .access .given .1) (ascii "access") (c .before .before .before .before .before .before .before .before .before .before .before .before .before .before .before .before .before .before .before .before .before .before .keyword .ensures)) (pair-on _ _ _ (tag-behind-took 40 (c .before .before .before .before .before .before .before .before .before .before .before .before .before .before .before .before .opening .given .1) (c .before .before .before .before .before .before .before .before .before .before .before .before .before .before .before .before .before .before .tag-behind .ensures)) (pair-on _ _ _ (keyword-behind-took _ (c .before .before .before .before .before .before .before .before .before .before .before .before .operation .given .1) (c .before .before .before .before .before .before .before .before .before .before .before .before .before .before .keyword-behind .ensures)) (on _ (tag-took (c .before .before .before .before .before .before .before .before .before .before .rest-at .ensures) (c .before .before .before .before .before .before .before .colon .given .1) 58 (c .before .before .before .before .before .before .before .before .before .tag .ensures)) (on _ (blank-at-took (c .before .before .before .before .before .blank-at .ensures)) (lose _ _ (c .level-lost .result) (c .before .before .before .before .rest-at2 .ensures) (level-lost (c .before .before .before .access-privilege .ensures) (c .level-lost .ensures) (c .before .enum-told5 .given .1)))))))))
 
 tag-behind-requires-2 : tie.Need-tag-behind-requires-2
-tag-behind-requires-2 c κs = omega (arith, (level-took (c .before .before .before .access-privilege .ensures) (walks (access-privilege-local .on-chain)) (c .before .before .before .before .rest-at2 .ensures) (c .before .granted .given .1)) .up, (level-took (c .before .before .before .access-privilege .ensures) (walks (access-privilege-local .on-chain)) (c .before .before .before .before .rest-at2 .ensures) (c .before .granted .given .1)) .inside, c .before .before .before .before .rest-at2 .ensures .from, c .before .before .before .before .before .before .before .before .before .before .before .before .before .before .before .before .before .before .before .before .before .before .before .before .before .before .pre)
+tag-behind-requires-2 c κs = let t = level-took (c .before .before .before .access-privilege .ensures) (walks (access-privilege-local .on-chain)) (c .before .before .before .before .rest-at2 .ensures) (c .before .granted .given .1) in omega (arith, t .up, t .inside, c .before .before .before .before .rest-at2 .ensures .from, c .before .before .before .before .before .before .before .before .before .before .before .before .before .before .before .before .before .before .before .before .before .before .before .before .before .before .pre)
 
 enum-known-closing : tie.Need-enum-known-closing
-enum-known-closing c = search needs
+enum-known-closing c = c .match6 .keys1
 
 enum-told-6 : tie.Need-enum-told-6
-enum-told-6 c = search needs
+enum-told-6 c = c .match6 .keys2
 
 step-lost-requires-5 : tie.Need-step-lost-requires-5
-step-lost-requires-5 c κs = search needs
+step-lost-requires-5 c κs = tt
 
 returns-6 : tie.Need-returns-6
 unfolding access-to

@@ -23,60 +23,60 @@ slice-aggregate-keyword-behind : tie.Need-slice-aggregate-keyword-behind
 slice-aggregate-keyword-behind c = search needs
 
 keyword-behind-requires : tie.Need-keyword-behind-requires
-keyword-behind-requires c κs = omega (arith, (set-took (rest-self _ _) (c .before .keywords-set .ensures)) .up, (set-took (rest-self _ _) (c .before .keywords-set .ensures)) .inside, c .before .before .before .pre)
+keyword-behind-requires c κs = let t = set-took (rest-self _ _) (c .before .keywords-set .ensures) in omega (arith, t .up, t .inside, c .before .before .before .pre)
 
 enum-known-command : tie.Need-enum-known-command
-enum-known-command c = search needs
+enum-known-command c = c .match .keys1
 
 enum-told : tie.Need-enum-told
-enum-told c = search needs
+enum-told c = c .match .keys2
 
 step-lost-requires : tie.Need-step-lost-requires
-step-lost-requires c κs = search needs
+step-lost-requires c κs = tt
 
 returns : tie.Need-returns
 unfolding command-head
 returns c = read-not _ refl tt (begin (command-head) _ _ (go _ (set-took (rest-self _ _) (c .before .before .before .before .before .keywords-set .ensures)) (pair-fall _ _ _ (c .step-lost .result) (c .before .before .before .keyword-behind .ensures .at) (skips-lost (c .step-lost .ensures) (c .before .enum-told .given .1) (c .before .before .before .keyword-behind .ensures)))))
 
 rest-at-requires : tie.Need-rest-at-requires
-rest-at-requires c κs = omega (arith, (keyword-behind-took (ascii "command") (c .before .command .given .1) (c .before .before .before .keyword-behind .ensures)) .up, (keyword-behind-took (ascii "command") (c .before .command .given .1) (c .before .before .before .keyword-behind .ensures)) .inside, c .before .before .before .keyword-behind .ensures .at .from)
+rest-at-requires c κs = let t = keyword-behind-took (ascii "command") (c .before .command .given .1) (c .before .before .before .keyword-behind .ensures) in omega (arith, t .up, t .inside, c .before .before .before .keyword-behind .ensures .at .from)
 
 invoke-access-requires : tie.Need-invoke-access-requires
 invoke-access-requires c κs = omega (arith, c .rest-at .ensures .size, c .before .before .before .before .before .before .before .before .pre)
 
 level-or-requires : tie.Need-level-or-requires
-level-or-requires c κs = search needs
+level-or-requires c κs = tt
 
 enum-known-access : tie.Need-enum-known-access
-enum-known-access c = search needs
+enum-known-access c = c .match2 .keys1
 
 enum-told-2 : tie.Need-enum-told-2
-enum-told-2 c = search needs
+enum-told-2 c = c .match2 .keys2
 
 level-lost-requires : tie.Need-level-lost-requires
-level-lost-requires c κs = search needs
+level-lost-requires c κs = tt
 
 returns-2 : tie.Need-returns-2
 unfolding command-head
 returns-2 c = read-not _ refl tt (begin (command-head) _ _ (go _ (set-took (rest-self _ _) (c .before .before .before .before .before .before .before .before .before .before .before .keywords-set .ensures)) (pair-on _ _ _ (keyword-behind-took (ascii "command") (c .before .before .before .before .before .before .before .command .given .1) (c .before .before .before .before .before .before .before .before .before .keyword-behind .ensures)) (lose _ _ (c .level-lost .result) (c .before .before .before .before .before .rest-at .ensures) (level-or-lost 1 (c .before .before .before .before .invoke-access .ensures) (c .before .before .before .level-or .ensures) (c .level-lost .ensures) (c .before .enum-told2 .given .1))))))
 
 blank-at-requires : tie.Need-blank-at-requires
-blank-at-requires c κs = omega (arith, ((level-or-took 1 (c .before .before .before .before .invoke-access .ensures) (c .before .before .before .level-or .ensures) (chain-then whitespace0-chain (chain-inside (access-to-inside (ascii "invoke")))) (omega arith) (c .before .before .before .before .before .rest-at .ensures) (c .before .access .given .1)) .step) .up, ((level-or-took 1 (c .before .before .before .before .invoke-access .ensures) (c .before .before .before .level-or .ensures) (chain-then whitespace0-chain (chain-inside (access-to-inside (ascii "invoke")))) (omega arith) (c .before .before .before .before .before .rest-at .ensures) (c .before .access .given .1)) .step) .inside, c .before .before .before .before .before .rest-at .ensures .from, c .before .before .before .before .before .before .before .before .before .before .before .before .before .pre)
+blank-at-requires c κs = let t = (level-or-took 1 (c .before .before .before .before .invoke-access .ensures) (c .before .before .before .level-or .ensures) (chain-then whitespace0-chain (chain-inside (access-to-inside (ascii "invoke")))) (omega arith) (c .before .before .before .before .before .rest-at .ensures) (c .before .access .given .1)) .step in omega (arith, t .up, t .inside, c .before .before .before .before .before .rest-at .ensures .from, c .before .before .before .before .before .before .before .before .before .before .before .before .before .pre)
 
 rest-at-requires-2 : tie.Need-rest-at-requires-2
-rest-at-requires-2 c κs = omega (arith, (blank-at-took (c .blank-at .ensures)) .up, (blank-at-took (c .blank-at .ensures)) .inside, c .blank-at .ensures .at .from)
+rest-at-requires-2 c κs = let t = blank-at-took (c .blank-at .ensures) in omega (arith, t .up, t .inside, c .blank-at .ensures .at .from)
 
 parse-id-requires : tie.Need-parse-id-requires
 parse-id-requires c κs = omega (arith, c .rest-at2 .ensures .size, c .before .before .before .before .before .before .before .before .before .before .before .before .before .before .before .pre)
 
 enum-known-id : tie.Need-enum-known-id
-enum-known-id c = search needs
+enum-known-id c = c .match3 .keys1
 
 enum-told-3 : tie.Need-enum-told-3
-enum-told-3 c = search needs
+enum-told-3 c = c .match3 .keys2
 
 step-lost-requires-2 : tie.Need-step-lost-requires-2
-step-lost-requires-2 c κs = search needs
+step-lost-requires-2 c κs = tt
 
 returns-3 : tie.Need-returns-3
 unfolding command-head

@@ -1,4 +1,3 @@
-use borrow.Author.Needs.{needs}
 use Rattle.items.proofs.members.command_types.Statement.{statement}
 use Rattle.items.proofs.members.command_types.Tie as tie
 use Rattle.items.specs.members.{command-types}
@@ -15,92 +14,92 @@ tag-behind-requires : tie.Need-tag-behind-requires
 tag-behind-requires c κs = omega (arith, c .before .pre)
 
 enum-known-opening : tie.Need-enum-known-opening
-enum-known-opening c = search needs
+enum-known-opening c = c .match .keys1
 
 enum-told : tie.Need-enum-told
-enum-told c = search needs
+enum-told c = c .match .keys2
 
 step-lost-requires : tie.Need-step-lost-requires
-step-lost-requires c κs = search needs
+step-lost-requires c κs = tt
 
 returns : tie.Need-returns
 unfolding command-types
 returns c = read-not _ refl tt (begin (command-types) _ _ (pair-fall _ _ _ (c .step-lost .result) (c .before .before .before .tag-behind .ensures .at) (skips-lost (c .step-lost .ensures) (c .before .enum-told .given .1) (c .before .before .before .tag-behind .ensures))))
 
 blank-at-requires : tie.Need-blank-at-requires
-blank-at-requires c κs = omega (arith, (tag-behind-took 40 (c .before .opening .given .1) (c .before .before .before .tag-behind .ensures)) .up, (tag-behind-took 40 (c .before .opening .given .1) (c .before .before .before .tag-behind .ensures)) .inside, c .before .before .before .before .before .pre)
+blank-at-requires c κs = let t = tag-behind-took 40 (c .before .opening .given .1) (c .before .before .before .tag-behind .ensures) in omega (arith, t .up, t .inside, c .before .before .before .before .before .pre)
 
 rest-at-requires : tie.Need-rest-at-requires
-rest-at-requires c κs = omega (arith, (blank-at-took (c .blank-at .ensures)) .up, (blank-at-took (c .blank-at .ensures)) .inside, c .blank-at .ensures .at .from)
+rest-at-requires c κs = let t = blank-at-took (c .blank-at .ensures) in omega (arith, t .up, t .inside, c .blank-at .ensures .at .from)
 
 parse-id-requires : tie.Need-parse-id-requires
 parse-id-requires c κs = omega (arith, c .rest-at .ensures .size, c .before .before .before .before .before .before .before .pre)
 
 optional-requires : tie.Need-optional-requires
-optional-requires c κs = search needs
+optional-requires c κs = tt
 
 enum-known-from : tie.Need-enum-known-from
-enum-known-from c = search needs
+enum-known-from c = c .match2 .keys1
 
 enum-told-2 : tie.Need-enum-told-2
-enum-told-2 c = search needs
+enum-told-2 c = c .match2 .keys2
 
 step-lost-requires-2 : tie.Need-step-lost-requires-2
-step-lost-requires-2 c κs = search needs
+step-lost-requires-2 c κs = tt
 
 returns-2 : tie.Need-returns-2
 unfolding command-types
 returns-2 c = read-not _ refl tt (begin (command-types) _ _ (pair-on _ _ _ (tag-behind-took 40 (c .before .before .before .before .before .before .before .before .opening .given .1) (c .before .before .before .before .before .before .before .before .before .before .tag-behind .ensures)) (on _ (blank-at-took (c .before .before .before .before .before .before .blank-at .ensures)) (lose _ _ (c .step-lost2 .result) (c .before .before .before .before .before .rest-at .ensures) (optional-word-lost (c .before .before .before .before .parse-id .result) _ _ (c .before .before .before .before .parse-id .ensures) (c .before .before .before .optional .ensures) (c .step-lost2 .ensures) (c .before .enum-told2 .given .1))))))
 
 tag-behind-requires-2 : tie.Need-tag-behind-requires-2
-tag-behind-requires-2 c κs = omega (arith, (optional-word-took (c .before .before .before .before .parse-id .result) _ _ (c .before .before .before .before .parse-id .ensures) (c .before .before .before .optional .ensures) (c .before .before .before .before .before .rest-at .ensures) (c .before .from .given .1)) .up, (optional-word-took (c .before .before .before .before .parse-id .result) _ _ (c .before .before .before .before .parse-id .ensures) (c .before .before .before .optional .ensures) (c .before .before .before .before .before .rest-at .ensures) (c .before .from .given .1)) .inside, c .before .before .before .before .before .rest-at .ensures .from, c .before .before .before .before .before .before .before .before .before .before .before .before .pre)
+tag-behind-requires-2 c κs = let t = optional-word-took (c .before .before .before .before .parse-id .result) _ _ (c .before .before .before .before .parse-id .ensures) (c .before .before .before .optional .ensures) (c .before .before .before .before .before .rest-at .ensures) (c .before .from .given .1) in omega (arith, t .up, t .inside, c .before .before .before .before .before .rest-at .ensures .from, c .before .before .before .before .before .before .before .before .before .before .before .before .pre)
 
 enum-known-closing : tie.Need-enum-known-closing
-enum-known-closing c = search needs
+enum-known-closing c = c .match3 .keys1
 
 enum-told-3 : tie.Need-enum-told-3
-enum-told-3 c = search needs
+enum-told-3 c = c .match3 .keys2
 
 step-lost-requires-3 : tie.Need-step-lost-requires-3
-step-lost-requires-3 c κs = search needs
+step-lost-requires-3 c κs = tt
 
 returns-3 : tie.Need-returns-3
 unfolding command-types
 returns-3 c = read-not _ refl tt (begin (command-types) _ _ (pair-on _ _ _ (tag-behind-took 40 (c .before .before .before .before .before .before .before .before .before .before .before .before .opening .given .1) (c .before .before .before .before .before .before .before .before .before .before .before .before .before .before .tag-behind .ensures)) (on _ (blank-at-took (c .before .before .before .before .before .before .before .before .before .before .blank-at .ensures)) (go _ (optional-word-took (c .before .before .before .before .before .before .before .before .parse-id .result) _ _ (c .before .before .before .before .before .before .before .before .parse-id .ensures) (c .before .before .before .before .before .before .before .optional .ensures) (c .before .before .before .before .before .before .before .before .before .rest-at .ensures) (c .before .before .before .before .before .from .given .1)) (pair-fall _ _ _ (c .step-lost3 .result) (c .before .before .before .tag-behind2 .ensures .at) (skips-lost (c .step-lost3 .ensures) (c .before .enum-told3 .given .1) (c .before .before .before .tag-behind2 .ensures)))))))
 
 tag-behind-requires-3 : tie.Need-tag-behind-requires-3
-tag-behind-requires-3 c κs = omega (arith, (tag-behind-took 41 (c .before .closing .given .1) (c .before .before .before .tag-behind2 .ensures)) .up, (tag-behind-took 41 (c .before .closing .given .1) (c .before .before .before .tag-behind2 .ensures)) .inside, c .before .before .before .tag-behind2 .ensures .at .from, c .before .before .before .before .before .before .before .before .before .before .before .before .before .before .before .before .pre)
+tag-behind-requires-3 c κs = let t = tag-behind-took 41 (c .before .closing .given .1) (c .before .before .before .tag-behind2 .ensures) in omega (arith, t .up, t .inside, c .before .before .before .tag-behind2 .ensures .at .from, c .before .before .before .before .before .before .before .before .before .before .before .before .before .before .before .before .pre)
 
 enum-known-colon : tie.Need-enum-known-colon
-enum-known-colon c = search needs
+enum-known-colon c = c .match4 .keys1
 
 enum-told-4 : tie.Need-enum-told-4
-enum-told-4 c = search needs
+enum-told-4 c = c .match4 .keys2
 
 step-lost-requires-4 : tie.Need-step-lost-requires-4
-step-lost-requires-4 c κs = search needs
+step-lost-requires-4 c κs = tt
 
 returns-4 : tie.Need-returns-4
 unfolding command-types
 returns-4 c = read-not _ refl tt (begin (command-types) _ _ (pair-on _ _ _ (tag-behind-took 40 (c .before .before .before .before .before .before .before .before .before .before .before .before .before .before .before .before .opening .given .1) (c .before .before .before .before .before .before .before .before .before .before .before .before .before .before .before .before .before .before .tag-behind .ensures)) (on _ (blank-at-took (c .before .before .before .before .before .before .before .before .before .before .before .before .before .before .blank-at .ensures)) (go _ (optional-word-took (c .before .before .before .before .before .before .before .before .before .before .before .before .parse-id .result) _ _ (c .before .before .before .before .before .before .before .before .before .before .before .before .parse-id .ensures) (c .before .before .before .before .before .before .before .before .before .before .before .optional .ensures) (c .before .before .before .before .before .before .before .before .before .before .before .before .before .rest-at .ensures) (c .before .before .before .before .before .before .before .before .before .from .given .1)) (pair-on _ _ _ (tag-behind-took 41 (c .before .before .before .before .before .closing .given .1) (c .before .before .before .before .before .before .before .tag-behind2 .ensures)) (pair-fall _ _ _ (c .step-lost4 .result) (c .before .before .before .tag-behind3 .ensures .at) (skips-lost (c .step-lost4 .ensures) (c .before .enum-told4 .given .1) (c .before .before .before .tag-behind3 .ensures))))))))
 
 blank-at-requires-2 : tie.Need-blank-at-requires-2
-blank-at-requires-2 c κs = omega (arith, (tag-behind-took 58 (c .before .colon .given .1) (c .before .before .before .tag-behind3 .ensures)) .up, (tag-behind-took 58 (c .before .colon .given .1) (c .before .before .before .tag-behind3 .ensures)) .inside, c .before .before .before .tag-behind3 .ensures .at .from, c .before .before .before .before .before .before .before .before .before .before .before .before .before .before .before .before .before .before .before .before .pre)
+blank-at-requires-2 c κs = let t = tag-behind-took 58 (c .before .colon .given .1) (c .before .before .before .tag-behind3 .ensures) in omega (arith, t .up, t .inside, c .before .before .before .tag-behind3 .ensures .at .from, c .before .before .before .before .before .before .before .before .before .before .before .before .before .before .before .before .before .before .before .before .pre)
 
 rest-at-requires-2 : tie.Need-rest-at-requires-2
-rest-at-requires-2 c κs = omega (arith, (blank-at-took (c .blank-at2 .ensures)) .up, (blank-at-took (c .blank-at2 .ensures)) .inside, c .blank-at2 .ensures .at .from)
+rest-at-requires-2 c κs = let t = blank-at-took (c .blank-at2 .ensures) in omega (arith, t .up, t .inside, c .blank-at2 .ensures .at .from)
 
 parse-id-requires-2 : tie.Need-parse-id-requires-2
 parse-id-requires-2 c κs = omega (arith, c .rest-at2 .ensures .size, c .before .before .before .before .before .before .before .before .before .before .before .before .before .before .before .before .before .before .before .before .before .before .pre)
 
 enum-known-to : tie.Need-enum-known-to
-enum-known-to c = search needs
+enum-known-to c = c .match5 .keys1
 
 enum-told-5 : tie.Need-enum-told-5
-enum-told-5 c = search needs
+enum-told-5 c = c .match5 .keys2
 
 step-lost-requires-5 : tie.Need-step-lost-requires-5
-step-lost-requires-5 c κs = search needs
+step-lost-requires-5 c κs = tt
 
 returns-5 : tie.Need-returns-5
 unfolding command-types

@@ -11,13 +11,13 @@ parse-command-after-doc-maturity-requires : tie.Need-parse-command-after-doc-mat
 parse-command-after-doc-maturity-requires c κs = search needs
 
 enum-known-r : tie.Need-enum-known-r
-enum-known-r c = search needs
+enum-known-r c = c .match .keys1
 
 enum-told : tie.Need-enum-told
-enum-told c = search needs
+enum-told c = c .match .keys2
 
 command-lost-requires : tie.Need-command-lost-requires
-command-lost-requires c κs = search needs
+command-lost-requires c κs = tt
 
 returns : tie.Need-returns
 returns c = count-not _ _ _ _ (c .command-lost .result) (read-lost (c .before .before .before .parse-command-after-doc-maturity .ensures) (c .before .enum-told .given .1) commandLost (c .command-lost .ensures) refl)

@@ -19,14 +19,14 @@ keyword-requires : tie.Need-keyword-requires
 keyword-requires c κs = search needs
 
 enum-known-info : tie.Need-enum-known-info
-enum-known-info c = search needs
+enum-known-info c = c .match .keys1
 
 returns : tie.Need-returns
 unfolding event-priority
 returns c = read-is refl (or-here _ _ _ _ _ _ _ (keyword-value (ascii "info") 1 _ _ _ (c .before .before .before .keyword .ensures) _ (c .before .info .given .1))) (omega arith)
 
 enum-told : tie.Need-enum-told
-enum-told c = search needs
+enum-told c = c .match .keys2
 
 slice-aggregate-keyword-2 : tie.Need-slice-aggregate-keyword-2
 slice-aggregate-keyword-2 c = search needs
@@ -35,14 +35,14 @@ keyword-requires-2 : tie.Need-keyword-requires-2
 keyword-requires-2 c κs = search needs
 
 enum-known-critical : tie.Need-enum-known-critical
-enum-known-critical c = search needs
+enum-known-critical c = c .match2 .keys1
 
 returns-2 : tie.Need-returns-2
 unfolding event-priority
 returns-2 c = read-is refl (or-next _ _ _ _ _ _ _ _ (keyword-fails (ascii "info") 1 _ _ _ (c .before .before .before .before .before .before .before .keyword .ensures) _ (c .before .before .before .before .before .enum-told .given .1)) (or-here _ _ _ _ _ _ _ (keyword-value (ascii "critical") 0 _ _ _ (c .before .before .before .keyword2 .ensures) _ (c .before .critical .given .1)))) (omega arith)
 
 enum-told-2 : tie.Need-enum-told-2
-enum-told-2 c = search needs
+enum-told-2 c = c .match2 .keys2
 
 slice-aggregate-keyword-3 : tie.Need-slice-aggregate-keyword-3
 slice-aggregate-keyword-3 c = search needs
@@ -51,14 +51,14 @@ keyword-requires-3 : tie.Need-keyword-requires-3
 keyword-requires-3 c κs = search needs
 
 enum-known-debug : tie.Need-enum-known-debug
-enum-known-debug c = search needs
+enum-known-debug c = c .match3 .keys1
 
 returns-3 : tie.Need-returns-3
 unfolding event-priority
 returns-3 c = read-is refl (or-next _ _ _ _ _ _ _ _ (keyword-fails (ascii "info") 1 _ _ _ (c .before .before .before .before .before .before .before .before .before .before .before .keyword .ensures) _ (c .before .before .before .before .before .before .before .before .before .enum-told .given .1)) (or-next _ _ _ _ _ _ _ _ (keyword-fails (ascii "critical") 0 _ _ _ (c .before .before .before .before .before .before .before .keyword2 .ensures) _ (c .before .before .before .before .before .enum-told2 .given .1)) (keyword-value (ascii "debug") 2 _ _ _ (c .before .before .before .keyword3 .ensures) _ (c .before .debug .given .1)))) (omega arith)
 
 enum-told-3 : tie.Need-enum-told-3
-enum-told-3 c = search needs
+enum-told-3 c = c .match3 .keys2
 
 returns-4 : tie.Need-returns-4
 unfolding event-priority

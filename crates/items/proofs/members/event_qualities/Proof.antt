@@ -18,45 +18,45 @@ keywords-set-requires : tie.Need-keywords-set-requires
 keywords-set-requires c κs = search needs
 
 blank-at-requires : tie.Need-blank-at-requires
-blank-at-requires c κs = omega (arith, (set-took (rest-self _ _) (c .keywords-set .ensures)) .up, (set-took (rest-self _ _) (c .keywords-set .ensures)) .inside, c .before .before .pre)
+blank-at-requires c κs = let t = set-took (rest-self _ _) (c .keywords-set .ensures) in omega (arith, t .up, t .inside, c .before .before .pre)
 
 rest-at-requires : tie.Need-rest-at-requires
-rest-at-requires c κs = omega (arith, (blank-at-took (c .blank-at .ensures)) .up, (blank-at-took (c .blank-at .ensures)) .inside, c .blank-at .ensures .at .from)
+rest-at-requires c κs = let t = blank-at-took (c .blank-at .ensures) in omega (arith, t .up, t .inside, c .blank-at .ensures .at .from)
 
 event-priority-requires : tie.Need-event-priority-requires
 event-priority-requires c κs = omega (arith, c .rest-at .ensures .size, c .before .before .before .before .pre)
 
 enum-known-priority : tie.Need-enum-known-priority
-enum-known-priority c = search needs
+enum-known-priority c = c .match .keys1
 
 enum-told : tie.Need-enum-told
-enum-told c = search needs
+enum-told c = c .match .keys2
 
 level-lost-requires : tie.Need-level-lost-requires
-level-lost-requires c κs = search needs
+level-lost-requires c κs = tt
 
 returns : tie.Need-returns
 unfolding event-qualities
 returns c = read-not _ refl tt (begin (event-qualities) _ _ (go _ (set-took (rest-self _ _) (c .before .before .before .before .before .before .keywords-set .ensures)) (on _ (blank-at-took (c .before .before .before .before .before .blank-at .ensures)) (lose _ _ (c .level-lost .result) (c .before .before .before .before .rest-at .ensures) (level-lost (c .before .before .before .event-priority .ensures) (c .level-lost .ensures) (c .before .enum-told .given .1))))))
 
 gap-at-requires : tie.Need-gap-at-requires
-gap-at-requires c κs = omega (arith, (level-took (c .before .before .before .event-priority .ensures) (walks (event-priority-local .on-chain)) (c .before .before .before .before .rest-at .ensures) (c .before .priority .given .1)) .up, (level-took (c .before .before .before .event-priority .ensures) (walks (event-priority-local .on-chain)) (c .before .before .before .before .rest-at .ensures) (c .before .priority .given .1)) .inside, c .before .before .before .before .rest-at .ensures .from, c .before .before .before .before .before .before .before .before .pre)
+gap-at-requires c κs = let t = level-took (c .before .before .before .event-priority .ensures) (walks (event-priority-local .on-chain)) (c .before .before .before .before .rest-at .ensures) (c .before .priority .given .1) in omega (arith, t .up, t .inside, c .before .before .before .before .rest-at .ensures .from, c .before .before .before .before .before .before .before .before .pre)
 
 enum-known-gap1 : tie.Need-enum-known-gap1
-enum-known-gap1 c = search needs
+enum-known-gap1 c = c .match2 .keys1
 
 enum-told-2 : tie.Need-enum-told-2
-enum-told-2 c = search needs
+enum-told-2 c = c .match2 .keys2
 
 step-lost-requires : tie.Need-step-lost-requires
-step-lost-requires c κs = search needs
+step-lost-requires c κs = tt
 
 returns-2 : tie.Need-returns-2
 unfolding event-qualities
 returns-2 c = read-not _ refl tt (begin (event-qualities) _ _ (go _ (set-took (rest-self _ _) (c .before .before .before .before .before .before .before .before .before .before .keywords-set .ensures)) (on _ (blank-at-took (c .before .before .before .before .before .before .before .before .before .blank-at .ensures)) (go _ (level-took (c .before .before .before .before .before .before .before .event-priority .ensures) (walks (event-priority-local .on-chain)) (c .before .before .before .before .before .before .before .before .rest-at .ensures) (c .before .before .before .before .before .priority .given .1)) (fall _ _ (c .step-lost .result) (c .before .before .before .gap-at .ensures .at) (skips-lost (c .step-lost .ensures) (c .before .enum-told2 .given .1) (c .before .before .before .gap-at .ensures)))))))
 
 rest-at-requires-2 : tie.Need-rest-at-requires-2
-rest-at-requires-2 c κs = omega (arith, (gap-at-took (c .before .gap1 .given .1) (c .before .before .before .gap-at .ensures)) .up, (gap-at-took (c .before .gap1 .given .1) (c .before .before .before .gap-at .ensures)) .inside, c .before .before .before .gap-at .ensures .at .from)
+rest-at-requires-2 c κs = let t = gap-at-took (c .before .gap1 .given .1) (c .before .before .before .gap-at .ensures) in omega (arith, t .up, t .inside, c .before .before .before .gap-at .ensures .at .from)
 
 slice-aggregate-keyword : tie.Need-slice-aggregate-keyword
 slice-aggregate-keyword c = search needs
@@ -65,36 +65,36 @@ keyword-requires : tie.Need-keyword-requires
 keyword-requires c κs = omega (arith, c .before .rest-at2 .ensures .size, c .before .before .before .before .before .before .before .before .before .before .before .before .before .before .pre)
 
 enum-known-event : tie.Need-enum-known-event
-enum-known-event c = search needs
+enum-known-event c = c .match3 .keys1
 
 enum-told-3 : tie.Need-enum-told-3
-enum-told-3 c = search needs
+enum-told-3 c = c .match3 .keys2
 
 step-lost-requires-2 : tie.Need-step-lost-requires-2
-step-lost-requires-2 c κs = search needs
+step-lost-requires-2 c κs = tt
 
 returns-3 : tie.Need-returns-3
 unfolding event-qualities
 returns-3 c = read-not _ refl tt (begin (event-qualities) _ _ (go _ (set-took (rest-self _ _) (c .before .before .before .before .before .before .before .before .before .before .before .before .before .before .before .before .keywords-set .ensures)) (on _ (blank-at-took (c .before .before .before .before .before .before .before .before .before .before .before .before .before .before .before .blank-at .ensures)) (go _ (level-took (c .before .before .before .before .before .before .before .before .before .before .before .before .before .event-priority .ensures) (walks (event-priority-local .on-chain)) (c .before .before .before .before .before .before .before .before .before .before .before .before .before .before .rest-at .ensures) (c .before .before .before .before .before .before .before .before .before .before .before .priority .given .1)) (on _ (gap-at-took (c .before .before .before .before .before .before .before .gap1 .given .1) (c .before .before .before .before .before .before .before .before .before .gap-at .ensures)) (fall _ _ (c .step-lost2 .result) (c .before .before .before .before .before .rest-at2 .ensures) (step-lost (wordAt _ _) (c .step-lost2 .ensures) (c .before .enum-told3 .given .1) _ _ _ (c .before .before .before .keyword .ensures))))))))
 
 gap-at-requires-2 : tie.Need-gap-at-requires-2
-gap-at-requires-2 c κs = omega (arith, (keyword-took (c .before .before .before .before .before .rest-at2 .ensures) (c .before .event .given .1) (ascii "event") (c .before .before .before .keyword .ensures)) .up, (keyword-took (c .before .before .before .before .before .rest-at2 .ensures) (c .before .event .given .1) (ascii "event") (c .before .before .before .keyword .ensures)) .inside, c .before .before .before .before .before .rest-at2 .ensures .from, c .before .before .before .before .before .before .before .before .before .before .before .before .before .before .before .before .before .before .pre)
+gap-at-requires-2 c κs = let t = keyword-took (c .before .before .before .before .before .rest-at2 .ensures) (c .before .event .given .1) (ascii "event") (c .before .before .before .keyword .ensures) in omega (arith, t .up, t .inside, c .before .before .before .before .before .rest-at2 .ensures .from, c .before .before .before .before .before .before .before .before .before .before .before .before .before .before .before .before .before .before .pre)
 
 enum-known-gap2 : tie.Need-enum-known-gap2
-enum-known-gap2 c = search needs
+enum-known-gap2 c = c .match4 .keys1
 
 enum-told-4 : tie.Need-enum-told-4
-enum-told-4 c = search needs
+enum-told-4 c = c .match4 .keys2
 
 step-lost-requires-3 : tie.Need-step-lost-requires-3
-step-lost-requires-3 c κs = search needs
+step-lost-requires-3 c κs = tt
 
 returns-4 : tie.Need-returns-4
 unfolding event-qualities
 returns-4 c = read-not _ refl tt (begin (event-qualities) _ _ (go _ (set-took (rest-self _ _) (c .before .before .before .before .before .before .before .before .before .before .before .before .before .before .before .before .before .before .before .before .keywords-set .ensures)) (on _ (blank-at-took (c .before .before .before .before .before .before .before .before .before .before .before .before .before .before .before .before .before .before .before .blank-at .ensures)) (go _ (level-took (c .before .before .before .before .before .before .before .before .before .before .before .before .before .before .before .before .before .event-priority .ensures) (walks (event-priority-local .on-chain)) (c .before .before .before .before .before .before .before .before .before .before .before .before .before .before .before .before .before .before .rest-at .ensures) (c .before .before .before .before .before .before .before .before .before .before .before .before .before .before .before .priority .given .1)) (on _ (gap-at-took (c .before .before .before .before .before .before .before .before .before .before .before .gap1 .given .1) (c .before .before .before .before .before .before .before .before .before .before .before .before .before .gap-at .ensures)) (on _ (keyword-took (c .before .before .before .before .before .before .before .before .before .rest-at2 .ensures) (c .before .before .before .before .before .event .given .1) (ascii "event") (c .before .before .before .before .before .before .before .keyword .ensures)) (fall _ _ (c .step-lost3 .result) (c .before .before .before .gap-at2 .ensures .at) (skips-lost (c .step-lost3 .ensures) (c .before .enum-told4 .given .1) (c .before .before .before .gap-at2 .ensures)))))))))
 
 rest-at-requires-3 : tie.Need-rest-at-requires-3
-rest-at-requires-3 c κs = omega (arith, (gap-at-took (c .before .gap2 .given .1) (c .before .before .before .gap-at2 .ensures)) .up, (gap-at-took (c .before .gap2 .given .1) (c .before .before .before .gap-at2 .ensures)) .inside, c .before .before .before .gap-at2 .ensures .at .from)
+rest-at-requires-3 c κs = let t = gap-at-took (c .before .gap2 .given .1) (c .before .before .before .gap-at2 .ensures) in omega (arith, t .up, t .inside, c .before .before .before .gap-at2 .ensures .at .from)
 
 slice-aggregate-access-to : tie.Need-slice-aggregate-access-to
 slice-aggregate-access-to c = search needs
@@ -103,16 +103,16 @@ access-to-requires : tie.Need-access-to-requires
 access-to-requires c κs = omega (arith, c .before .rest-at3 .ensures .size, c .before .before .before .before .before .before .before .before .before .before .before .before .before .before .before .before .before .before .before .before .before .before .before .before .pre)
 
 level-or-requires : tie.Need-level-or-requires
-level-or-requires c κs = search needs
+level-or-requires c κs = tt
 
 enum-known-access : tie.Need-enum-known-access
-enum-known-access c = search needs
+enum-known-access c = c .match5 .keys1
 
 enum-told-5 : tie.Need-enum-told-5
-enum-told-5 c = search needs
+enum-told-5 c = c .match5 .keys2
 
 level-lost-requires-2 : tie.Need-level-lost-requires-2
-level-lost-requires-2 c κs = search needs
+level-lost-requires-2 c κs = tt
 
 returns-5 : tie.Need-returns-5
 unfolding event-qualities

@@ -5,10 +5,10 @@ use mathlib.Core.Path.{sym, ap}
 use Rattle.items.specs.answers.members.{levelLost}
 
 enum-known-r : tie.Need-enum-known-r
-enum-known-r c = search needs
+enum-known-r c = c .match .keys1
 
 enum-known-r-2 : tie.Need-enum-known-r-2
-enum-known-r-2 c = search needs
+enum-known-r-2 c = c .match .keys2
 
 returns : tie.Need-returns
 returns c = sym (ap levelLost (c .before .r .given .1))

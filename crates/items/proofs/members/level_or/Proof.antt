@@ -4,19 +4,19 @@ use Rattle.items.proofs.members.level_or.Tie as tie
 use Rattle.items.proofs.members.Laws.{level-or-fail, level-or-stop}
 
 enum-known-r : tie.Need-enum-known-r
-enum-known-r c = search needs
+enum-known-r c = c .match .keys1
 
 enum-told : tie.Need-enum-told
-enum-told c = search needs
+enum-told c = c .match .keys2
 
 returns : tie.Need-returns
 returns c = search needs
 
 enum-told-2 : tie.Need-enum-told-2
-enum-told-2 c = search needs
+enum-told-2 c = c .match2 .keys1
 
 enum-known-l : tie.Need-enum-known-l
-enum-known-l c = search needs
+enum-known-l c = c .match2 .keys2
 
 returns-2 : tie.Need-returns-2
 returns-2 c = level-or-fail _ _ _ _ _ (c .before .before .before .r .given .1) (c .enum-told2 .given .1)

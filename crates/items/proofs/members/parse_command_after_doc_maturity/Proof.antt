@@ -18,80 +18,80 @@ command-head-requires : tie.Need-command-head-requires
 command-head-requires c κs = search needs
 
 enum-known-head : tie.Need-enum-known-head
-enum-known-head c = search needs
+enum-known-head c = c .match .keys1
 
 enum-told : tie.Need-enum-told
-enum-told c = search needs
+enum-told c = c .match .keys2
 
 command-head-lost-requires : tie.Need-command-head-lost-requires
-command-head-lost-requires c κs = search needs
+command-head-lost-requires c κs = tt
 
 returns : tie.Need-returns
 unfolding parse-command-after-doc-maturity
 returns c = read-not _ refl tt (begin (parse-command-after-doc-maturity (docOf (c .before .before .before .before .before .args .doc)) (c .before .before .before .before .before .args .maturity)) _ _ (lose _ _ (c .command-head-lost .result) (rest-self _ _) (read-lost (c .before .before .before .command-head .ensures) (c .before .enum-told .given .1) commandHeadLost (c .command-head-lost .ensures) refl)))
 
 rest-at-requires : tie.Need-rest-at-requires
-rest-at-requires c κs = omega (arith, (read-took (c .before .before .before .command-head .ensures) (c .before .head .given .1) (walks (chain-inside command-head-inside)) (rest-self _ _) refl) .up, (read-took (c .before .before .before .command-head .ensures) (c .before .head .given .1) (walks (chain-inside command-head-inside)) (rest-self _ _) refl) .inside)
+rest-at-requires c κs = let t = read-took (c .before .before .before .command-head .ensures) (c .before .head .given .1) (walks (chain-inside command-head-inside)) (rest-self _ _) refl in omega (arith, t .up, t .inside)
 
 command-types-requires : tie.Need-command-types-requires
 command-types-requires c κs = omega (arith, c .rest-at .ensures .size, c .before .before .before .before .before .before .pre)
 
 enum-known-types : tie.Need-enum-known-types
-enum-known-types c = search needs
+enum-known-types c = c .match2 .keys1
 
 enum-told-2 : tie.Need-enum-told-2
-enum-told-2 c = search needs
+enum-told-2 c = c .match2 .keys2
 
 command-types-lost-requires : tie.Need-command-types-lost-requires
-command-types-lost-requires c κs = search needs
+command-types-lost-requires c κs = tt
 
 returns-2 : tie.Need-returns-2
 unfolding parse-command-after-doc-maturity
 returns-2 c = read-not _ refl tt (begin (parse-command-after-doc-maturity (docOf (c .before .before .before .before .before .before .before .before .before .before .args .doc)) (c .before .before .before .before .before .before .before .before .before .before .args .maturity)) _ _ (go _ (read-took (c .before .before .before .before .before .before .before .before .command-head .ensures) (c .before .before .before .before .before .before .head .given .1) (walks (chain-inside command-head-inside)) (rest-self _ _) refl) (lose _ _ (c .command-types-lost .result) (c .before .before .before .before .rest-at .ensures) (read-lost (c .before .before .before .command-types .ensures) (c .before .enum-told2 .given .1) commandTypesLost (c .command-types-lost .ensures) refl))))
 
 tag-behind-requires : tie.Need-tag-behind-requires
-tag-behind-requires c κs = omega (arith, (command-types-took (c .before .before .before .command-types .ensures) (c .before .types .given .1) (c .before .before .before .before .rest-at .ensures)) .up, (command-types-took (c .before .before .before .command-types .ensures) (c .before .types .given .1) (c .before .before .before .before .rest-at .ensures)) .inside, c .before .before .before .before .rest-at .ensures .from, c .before .before .before .before .before .before .before .before .before .before .pre)
+tag-behind-requires c κs = let t = command-types-took (c .before .before .before .command-types .ensures) (c .before .types .given .1) (c .before .before .before .before .rest-at .ensures) in omega (arith, t .up, t .inside, c .before .before .before .before .rest-at .ensures .from, c .before .before .before .before .before .before .before .before .before .before .pre)
 
 enum-known-equals : tie.Need-enum-known-equals
-enum-known-equals c = search needs
+enum-known-equals c = c .match3 .keys1
 
 enum-told-3 : tie.Need-enum-told-3
-enum-told-3 c = search needs
+enum-told-3 c = c .match3 .keys2
 
 step-lost-requires : tie.Need-step-lost-requires
-step-lost-requires c κs = search needs
+step-lost-requires c κs = tt
 
 returns-3 : tie.Need-returns-3
 unfolding parse-command-after-doc-maturity
 returns-3 c = read-not _ refl tt (begin (parse-command-after-doc-maturity (docOf (c .before .before .before .before .before .before .before .before .before .before .before .before .before .before .args .doc)) (c .before .before .before .before .before .before .before .before .before .before .before .before .before .before .args .maturity)) _ _ (go _ (read-took (c .before .before .before .before .before .before .before .before .before .before .before .before .command-head .ensures) (c .before .before .before .before .before .before .before .before .before .before .head .given .1) (walks (chain-inside command-head-inside)) (rest-self _ _) refl) (go _ (command-types-took (c .before .before .before .before .before .before .before .command-types .ensures) (c .before .before .before .before .before .types .given .1) (c .before .before .before .before .before .before .before .before .rest-at .ensures)) (pair-fall _ _ _ (c .step-lost .result) (c .before .before .before .tag-behind .ensures .at) (skips-lost (c .step-lost .ensures) (c .before .enum-told3 .given .1) (c .before .before .before .tag-behind .ensures))))))
 
 integer-behind-requires : tie.Need-integer-behind-requires
-integer-behind-requires c κs = omega (arith, (tag-behind-took 61 (c .before .equals .given .1) (c .before .before .before .tag-behind .ensures)) .up, (tag-behind-took 61 (c .before .equals .given .1) (c .before .before .before .tag-behind .ensures)) .inside, c .before .before .before .tag-behind .ensures .at .from, c .before .before .before .before .before .before .before .before .before .before .before .before .before .before .pre)
+integer-behind-requires c κs = let t = tag-behind-took 61 (c .before .equals .given .1) (c .before .before .before .tag-behind .ensures) in omega (arith, t .up, t .inside, c .before .before .before .tag-behind .ensures .at .from, c .before .before .before .before .before .before .before .before .before .before .before .before .before .before .pre)
 
 enum-known-number : tie.Need-enum-known-number
-enum-known-number c = search needs
+enum-known-number c = c .match4 .keys1
 
 enum-told-4 : tie.Need-enum-told-4
-enum-told-4 c = search needs
+enum-told-4 c = c .match4 .keys2
 
 number-lost-requires : tie.Need-number-lost-requires
-number-lost-requires c κs = search needs
+number-lost-requires c κs = tt
 
 returns-4 : tie.Need-returns-4
 unfolding parse-command-after-doc-maturity
 returns-4 c = read-not _ refl tt (begin (parse-command-after-doc-maturity (docOf (c .before .before .before .before .before .before .before .before .before .before .before .before .before .before .before .before .before .before .args .doc)) (c .before .before .before .before .before .before .before .before .before .before .before .before .before .before .before .before .before .before .args .maturity)) _ _ (go _ (read-took (c .before .before .before .before .before .before .before .before .before .before .before .before .before .before .before .before .command-head .ensures) (c .before .before .before .before .before .before .before .before .before .before .before .before .before .before .head .given .1) (walks (chain-inside command-head-inside)) (rest-self _ _) refl) (go _ (command-types-took (c .before .before .before .before .before .before .before .before .before .before .before .command-types .ensures) (c .before .before .before .before .before .before .before .before .before .types .given .1) (c .before .before .before .before .before .before .before .before .before .before .before .before .rest-at .ensures)) (pair-on _ _ _ (tag-behind-took 61 (c .before .before .before .before .before .equals .given .1) (c .before .before .before .before .before .before .before .tag-behind .ensures)) (pair-lose _ _ _ (c .number-lost .result) (c .before .before .before .integer-behind .ensures .at) (integer-behind-lost (c .before .before .before .integer-behind .ensures) (c .number-lost .ensures) (c .before .enum-told4 .given .1)))))))
 
 tag-behind-requires-2 : tie.Need-tag-behind-requires-2
-tag-behind-requires-2 c κs = omega (arith, (integer-behind-took (c .before .before .before .integer-behind .ensures) (c .before .number .given .1)) .up, (integer-behind-took (c .before .before .before .integer-behind .ensures) (c .before .number .given .1)) .inside, c .before .before .before .integer-behind .ensures .at .from, c .before .before .before .before .before .before .before .before .before .before .before .before .before .before .before .before .before .before .pre)
+tag-behind-requires-2 c κs = let t = integer-behind-took (c .before .before .before .integer-behind .ensures) (c .before .number .given .1) in omega (arith, t .up, t .inside, c .before .before .before .integer-behind .ensures .at .from, c .before .before .before .before .before .before .before .before .before .before .before .before .before .before .before .before .before .before .pre)
 
 enum-known-semicolon : tie.Need-enum-known-semicolon
-enum-known-semicolon c = search needs
+enum-known-semicolon c = c .match5 .keys1
 
 enum-told-5 : tie.Need-enum-told-5
-enum-told-5 c = search needs
+enum-told-5 c = c .match5 .keys2
 
 step-lost-requires-2 : tie.Need-step-lost-requires-2
-step-lost-requires-2 c κs = search needs
+step-lost-requires-2 c κs = tt
 
 returns-5 : tie.Need-returns-5
 unfolding parse-command-after-doc-maturity

@@ -13,13 +13,13 @@ event-head-requires : tie.Need-event-head-requires
 event-head-requires c κs = search needs
 
 enum-known-head : tie.Need-enum-known-head
-enum-known-head c = search needs
+enum-known-head c = c .match .keys1
 
 enum-told : tie.Need-enum-told
-enum-told c = search needs
+enum-told c = c .match .keys2
 
 event-head-lost-requires : tie.Need-event-head-lost-requires
-event-head-lost-requires c κs = search needs
+event-head-lost-requires c κs = tt
 
 returns : tie.Need-returns
 returns c = headed-lost event-headed _ (event-head-none (rest-self _ _) (c .before .before .before .event-head .ensures) (c .event-head-lost .ensures) (c .before .enum-told .given .1))
@@ -31,10 +31,10 @@ struct-fields-requires : tie.Need-struct-fields-requires
 struct-fields-requires c κs = search needs
 
 enum-known-fields : tie.Need-enum-known-fields
-enum-known-fields c = search needs
+enum-known-fields c = c .match2 .keys1
 
 enum-told-2 : tie.Need-enum-told-2
-enum-told-2 c = search needs
+enum-told-2 c = c .match2 .keys2
 
 returns-2 : tie.Need-returns-2
 returns-2 c = headed-pass event-headed (event-head-took (rest-self _ _) (c .before .before .before .before .before .before .before .event-head .ensures) (c .before .before .before .before .before .head .given .1)) _ _ (c .enum-told2 .given .1) (c .before .before .before .rest-at .ensures) (count-lost _ (c .enum-told2 .given .1) _ _ (c .before .before .struct-fields .ensures))

@@ -9,13 +9,13 @@ use Rattle.items.proofs.writing.Laws.{bit-small, documented-fits}
 use Rattle.items.proofs.members.Laws.{command-put}
 
 doc-bit-requires : tie.Need-doc-bit-requires
-doc-bit-requires c κs = search needs
+doc-bit-requires c κs = tt
 
 mul-t7 : tie.Need-mul-t7
 mul-t7 c = omega (arith, c .before .before .before .pre .1 .1 .flags)
 
 flag-requires : tie.Need-flag-requires
-flag-requires c κs = search needs
+flag-requires c κs = tt
 
 mul-t10 : tie.Need-mul-t10
 mul-t10 c = omega (arith, bit-small (ltb (c .before .before .before .before .before .args .p .input) (c .before .before .before .before .before .args .p .«input_end»)), c .flag .ensures)

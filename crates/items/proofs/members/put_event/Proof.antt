@@ -8,7 +8,7 @@ use Rattle.items.proofs.writing.Laws.{documented-fits, front-kept}
 use Rattle.items.proofs.members.Laws.{event-first-put}
 
 doc-bit-requires : tie.Need-doc-bit-requires
-doc-bit-requires c κs = search needs
+doc-bit-requires c κs = tt
 
 mul-t8 : tie.Need-mul-t8
 mul-t8 c = omega (arith, c .before .before .before .pre .1 .1 .rank)

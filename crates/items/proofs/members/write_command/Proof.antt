@@ -17,10 +17,10 @@ parse-command-after-doc-maturity-requires : tie.Need-parse-command-after-doc-mat
 parse-command-after-doc-maturity-requires c κs = search needs
 
 enum-known-r : tie.Need-enum-known-r
-enum-known-r c = search needs
+enum-known-r c = c .match .keys1
 
 enum-told : tie.Need-enum-told
-enum-told c = search needs
+enum-told c = c .match .keys2
 
 returns : tie.Need-returns
 returns c = absurd (no-room (c .before .before .before .before .before .pre .1 .1) (c .enum-told .given .0 .0) (read-lost (c .before .before .parse-command-after-doc-maturity .ensures) (c .enum-told .given .1) commandLost (sym (ap commandLost (c .enum-told .given .1))) refl))

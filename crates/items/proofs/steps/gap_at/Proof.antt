@@ -11,13 +11,13 @@ whitespace1-requires : tie.Need-whitespace1-requires
 whitespace1-requires c κs = omega (arith, c .rest-at .ensures .size, c .before .before .pre .1)
 
 enum-known-gap : tie.Need-enum-known-gap
-enum-known-gap c = search needs
+enum-known-gap c = c .match .keys1
 
 enum-told : tie.Need-enum-told
-enum-told c = search needs
+enum-told c = c .match .keys2
 
 gap-lost-requires : tie.Need-gap-lost-requires
-gap-lost-requires c κs = search needs
+gap-lost-requires c κs = tt
 
 returns : tie.Need-returns
 returns c = gap-not (c .before .before .before .before .rest-at .ensures) (c .before .before .before .whitespace1 .ensures) (c .gap-lost .ensures) (c .before .enum-told .given .1)

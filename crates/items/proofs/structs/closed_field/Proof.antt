@@ -1,4 +1,3 @@
-use borrow.Author.Needs.{needs}
 use Rattle.items.proofs.structs.closed_field.Statement.{statement}
 use Rattle.items.proofs.structs.closed_field.Tie as tie
 use Rattle.items.specs.structs.{closed-field}
@@ -14,35 +13,35 @@ blank-at-requires : tie.Need-blank-at-requires
 blank-at-requires c κs = omega (arith, c .before .pre)
 
 rest-at-requires : tie.Need-rest-at-requires
-rest-at-requires c κs = omega (arith, (blank-at-took (c .blank-at .ensures)) .up, (blank-at-took (c .blank-at .ensures)) .inside)
+rest-at-requires c κs = let t = blank-at-took (c .blank-at .ensures) in omega (arith, t .up, t .inside)
 
 parse-struct-field-requires : tie.Need-parse-struct-field-requires
 parse-struct-field-requires c κs = omega (arith, c .rest-at .ensures .size, c .before .before .before .pre)
 
 enum-known-r : tie.Need-enum-known-r
-enum-known-r c = search needs
+enum-known-r c = c .match .keys1
 
 enum-told : tie.Need-enum-told
-enum-told c = search needs
+enum-told c = c .match .keys2
 
 struct-field-lost-requires : tie.Need-struct-field-lost-requires
-struct-field-lost-requires c κs = search needs
+struct-field-lost-requires c κs = tt
 
 returns : tie.Need-returns
 unfolding closed-field
 returns c = read-not _ refl tt (begin (closed-field) _ _ (on _ (blank-at-took (c .before .before .before .before .before .blank-at .ensures)) (lose _ _ (c .struct-field-lost .result) (c .before .before .before .before .rest-at .ensures) (struct-field-none parse-struct-field-on (c .before .before .before .before .rest-at .ensures) (c .before .before .before .parse-struct-field .ensures) (c .struct-field-lost .ensures) (c .before .enum-told .given .1)))))
 
 tag-behind-requires : tie.Need-tag-behind-requires
-tag-behind-requires c κs = omega (arith, (struct-field-took parse-struct-field-on (c .before .before .before .before .rest-at .ensures) (c .before .before .before .parse-struct-field .ensures) (c .before .r .given .1)) .up, (struct-field-took parse-struct-field-on (c .before .before .before .before .rest-at .ensures) (c .before .before .before .parse-struct-field .ensures) (c .before .r .given .1)) .inside, c .before .before .before .before .rest-at .ensures .from, c .before .before .before .before .before .before .before .pre)
+tag-behind-requires c κs = let t = struct-field-took parse-struct-field-on (c .before .before .before .before .rest-at .ensures) (c .before .before .before .parse-struct-field .ensures) (c .before .r .given .1) in omega (arith, t .up, t .inside, c .before .before .before .before .rest-at .ensures .from, c .before .before .before .before .before .before .before .pre)
 
 enum-known-semicolon : tie.Need-enum-known-semicolon
-enum-known-semicolon c = search needs
+enum-known-semicolon c = c .match2 .keys1
 
 enum-told-2 : tie.Need-enum-told-2
-enum-told-2 c = search needs
+enum-told-2 c = c .match2 .keys2
 
 step-lost-requires : tie.Need-step-lost-requires
-step-lost-requires c κs = search needs
+step-lost-requires c κs = tt
 
 returns-2 : tie.Need-returns-2
 unfolding closed-field

@@ -28,16 +28,16 @@ closed-field-requires : tie.Need-closed-field-requires Inv-loop μ-loop
 closed-field-requires c κs = search needs
 
 enum-known-r : tie.Need-enum-known-r Inv-loop μ-loop
-enum-known-r c = search needs
+enum-known-r c = c .match .keys1
 
 enum-told : tie.Need-enum-told Inv-loop μ-loop
-enum-told c = search needs
+enum-told c = c .match .keys2
 
 struct-field-lost-requires : tie.Need-struct-field-lost-requires Inv-loop μ-loop
-struct-field-lost-requires c κs = search needs
+struct-field-lost-requires c κs = tt
 
 count-end-requires : tie.Need-count-end-requires Inv-loop μ-loop
-count-end-requires c κs = search needs
+count-end-requires c κs = tt
 
 returns : tie.Need-returns Inv-loop μ-loop
 unfolding fields-run

@@ -10,10 +10,10 @@ tag-requires : tie.Need-tag-requires
 tag-requires c κs = search needs
 
 enum-known-bracket : tie.Need-enum-known-bracket
-enum-known-bracket c = search needs
+enum-known-bracket c = c .match .keys1
 
 enum-told : tie.Need-enum-told
-enum-told c = search needs
+enum-told c = c .match .keys2
 
 returns : tie.Need-returns
 unfolding list-marker
@@ -32,10 +32,10 @@ tag-requires-2 : tie.Need-tag-requires-2
 tag-requires-2 c κs = search needs
 
 enum-known-close : tie.Need-enum-known-close
-enum-known-close c = search needs
+enum-known-close c = c .match2 .keys1
 
 enum-told-2 : tie.Need-enum-told-2
-enum-told-2 c = search needs
+enum-told-2 c = c .match2 .keys2
 
 returns-2 : tie.Need-returns-2
 unfolding list-marker

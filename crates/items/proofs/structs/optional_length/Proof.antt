@@ -1,25 +1,24 @@
-use borrow.Author.Needs.{needs}
 use Rattle.items.proofs.structs.optional_length.Statement.{statement}
 use Rattle.items.proofs.structs.optional_length.Tie as tie
 use Rattle.items.proofs.structs.Laws.{length-there, length-fail, length-stop}
 
 enum-known-r : tie.Need-enum-known-r
-enum-known-r c = search needs
+enum-known-r c = c .match .keys1
 
 returns : tie.Need-returns
 returns c = length-there _ _ _ _ (c .before .r .given .1)
 
 enum-told : tie.Need-enum-told
-enum-told c = search needs
+enum-told c = c .match .keys2
 
 number-lost-requires : tie.Need-number-lost-requires
-number-lost-requires c κs = search needs
+number-lost-requires c κs = tt
 
 enum-told-2 : tie.Need-enum-told-2
-enum-told-2 c = search needs
+enum-told-2 c = c .match2 .keys1
 
 enum-known-l : tie.Need-enum-known-l
-enum-known-l c = search needs
+enum-known-l c = c .match2 .keys2
 
 returns-2 : tie.Need-returns-2
 returns-2 c = length-fail _ _ _ _ _ (c .before .before .before .enum-told .given .1) (c .before .before .number-lost .ensures) (c .enum-told2 .given .1)

@@ -12,13 +12,13 @@ struct-head-requires : tie.Need-struct-head-requires
 struct-head-requires c κs = search needs
 
 enum-known-head : tie.Need-enum-known-head
-enum-known-head c = search needs
+enum-known-head c = c .match .keys1
 
 enum-told : tie.Need-enum-told
-enum-told c = search needs
+enum-told c = c .match .keys2
 
 head-lost-requires : tie.Need-head-lost-requires
-head-lost-requires c κs = search needs
+head-lost-requires c κs = tt
 
 returns : tie.Need-returns
 returns c = headed-lost struct-headed _ (head-none (rest-self _ _) (c .before .before .before .struct-head .ensures) (c .head-lost .ensures) (c .before .enum-told .given .1))
@@ -30,10 +30,10 @@ struct-fields-requires : tie.Need-struct-fields-requires
 struct-fields-requires c κs = search needs
 
 enum-known-fields : tie.Need-enum-known-fields
-enum-known-fields c = search needs
+enum-known-fields c = c .match2 .keys1
 
 enum-told-2 : tie.Need-enum-told-2
-enum-told-2 c = search needs
+enum-told-2 c = c .match2 .keys2
 
 returns-2 : tie.Need-returns-2
 returns-2 c = headed-pass struct-headed (head-took (rest-self _ _) (c .before .before .before .before .before .before .before .struct-head .ensures) (c .before .before .before .before .before .head .given .1)) _ _ (c .enum-told2 .given .1) (c .before .before .before .rest-at .ensures) (count-lost _ (c .enum-told2 .given .1) _ _ (c .before .before .struct-fields .ensures))

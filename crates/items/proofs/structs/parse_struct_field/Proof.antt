@@ -1,4 +1,3 @@
-use borrow.Author.Needs.{needs}
 use Rattle.items.proofs.structs.parse_struct_field.Statement.{statement}
 use Rattle.items.proofs.structs.parse_struct_field.Tie as tie
 use Rattle.items.specs.structs.{parse-struct-field}
@@ -15,34 +14,34 @@ blank-at-requires : tie.Need-blank-at-requires
 blank-at-requires c κs = omega (arith, c .before .pre)
 
 rest-at-requires : tie.Need-rest-at-requires
-rest-at-requires c κs = omega (arith, (blank-at-took (c .blank-at .ensures)) .up, (blank-at-took (c .blank-at .ensures)) .inside)
+rest-at-requires c κs = let t = blank-at-took (c .blank-at .ensures) in omega (arith, t .up, t .inside)
 
 api-maturity-requires : tie.Need-api-maturity-requires
 api-maturity-requires c κs = omega (arith, c .rest-at .ensures .size, c .before .before .before .pre)
 
 blank-at-requires-2 : tie.Need-blank-at-requires-2
-blank-at-requires-2 c κs = omega (arith, (maturity-took (c .before .rest-at .ensures) (c .api-maturity .ensures)) .up, (maturity-took (c .before .rest-at .ensures) (c .api-maturity .ensures)) .inside, c .before .rest-at .ensures .from, c .before .before .before .before .pre)
+blank-at-requires-2 c κs = let t = maturity-took (c .before .rest-at .ensures) (c .api-maturity .ensures) in omega (arith, t .up, t .inside, c .before .rest-at .ensures .from, c .before .before .before .before .pre)
 
 rest-at-requires-2 : tie.Need-rest-at-requires-2
-rest-at-requires-2 c κs = omega (arith, (blank-at-took (c .blank-at2 .ensures)) .up, (blank-at-took (c .blank-at2 .ensures)) .inside, c .blank-at2 .ensures .at .from)
+rest-at-requires-2 c κs = let t = blank-at-took (c .blank-at2 .ensures) in omega (arith, t .up, t .inside, c .blank-at2 .ensures .at .from)
 
 keywords-set-requires : tie.Need-keywords-set-requires
 keywords-set-requires c κs = omega (arith, c .rest-at2 .ensures .size, c .before .before .before .before .before .before .pre)
 
 rest-at-requires-3 : tie.Need-rest-at-requires-3
-rest-at-requires-3 c κs = omega (arith, (set-took (c .before .rest-at2 .ensures) (c .keywords-set .ensures)) .up, (set-took (c .before .rest-at2 .ensures) (c .keywords-set .ensures)) .inside, c .before .rest-at2 .ensures .from)
+rest-at-requires-3 c κs = let t = set-took (c .before .rest-at2 .ensures) (c .keywords-set .ensures) in omega (arith, t .up, t .inside, c .before .rest-at2 .ensures .from)
 
 parse-field-requires : tie.Need-parse-field-requires
 parse-field-requires c κs = omega (arith, c .rest-at3 .ensures .size, c .before .before .before .before .before .before .before .before .pre)
 
 enum-known-r : tie.Need-enum-known-r
-enum-known-r c = search needs
+enum-known-r c = c .match .keys1
 
 enum-told : tie.Need-enum-told
-enum-told c = search needs
+enum-told c = c .match .keys2
 
 field-lost-requires : tie.Need-field-lost-requires
-field-lost-requires c κs = search needs
+field-lost-requires c κs = tt
 
 returns : tie.Need-returns
 unfolding parse-struct-field

@@ -7,13 +7,13 @@ use Rattle.items.proofs.writing.Laws.{bit-small, plain-fits}
 use Rattle.items.proofs.structs.Laws.{field-put}
 
 flag-requires : tie.Need-flag-requires
-flag-requires c κs = search needs
+flag-requires c κs = tt
 
 mul-t7 : tie.Need-mul-t7
 mul-t7 c = omega (arith, bit-small (c .before .before .before .args .s .field .list), c .flag .ensures)
 
 flag-requires-2 : tie.Need-flag-requires-2
-flag-requires-2 c κs = search needs
+flag-requires-2 c κs = tt
 
 mul-t9 : tie.Need-mul-t9
 mul-t9 c = omega (arith, bit-small (c .before .before .before .before .args .s .field .«has_maximum»), c .flag2 .ensures)
@@ -58,7 +58,7 @@ add-put-word-3 : tie.Need-add-put-word-3
 add-put-word-3 c = search needs
 
 largest-requires : tie.Need-largest-requires
-largest-requires c κs = search needs
+largest-requires c κs = tt
 
 put-word-requires-4 : tie.Need-put-word-requires-4
 put-word-requires-4 c κs = search needs

@@ -7,10 +7,10 @@ use Rattle.items.proofs.writing.Laws.{documented-fits}
 use Rattle.items.proofs.structs.Laws.{kind-small, struct-first-put}
 
 doc-bit-requires : tie.Need-doc-bit-requires
-doc-bit-requires c κs = search needs
+doc-bit-requires c κs = tt
 
 kind-number-requires : tie.Need-kind-number-requires
-kind-number-requires c κs = search needs
+kind-number-requires c κs = tt
 
 mul-t10 : tie.Need-mul-t10
 mul-t10 c = omega (arith, kind-small (c .before .before .before .args .head .kind), c .kind-number .ensures)
@@ -31,7 +31,7 @@ add-put-word : tie.Need-add-put-word
 add-put-word c = search needs
 
 response-number-requires : tie.Need-response-number-requires
-response-number-requires c κs = search needs
+response-number-requires c κs = tt
 
 put-word-requires : tie.Need-put-word-requires
 put-word-requires c κs = search needs

@@ -8,19 +8,19 @@ use Rattle.items.specs.declared.structs.StructKind.the-variants.{Regular
 use Rattle.items.proofs.structs.Laws.{no-code, is-code}
 
 enum-told : tie.Need-enum-told
-enum-told c = search needs
+enum-told c = c .match .keys1
 
 enum-told-2 : tie.Need-enum-told-2
-enum-told-2 c = search needs
+enum-told-2 c = c .match .keys2
 
 enum-told-3 : tie.Need-enum-told-3
-enum-told-3 c = search needs
+enum-told-3 c = c .match .keys3
 
 response-code-requires : tie.Need-response-code-requires
 response-code-requires c κs = search needs
 
 enum-told-4 : tie.Need-enum-told-4
-enum-told-4 c = search needs
+enum-told-4 c = c .match .keys4
 
 returns : tie.Need-returns
 unfolding typeBy ret

@@ -17,10 +17,10 @@ struct-word-requires : tie.Need-struct-word-requires
 struct-word-requires c κs = search needs
 
 blank-at-requires : tie.Need-blank-at-requires
-blank-at-requires c κs = omega (arith, (struct-word-took (rest-self _ _) (c .struct-word .ensures)) .up, (struct-word-took (rest-self _ _) (c .struct-word .ensures)) .inside, c .before .before .pre)
+blank-at-requires c κs = let t = struct-word-took (rest-self _ _) (c .struct-word .ensures) in omega (arith, t .up, t .inside, c .before .before .pre)
 
 rest-at-requires : tie.Need-rest-at-requires
-rest-at-requires c κs = omega (arith, (blank-at-took (c .blank-at .ensures)) .up, (blank-at-took (c .blank-at .ensures)) .inside, c .blank-at .ensures .at .from)
+rest-at-requires c κs = let t = blank-at-took (c .blank-at .ensures) in omega (arith, t .up, t .inside, c .blank-at .ensures .at .from)
 
 keywords-set-requires : tie.Need-keywords-set-requires
 keywords-set-requires c κs = omega (arith, c .rest-at .ensures .size, c .before .before .before .before .pre)
@@ -29,73 +29,73 @@ slice-aggregate-keyword-behind : tie.Need-slice-aggregate-keyword-behind
 slice-aggregate-keyword-behind c = search needs
 
 keyword-behind-requires : tie.Need-keyword-behind-requires
-keyword-behind-requires c κs = omega (arith, (set-took (c .before .before .rest-at .ensures) (c .before .keywords-set .ensures)) .up, (set-took (c .before .before .rest-at .ensures) (c .before .keywords-set .ensures)) .inside, c .before .before .rest-at .ensures .from, c .before .before .before .before .before .before .pre)
+keyword-behind-requires c κs = let t = set-took (c .before .before .rest-at .ensures) (c .before .keywords-set .ensures) in omega (arith, t .up, t .inside, c .before .before .rest-at .ensures .from, c .before .before .before .before .before .before .pre)
 
 enum-known-key : tie.Need-enum-known-key
-enum-known-key c = search needs
+enum-known-key c = c .match .keys1
 
 enum-told : tie.Need-enum-told
-enum-told c = search needs
+enum-told c = c .match .keys2
 
 step-lost-requires : tie.Need-step-lost-requires
-step-lost-requires c κs = search needs
+step-lost-requires c κs = tt
 
 returns : tie.Need-returns
 unfolding struct-head
 returns c = read-not _ refl tt (begin (struct-head) _ _ (go _ (struct-word-took (rest-self _ _) (c .before .before .before .before .before .before .before .before .struct-word .ensures)) (on _ (blank-at-took (c .before .before .before .before .before .before .before .blank-at .ensures)) (go _ (set-took (c .before .before .before .before .before .before .rest-at .ensures) (c .before .before .before .before .before .keywords-set .ensures)) (pair-fall _ _ _ (c .step-lost .result) (c .before .before .before .keyword-behind .ensures .at) (skips-lost (c .step-lost .ensures) (c .before .enum-told .given .1) (c .before .before .before .keyword-behind .ensures)))))))
 
 gap-at-requires : tie.Need-gap-at-requires
-gap-at-requires c κs = omega (arith, (keyword-behind-took (ascii "struct") (c .before .key .given .1) (c .before .before .before .keyword-behind .ensures)) .up, (keyword-behind-took (ascii "struct") (c .before .key .given .1) (c .before .before .before .keyword-behind .ensures)) .inside, c .before .before .before .keyword-behind .ensures .at .from, c .before .before .before .before .before .before .before .before .before .before .pre)
+gap-at-requires c κs = let t = keyword-behind-took (ascii "struct") (c .before .key .given .1) (c .before .before .before .keyword-behind .ensures) in omega (arith, t .up, t .inside, c .before .before .before .keyword-behind .ensures .at .from, c .before .before .before .before .before .before .before .before .before .before .pre)
 
 enum-known-gap : tie.Need-enum-known-gap
-enum-known-gap c = search needs
+enum-known-gap c = c .match2 .keys1
 
 enum-told-2 : tie.Need-enum-told-2
-enum-told-2 c = search needs
+enum-told-2 c = c .match2 .keys2
 
 step-lost-requires-2 : tie.Need-step-lost-requires-2
-step-lost-requires-2 c κs = search needs
+step-lost-requires-2 c κs = tt
 
 returns-2 : tie.Need-returns-2
 unfolding struct-head
 returns-2 c = read-not _ refl tt (begin (struct-head) _ _ (go _ (struct-word-took (rest-self _ _) (c .before .before .before .before .before .before .before .before .before .before .before .before .struct-word .ensures)) (on _ (blank-at-took (c .before .before .before .before .before .before .before .before .before .before .before .blank-at .ensures)) (go _ (set-took (c .before .before .before .before .before .before .before .before .before .before .rest-at .ensures) (c .before .before .before .before .before .before .before .before .before .keywords-set .ensures)) (pair-on _ _ _ (keyword-behind-took (ascii "struct") (c .before .before .before .before .before .key .given .1) (c .before .before .before .before .before .before .before .keyword-behind .ensures)) (fall _ _ (c .step-lost2 .result) (c .before .before .before .gap-at .ensures .at) (skips-lost (c .step-lost2 .ensures) (c .before .enum-told2 .given .1) (c .before .before .before .gap-at .ensures))))))))
 
 rest-at-requires-2 : tie.Need-rest-at-requires-2
-rest-at-requires-2 c κs = omega (arith, (gap-at-took (c .before .gap .given .1) (c .before .before .before .gap-at .ensures)) .up, (gap-at-took (c .before .gap .given .1) (c .before .before .before .gap-at .ensures)) .inside, c .before .before .before .gap-at .ensures .at .from)
+rest-at-requires-2 c κs = let t = gap-at-took (c .before .gap .given .1) (c .before .before .before .gap-at .ensures) in omega (arith, t .up, t .inside, c .before .before .before .gap-at .ensures .at .from)
 
 parse-id-requires : tie.Need-parse-id-requires
 parse-id-requires c κs = omega (arith, c .rest-at2 .ensures .size, c .before .before .before .before .before .before .before .before .before .before .before .before .before .before .before .pre)
 
 enum-known-name : tie.Need-enum-known-name
-enum-known-name c = search needs
+enum-known-name c = c .match3 .keys1
 
 enum-told-3 : tie.Need-enum-told-3
-enum-told-3 c = search needs
+enum-told-3 c = c .match3 .keys2
 
 step-lost-requires-3 : tie.Need-step-lost-requires-3
-step-lost-requires-3 c κs = search needs
+step-lost-requires-3 c κs = tt
 
 returns-3 : tie.Need-returns-3
 unfolding struct-head
 returns-3 c = read-not _ refl tt (begin (struct-head) _ _ (go _ (struct-word-took (rest-self _ _) (c .before .before .before .before .before .before .before .before .before .before .before .before .before .before .before .before .before .struct-word .ensures)) (on _ (blank-at-took (c .before .before .before .before .before .before .before .before .before .before .before .before .before .before .before .before .blank-at .ensures)) (go _ (set-took (c .before .before .before .before .before .before .before .before .before .before .before .before .before .before .before .rest-at .ensures) (c .before .before .before .before .before .before .before .before .before .before .before .before .before .before .keywords-set .ensures)) (pair-on _ _ _ (keyword-behind-took (ascii "struct") (c .before .before .before .before .before .before .before .before .before .before .key .given .1) (c .before .before .before .before .before .before .before .before .before .before .before .before .keyword-behind .ensures)) (on _ (gap-at-took (c .before .before .before .before .before .before .gap .given .1) (c .before .before .before .before .before .before .before .before .gap-at .ensures)) (lose _ _ (c .step-lost3 .result) (c .before .before .before .before .rest-at2 .ensures) (step-lost (wordAt _ _) (c .step-lost3 .ensures) (c .before .enum-told3 .given .1) _ _ _ (c .before .before .before .parse-id .ensures)))))))))
 
 blank-at-requires-2 : tie.Need-blank-at-requires-2
-blank-at-requires-2 c κs = omega (arith, (word-took (c .before .before .before .before .rest-at2 .ensures) (c .before .name .given .1) (c .before .before .before .parse-id .ensures)) .up, (word-took (c .before .before .before .before .rest-at2 .ensures) (c .before .name .given .1) (c .before .before .before .parse-id .ensures)) .inside, c .before .before .before .before .rest-at2 .ensures .from, c .before .before .before .before .before .before .before .before .before .before .before .before .before .before .before .before .before .before .before .pre)
+blank-at-requires-2 c κs = let t = word-took (c .before .before .before .before .rest-at2 .ensures) (c .before .name .given .1) (c .before .before .before .parse-id .ensures) in omega (arith, t .up, t .inside, c .before .before .before .before .rest-at2 .ensures .from, c .before .before .before .before .before .before .before .before .before .before .before .before .before .before .before .before .before .before .before .pre)
 
 rest-at-requires-3 : tie.Need-rest-at-requires-3
-rest-at-requires-3 c κs = omega (arith, (blank-at-took (c .blank-at2 .ensures)) .up, (blank-at-took (c .blank-at2 .ensures)) .inside, c .blank-at2 .ensures .at .from)
+rest-at-requires-3 c κs = let t = blank-at-took (c .blank-at2 .ensures) in omega (arith, t .up, t .inside, c .blank-at2 .ensures .at .from)
 
 struct-code-requires : tie.Need-struct-code-requires
 struct-code-requires c κs = omega (arith, c .rest-at3 .ensures .size, c .before .before .before .before .before .before .before .before .before .before .before .before .before .before .before .before .before .before .before .before .before .pre)
 
 enum-known-number : tie.Need-enum-known-number
-enum-known-number c = search needs
+enum-known-number c = c .match4 .keys1
 
 enum-told-4 : tie.Need-enum-told-4
-enum-told-4 c = search needs
+enum-told-4 c = c .match4 .keys2
 
 number-lost-requires : tie.Need-number-lost-requires
-number-lost-requires c κs = search needs
+number-lost-requires c κs = tt
 
 returns-4 : tie.Need-returns-4
 unfolding struct-head

@@ -16,7 +16,7 @@ keyword-requires : tie.Need-keyword-requires
 keyword-requires c κs = search needs
 
 enum-known-request : tie.Need-enum-known-request
-enum-known-request c = search needs
+enum-known-request c = c .match .keys1
 
 sub-kind-by : tie.Need-sub-kind-by
 sub-kind-by c = omega (arith, (keyword-took (rest-self _ _) (c .before .request .given .1) (ascii "request") (c .before .before .before .keyword .ensures)) .up)
@@ -29,7 +29,7 @@ unfolding any-keyword
 returns c = word-is (ascii "request") Request _ _ _ _ _ (c .before .before .before .before .keyword .ensures) (c .before .before .request .given .1) request-kind (c .kind-by .ensures) (or-here _ _ _ _ _ _ _ (told-next (wordAt _ _) _ _ _ _ _ (c .before .before .request .given .1) (c .before .before .before .before .keyword .ensures)))
 
 enum-told : tie.Need-enum-told
-enum-told c = search needs
+enum-told c = c .match .keys2
 
 slice-aggregate-keyword-2 : tie.Need-slice-aggregate-keyword-2
 slice-aggregate-keyword-2 c = search needs
@@ -38,7 +38,7 @@ keyword-requires-2 : tie.Need-keyword-requires-2
 keyword-requires-2 c κs = search needs
 
 enum-known-response : tie.Need-enum-known-response
-enum-known-response c = search needs
+enum-known-response c = c .match2 .keys1
 
 sub-kind-by-2 : tie.Need-sub-kind-by-2
 sub-kind-by-2 c = omega (arith, (keyword-took (rest-self _ _) (c .before .response .given .1) (ascii "response") (c .before .before .before .keyword2 .ensures)) .up)
@@ -51,7 +51,7 @@ unfolding any-keyword
 returns-2 c = word-is (ascii "response") Response _ _ _ _ _ (c .before .before .before .before .keyword2 .ensures) (c .before .before .response .given .1) response-kind (c .kind-by2 .ensures) (or-next _ _ _ _ _ _ _ _ ((keyword-missing (ascii "request") _ _ _ (c .before .before .before .before .before .before .before .before .keyword .ensures) _ (c .before .before .before .before .before .before .enum-told .given .1)) .1) (or-here _ _ _ _ _ _ _ (told-next (wordAt _ _) _ _ _ _ _ (c .before .before .response .given .1) (c .before .before .before .before .keyword2 .ensures))))
 
 enum-told-2 : tie.Need-enum-told-2
-enum-told-2 c = search needs
+enum-told-2 c = c .match2 .keys2
 
 slice-aggregate-keyword-3 : tie.Need-slice-aggregate-keyword-3
 slice-aggregate-keyword-3 c = search needs
@@ -60,7 +60,7 @@ keyword-requires-3 : tie.Need-keyword-requires-3
 keyword-requires-3 c κs = search needs
 
 enum-known-shared : tie.Need-enum-known-shared
-enum-known-shared c = search needs
+enum-known-shared c = c .match3 .keys1
 
 sub-kind-by-3 : tie.Need-sub-kind-by-3
 sub-kind-by-3 c = omega (arith, (keyword-took (rest-self _ _) (c .before .shared .given .1) (ascii "shared") (c .before .before .before .keyword3 .ensures)) .up)
@@ -73,7 +73,7 @@ unfolding any-keyword
 returns-3 c = word-is (ascii "shared") Shared _ _ _ _ _ (c .before .before .before .before .keyword3 .ensures) (c .before .before .shared .given .1) shared-kind (c .kind-by3 .ensures) (or-next _ _ _ _ _ _ _ _ ((keyword-missing (ascii "request") _ _ _ (c .before .before .before .before .before .before .before .before .before .before .before .before .keyword .ensures) _ (c .before .before .before .before .before .before .before .before .before .before .enum-told .given .1)) .1) (or-next _ _ _ _ _ _ _ _ ((keyword-missing (ascii "response") _ _ _ (c .before .before .before .before .before .before .before .before .keyword2 .ensures) _ (c .before .before .before .before .before .before .enum-told2 .given .1)) .1) (or-here _ _ _ _ _ _ _ (told-next (wordAt _ _) _ _ _ _ _ (c .before .before .shared .given .1) (c .before .before .before .before .keyword3 .ensures)))))
 
 enum-told-3 : tie.Need-enum-told-3
-enum-told-3 c = search needs
+enum-told-3 c = c .match3 .keys2
 
 returns-4 : tie.Need-returns-4
 returns-4 c = word-none _ _ (keyword-missing (ascii "request") _ _ _ (c .before .before .before .before .before .before .before .before .before .before .keyword .ensures) _ (c .before .before .before .before .before .before .before .before .enum-told .given .1)) (keyword-missing (ascii "response") _ _ _ (c .before .before .before .before .before .before .keyword2 .ensures) _ (c .before .before .before .before .enum-told2 .given .1)) (keyword-missing (ascii "shared") _ _ _ (c .before .before .keyword3 .ensures) _ (c .enum-told3 .given .1))

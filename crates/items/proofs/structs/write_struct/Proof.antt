@@ -14,10 +14,10 @@ struct-head-requires : tie.Need-struct-head-requires
 struct-head-requires c κs = search needs
 
 enum-known-head : tie.Need-enum-known-head
-enum-known-head c = search needs
+enum-known-head c = c .match .keys1
 
 enum-told : tie.Need-enum-told
-enum-told c = search needs
+enum-told c = c .match .keys2
 
 returns : tie.Need-returns
 returns c = absurd (headed-found struct-headed (frontOf (c .before .before .before .before .before .args .front)) (c .before .before .before .before .before .pre .1 .1) (c .enum-told .given .0 .0) (head-none (rest-self _ _) (c .before .before .struct-head .ensures) (sym (ap headLost (c .enum-told .given .1))) (c .enum-told .given .1)))

@@ -13,10 +13,10 @@ tag-requires : tie.Need-tag-requires
 tag-requires c κs = search needs
 
 enum-known-brace : tie.Need-enum-known-brace
-enum-known-brace c = search needs
+enum-known-brace c = c .match .keys1
 
 enum-told : tie.Need-enum-told
-enum-told c = search needs
+enum-told c = c .match .keys2
 
 returns : tie.Need-returns
 unfolding struct-fields
@@ -42,10 +42,10 @@ tag-requires-2 : tie.Need-tag-requires-2
 tag-requires-2 c κs = omega (arith, c .rest-at3 .ensures .size, c .before .before .before .before .before .before .before .before .before .before .before .before .before .before .pre .0)
 
 enum-known-close : tie.Need-enum-known-close
-enum-known-close c = search needs
+enum-known-close c = c .match2 .keys1
 
 enum-told-2 : tie.Need-enum-told-2
-enum-told-2 c = search needs
+enum-told-2 c = c .match2 .keys2
 
 same-length : tie.Need-same-length
 unfolding struct-fields

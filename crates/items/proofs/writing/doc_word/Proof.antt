@@ -1,4 +1,3 @@
-use borrow.Author.Needs.{needs}
 use Rattle.items.proofs.writing.doc_word.Statement.{statement}
 use Rattle.items.proofs.writing.doc_word.Tie as tie
 use mathlib.Core.Path.{sym, ap, _∙_}
@@ -6,10 +5,10 @@ use Rattle.items.specs.answers.{docWord}
 use Rattle.items.proofs.writing.Laws.{doc-fits-at}
 
 enum-told : tie.Need-enum-told
-enum-told c = search needs
+enum-told c = c .match .keys1
 
 enum-known-doc : tie.Need-enum-known-doc
-enum-known-doc c = search needs
+enum-known-doc c = c .match .keys2
 
 span-word-requires : tie.Need-span-word-requires
 span-word-requires c κs = doc-fits-at _ (c .before .doc .given .1) (c .before .before .before .pre)

@@ -7,13 +7,13 @@ use denote.Ref.{now}
 use Rattle.lexing.proofs.blanks.Laws.{group-line, group-bare, line-fits, group-other, group-open, group-short, group-doc, group-plain, closed-fits}
 
 peek-requires : tie.Need-peek-requires
-peek-requires c κs = search needs
+peek-requires c κs = tt
 
 after-requires : tie.Need-after-requires
-after-requires c κs = search needs
+after-requires c κs = tt
 
 line-length-requires : tie.Need-line-length-requires
-line-length-requires c κs = search needs
+line-length-requires c κs = tt
 
 add-t10 : tie.Need-add-t10
 add-t10 c = omega (arith, line-fits (c .before .before .before .before .before .before .args .base) (now (c .before .before .before .before .before .before .args .part)) (c .before .before .before .before .before .before .pre .1) _ (c .before .before .after .ensures) (sym (c .before .before .before .before .peek .ensures) ∙ c .before .before .before .if1 .taken) _ (c .before .line-length .ensures))
@@ -28,16 +28,16 @@ returns-3 : tie.Need-returns-3
 returns-3 c = group-other _ _ (c .before .before .before .before .pre .1) _ (c .before .before .peek .ensures) (c .before .if1 .left) (c .if3 .taken)
 
 after-requires-2 : tie.Need-after-requires-2
-after-requires-2 c κs = search needs
+after-requires-2 c κs = tt
 
 comment-end-requires : tie.Need-comment-end-requires
-comment-end-requires c κs = search needs
+comment-end-requires c κs = tt
 
 enum-known-e : tie.Need-enum-known-e
-enum-known-e c = search needs
+enum-known-e c = c .match .keys1
 
 enum-told : tie.Need-enum-told
-enum-told c = search needs
+enum-told c = c .match .keys2
 
 returns-4 : tie.Need-returns-4
 returns-4 c = group-open _ _ (c .before .before .before .before .before .before .before .before .pre .1) _ (c .before .before .before .after2 .ensures) (sym (c .before .before .before .before .before .before .peek .ensures) ∙ c .before .before .before .before .if3 .left) _ (c .before .before .comment-end .ensures) (c .enum-told .given .1)
@@ -46,7 +46,7 @@ returns-5 : tie.Need-returns-5
 returns-5 c = group-short _ _ (c .before .before .before .before .before .before .before .before .before .before .pre .1) _ (c .before .before .before .before .before .after2 .ensures) (sym (c .before .before .before .before .before .before .before .before .peek .ensures) ∙ c .before .before .before .before .before .before .if3 .left) _ (c .before .before .before .before .comment-end .ensures) _ (c .before .before .e .given .1) (c .if4 .taken)
 
 peek-requires-2 : tie.Need-peek-requires-2
-peek-requires-2 c κs = search needs
+peek-requires-2 c κs = tt
 
 sub-t13 : tie.Need-sub-t13
 sub-t13 c = search needs

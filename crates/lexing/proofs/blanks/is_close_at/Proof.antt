@@ -14,7 +14,7 @@ add-peek : tie.Need-add-peek
 add-peek c = search needs
 
 peek-requires : tie.Need-peek-requires
-peek-requires c κs = search needs
+peek-requires c κs = tt
 
 returns-2 : tie.Need-returns-2
 returns-2 c = close-second _ _ _ (c .before .if1 .left) (c .peek .ensures)

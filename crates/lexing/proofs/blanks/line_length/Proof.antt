@@ -21,7 +21,7 @@ shared-slice-read-is-in-line : tie.Need-shared-slice-read-is-in-line Inv-loop μ
 shared-slice-read-is-in-line c = search needs
 
 is-in-line-requires : tie.Need-is-in-line-requires Inv-loop μ-loop
-is-in-line-requires c κs = search needs
+is-in-line-requires c κs = tt
 
 returns : tie.Need-returns Inv-loop μ-loop
 returns c = runs-stop _ _ _ (c .before .before .before .before .loop .inv) (c .before .before .before .loop-test .taken) (sym (c .before .is-in-line .ensures) ∙ not-true _ (c .if1 .taken))

@@ -13,22 +13,22 @@ whitespace-group-requires : tie.Need-whitespace-group-requires
 whitespace-group-requires c κs = search needs
 
 enum-told : tie.Need-enum-told
-enum-told c = search needs
+enum-told c = c .match .keys1
 
 enum-known-g : tie.Need-enum-known-g
-enum-known-g c = search needs
+enum-known-g c = c .match .keys2
 
 add-t12 : tie.Need-add-t12
 add-t12 c = omega (arith, white-fits (c .before .before .before .before .before .before .args .base) (now (c .before .before .before .before .before .before .args .part)) _ _ (c .before .before .before .before .rest-at .ensures) _ (c .before .before .before .whitespace-group .ensures) _ (c .before .g .given .1))
 
 enum-known-g-2 : tie.Need-enum-known-g-2
-enum-known-g-2 c = search needs
+enum-known-g-2 c = c .match .keys3
 
 add-t14 : tie.Need-add-t14
 add-t14 c = omega (arith, plain-fits (c .before .before .before .before .before .before .args .base) (now (c .before .before .before .before .before .before .args .part)) _ _ (c .before .before .before .before .rest-at .ensures) _ (c .before .before .before .whitespace-group .ensures) _ (c .before .g2 .given .1))
 
 enum-known-g-3 : tie.Need-enum-known-g-3
-enum-known-g-3 c = search needs
+enum-known-g-3 c = c .match .keys4
 
 add-t17 : tie.Need-add-t17
 add-t17 c = omega (arith, doc-fits (c .before .before .before .before .before .before .args .base) (now (c .before .before .before .before .before .before .args .part)) _ _ (c .before .before .before .before .rest-at .ensures) _ (c .before .before .before .whitespace-group .ensures) _ (c .before .g3 .given .1))

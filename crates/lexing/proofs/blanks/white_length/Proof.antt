@@ -21,7 +21,7 @@ shared-slice-read-is-space : tie.Need-shared-slice-read-is-space Inv-loop μ-loo
 shared-slice-read-is-space c = search needs
 
 is-space-requires : tie.Need-is-space-requires Inv-loop μ-loop
-is-space-requires c κs = search needs
+is-space-requires c κs = tt
 
 returns : tie.Need-returns Inv-loop μ-loop
 returns c = runs-stop _ _ _ (c .before .before .before .before .loop .inv) (c .before .before .before .loop-test .taken) (sym (c .before .is-space .ensures) ∙ not-true _ (c .if1 .taken))

@@ -20,10 +20,10 @@ one-blank-requires : tie.Need-one-blank-requires Inv-loop μ-loop
 one-blank-requires c κs = search needs
 
 enum-known-t : tie.Need-enum-known-t Inv-loop μ-loop
-enum-known-t c = search needs
+enum-known-t c = c .match .keys1
 
 enum-told : tie.Need-enum-told Inv-loop μ-loop
-enum-told c = search needs
+enum-told c = c .match .keys2
 
 returns : tie.Need-returns Inv-loop μ-loop
 returns c = blanks-end _ _ _ (c .before .before .before .loop .inv) _ (c .before .before .one-blank .ensures) (c .enum-told .given .1)

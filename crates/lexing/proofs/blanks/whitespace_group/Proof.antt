@@ -1,11 +1,10 @@
-use borrow.Author.Needs.{needs}
 use Rattle.lexing.proofs.blanks.whitespace_group.Statement.{statement}
 use Rattle.lexing.proofs.blanks.whitespace_group.Tie as tie
 use mathlib.Core.Path.{sym, _∙_}
 use Rattle.lexing.proofs.blanks.Laws.{group-white, group-none}
 
 peek-requires : tie.Need-peek-requires
-peek-requires c κs = search needs
+peek-requires c κs = tt
 
 comment-group-requires : tie.Need-comment-group-requires
 comment-group-requires c κs = (c .before .before .before .pre, sym (c .before .peek .ensures) ∙ c .if1 .taken)
@@ -14,7 +13,7 @@ returns : tie.Need-returns
 returns c = c .comment-group .ensures
 
 white-length-requires : tie.Need-white-length-requires
-white-length-requires c κs = search needs
+white-length-requires c κs = tt
 
 returns-2 : tie.Need-returns-2
 returns-2 c = group-white _ _ _ (c .before .white-length .ensures) (c .if2 .taken)

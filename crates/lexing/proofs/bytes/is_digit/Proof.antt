@@ -1,10 +1,9 @@
-use borrow.Author.Needs.{needs}
 use Rattle.lexing.proofs.bytes.is_digit.Statement.{statement}
 use Rattle.lexing.proofs.bytes.is_digit.Tie as tie
 use Rattle.lexing.specs.bytes.{isDigit}
 
 is-between-requires : tie.Need-is-between-requires
-is-between-requires c κs = search needs
+is-between-requires c κs = tt
 
 returns : tie.Need-returns
 unfolding isDigit

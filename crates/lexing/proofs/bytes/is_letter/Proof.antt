@@ -1,17 +1,16 @@
-use borrow.Author.Needs.{needs}
 use Rattle.lexing.proofs.bytes.is_letter.Statement.{statement}
 use Rattle.lexing.proofs.bytes.is_letter.Tie as tie
 use Rattle.lexing.specs.bytes.{isLetter}
 
 is-between-requires : tie.Need-is-between-requires
-is-between-requires c κs = search needs
+is-between-requires c κs = tt
 
 returns : tie.Need-returns
 unfolding isLetter
 returns c = simp (← c .before .is-between .ensures, c .if1 .taken)
 
 is-between-requires-2 : tie.Need-is-between-requires-2
-is-between-requires-2 c κs = search needs
+is-between-requires-2 c κs = tt
 
 returns-2 : tie.Need-returns-2
 unfolding isLetter

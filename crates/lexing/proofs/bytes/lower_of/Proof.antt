@@ -1,4 +1,3 @@
-use borrow.Author.Needs.{needs}
 use Rattle.lexing.proofs.bytes.lower_of.Statement.{statement}
 use Rattle.lexing.proofs.bytes.lower_of.Tie as tie
 use mathlib.Core.Path.{sym, _∙_}
@@ -7,7 +6,7 @@ use Rattle.lexing.specs.bytes.{lower}
 use Rattle.lexing.proofs.Tests.{within-of}
 
 is-between-requires : tie.Need-is-between-requires
-is-between-requires c κs = search needs
+is-between-requires c κs = tt
 
 add-result : tie.Need-add-result
 add-result c = omega (arith, within-of 65 90 (c .before .before .args .x) (sym (c .before .is-between .ensures) ∙ c .if1 .taken))

@@ -1,4 +1,3 @@
-use borrow.Author.Needs.{needs}
 use Rattle.lexing.proofs.integers.after_sign.Statement.{statement}
 use Rattle.lexing.proofs.integers.after_sign.Tie as tie
 use borrow.Author.Tests.{not-true, not-false}
@@ -10,31 +9,31 @@ use Rattle.lexing.specs.bytes.{isDigit}
 use Rattle.lexing.proofs.integers.Laws.{digits-inside, sign-alone, signed-over, signed-beyond, signed-value}
 
 after-requires : tie.Need-after-requires
-after-requires c κs = search needs
+after-requires c κs = tt
 
 peek-requires : tie.Need-peek-requires
-peek-requires c κs = search needs
+peek-requires c κs = tt
 
 is-digit-requires : tie.Need-is-digit-requires
-is-digit-requires c κs = search needs
+is-digit-requires c κs = tt
 
 returns : tie.Need-returns
 returns c = sign-alone _ _ (now (c .before .before .before .before .before .args .part)) _ (c .before .before .before .after .ensures) (ap isDigit (sym (c .before .before .peek .ensures)) ∙ (sym (c .before .is-digit .ensures) ∙ not-true _ (c .if1 .taken)))
 
 read-digits-requires : tie.Need-read-digits-requires
-read-digits-requires c κs = search needs
+read-digits-requires c κs = tt
 
 enum-known-d : tie.Need-enum-known-d
-enum-known-d c = search needs
+enum-known-d c = c .match .keys1
 
 enum-told : tie.Need-enum-told
-enum-told c = search needs
+enum-told c = c .match .keys2
 
 returns-2 : tie.Need-returns-2
 returns-2 c = signed-over _ _ (now (c .before .before .before .before .before .before .before .before .args .part)) _ (c .before .before .before .before .before .before .after .ensures) (ap isDigit (sym (c .before .before .before .before .before .peek .ensures)) ∙ (sym (c .before .before .before .before .is-digit .ensures) ∙ not-false _ (c .before .before .before .if1 .left))) _ (c .before .before .read-digits .ensures) (c .enum-told .given .1)
 
 largest-of-requires : tie.Need-largest-of-requires
-largest-of-requires c κs = search needs
+largest-of-requires c κs = tt
 
 returns-3 : tie.Need-returns-3
 returns-3 c = signed-beyond _ _ (now (c .before .before .before .before .before .before .before .before .before .before .before .args .part)) _ (c .before .before .before .before .before .before .before .before .before .after .ensures) (ap isDigit (sym (c .before .before .before .before .before .before .before .before .peek .ensures)) ∙ (sym (c .before .before .before .before .before .before .before .is-digit .ensures) ∙ not-false _ (c .before .before .before .before .before .before .if1 .left))) _ (c .before .before .before .before .before .read-digits .ensures) (c .before .before .before .d .given .1) _ (c .before .largest-of .ensures) (c .if2 .taken)

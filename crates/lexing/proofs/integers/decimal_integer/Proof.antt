@@ -1,4 +1,3 @@
-use borrow.Author.Needs.{needs}
 use Rattle.lexing.proofs.integers.decimal_integer.Statement.{statement}
 use Rattle.lexing.proofs.integers.decimal_integer.Tie as tie
 use borrow.Author.Tests.{not-true, not-false}
@@ -11,22 +10,22 @@ use Rattle.lexing.specs.bytes.{isDigit}
 use Rattle.lexing.proofs.integers.Laws.{digits-inside, decimal-no, integer-over, integer-value}
 
 peek-requires : tie.Need-peek-requires
-peek-requires c κs = search needs
+peek-requires c κs = tt
 
 is-digit-requires : tie.Need-is-digit-requires
-is-digit-requires c κs = search needs
+is-digit-requires c κs = tt
 
 returns : tie.Need-returns
 returns c = decimal-no _ _ (ap isDigit (sym (c .before .before .peek .ensures)) ∙ (sym (c .before .is-digit .ensures) ∙ not-true _ (c .if1 .taken)))
 
 read-digits-requires : tie.Need-read-digits-requires
-read-digits-requires c κs = search needs
+read-digits-requires c κs = tt
 
 enum-known-d : tie.Need-enum-known-d
-enum-known-d c = search needs
+enum-known-d c = c .match .keys1
 
 enum-told : tie.Need-enum-told
-enum-told c = search needs
+enum-told c = c .match .keys2
 
 returns-2 : tie.Need-returns-2
 returns-2 c = integer-over false _ (now (c .before .before .before .before .before .before .before .args .part)) _ (ap isDigit (sym (c .before .before .before .before .before .peek .ensures)) ∙ (sym (c .before .before .before .before .is-digit .ensures) ∙ not-false _ (c .before .before .before .if1 .left))) refl _ (c .before .before .read-digits .ensures) (c .enum-told .given .1)

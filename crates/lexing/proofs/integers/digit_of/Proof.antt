@@ -7,7 +7,7 @@ use Rattle.lexing.proofs.Tests.{within-of}
 use Rattle.lexing.proofs.integers.Laws.{digit-low, digit-decimal, digit-small, digit-capital, capital-low}
 
 is-digit-requires : tie.Need-is-digit-requires
-is-digit-requires c κs = search needs
+is-digit-requires c κs = tt
 
 sub-result : tie.Need-sub-result
 sub-result c = omega (arith, digit-low (c .before .before .args .x) (sym (c .before .is-digit .ensures) ∙ c .if1 .taken))
@@ -19,7 +19,7 @@ returns : tie.Need-returns
 returns c = digit-decimal (c .before .before .args .x) (sym (c .before .is-digit .ensures) ∙ c .if1 .taken)
 
 is-between-requires : tie.Need-is-between-requires
-is-between-requires c κs = search needs
+is-between-requires c κs = tt
 
 sub-result-2 : tie.Need-sub-result-2
 sub-result-2 c = omega (arith, within-of 0x61 0x66 (c .before .before .before .before .args .x) (sym (c .before .is-between .ensures) ∙ c .if2 .taken))

@@ -5,13 +5,13 @@ use native.Mathlib.Omega.{arith}
 use Rattle.lexing.proofs.integers.Laws.{product-fits, no-room, room}
 
 most-of-requires : tie.Need-most-of-requires
-most-of-requires c κs = search needs
+most-of-requires c κs = tt
 
 returns : tie.Need-returns
 returns c = no-room (c .before .before .args .hex) _ _ (c .before .most-of .ensures) (c .if1 .taken) _
 
 radix-of-requires : tie.Need-radix-of-requires
-radix-of-requires c κs = search needs
+radix-of-requires c κs = tt
 
 mul-result : tie.Need-mul-result
 mul-result c = omega (arith, product-fits (c .before .before .before .args .hex) (c .before .before .before .args .v) _ (c .before .before .most-of .ensures) (c .before .if1 .left) (c .radix-of .result) (c .radix-of .ensures))

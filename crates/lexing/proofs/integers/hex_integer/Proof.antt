@@ -1,4 +1,3 @@
-use borrow.Author.Needs.{needs}
 use Rattle.lexing.proofs.integers.hex_integer.Statement.{statement}
 use Rattle.lexing.proofs.integers.hex_integer.Tie as tie
 use mathlib.Core.Path.{refl}
@@ -8,16 +7,16 @@ use denote.Ref.{now}
 use Rattle.lexing.proofs.integers.Laws.{hex-inside, digits-inside, integer-over, integer-value}
 
 after-requires : tie.Need-after-requires
-after-requires c κs = search needs
+after-requires c κs = tt
 
 read-digits-requires : tie.Need-read-digits-requires
-read-digits-requires c κs = search needs
+read-digits-requires c κs = tt
 
 enum-known-d : tie.Need-enum-known-d
-enum-known-d c = search needs
+enum-known-d c = c .match .keys1
 
 enum-told : tie.Need-enum-told
-enum-told c = search needs
+enum-told c = c .match .keys2
 
 returns : tie.Need-returns
 returns c = integer-over true _ _ _ (c .before .before .before .before .before .pre .1) (c .before .before .before .after .ensures) _ (c .before .before .read-digits .ensures) (c .enum-told .given .1)

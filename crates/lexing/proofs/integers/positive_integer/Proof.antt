@@ -5,7 +5,7 @@ use mathlib.Core.Path.{sym, _∙_}
 use Rattle.lexing.proofs.integers.Laws.{hex-first, then-decimal}
 
 is-hex-ahead-requires : tie.Need-is-hex-ahead-requires
-is-hex-ahead-requires c κs = search needs
+is-hex-ahead-requires c κs = tt
 
 hex-integer-requires : tie.Need-hex-integer-requires
 hex-integer-requires c κs = (c .before .before .before .pre, sym (c .before .is-hex-ahead .ensures) ∙ c .if1 .taken)

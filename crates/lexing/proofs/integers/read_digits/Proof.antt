@@ -15,7 +15,7 @@ abbrev μ-loop : tie.MeasureT-loop
 μ-loop part hex base v₀ i₀ v i = length part - i
 
 radix-of-requires : tie.Need-radix-of-requires Inv-loop μ-loop
-radix-of-requires c κs = search needs
+radix-of-requires c κs = tt
 
 loop-holds : tie.Need-loop-holds Inv-loop μ-loop
 loop-holds c = digits-start _ _
@@ -24,7 +24,7 @@ shared-slice-read-x : tie.Need-shared-slice-read-x Inv-loop μ-loop
 shared-slice-read-x c = search needs
 
 is-digit-in-requires : tie.Need-is-digit-in-requires Inv-loop μ-loop
-is-digit-in-requires c κs = search needs
+is-digit-in-requires c κs = tt
 
 returns : tie.Need-returns Inv-loop μ-loop
 returns c = digits-stop (c .before .before .before .before .before .before .before .args .hex) _ _ _ (c .before .before .before .before .loop .inv) (c .before .before .before .loop-test .taken) (sym (c .before .is-digit-in .ensures) ∙ not-true _ (c .if1 .taken))
@@ -33,7 +33,7 @@ digit-of-requires : tie.Need-digit-of-requires Inv-loop μ-loop
 digit-of-requires c κs = (sym (c .before .is-digit-in .ensures) ∙ not-false _ (c .if1 .left))
 
 fits-with-requires : tie.Need-fits-with-requires Inv-loop μ-loop
-fits-with-requires c κs = search needs
+fits-with-requires c κs = tt
 
 returns-2 : tie.Need-returns-2 Inv-loop μ-loop
 returns-2 c = digits-over (c .before .before .before .before .before .before .before .before .before .before .args .hex) _ _ _ (c .before .before .before .before .before .before .before .loop .inv) (c .before .before .before .before .before .before .loop-test .taken) (sym (c .before .before .before .before .is-digit-in .ensures) ∙ not-false _ (c .before .before .before .if1 .left)) _ _ (c .before .before .before .before .before .before .before .before .radix-of .ensures) (c .before .before .digit-of .ensures)

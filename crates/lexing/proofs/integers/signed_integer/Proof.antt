@@ -1,4 +1,3 @@
-use borrow.Author.Needs.{needs}
 use Rattle.lexing.proofs.integers.signed_integer.Statement.{statement}
 use Rattle.lexing.proofs.integers.signed_integer.Tie as tie
 use mathlib.Core.Path.{sym, _∙_}
@@ -7,7 +6,7 @@ use denote.Ref.{now}
 use Rattle.lexing.proofs.integers.Laws.{sign-inside, signed-at, signed-no}
 
 peek-requires : tie.Need-peek-requires
-peek-requires c κs = search needs
+peek-requires c κs = tt
 
 after-sign-requires : tie.Need-after-sign-requires
 after-sign-requires c κs = (c .before .before .before .pre, sign-inside true (now (c .before .before .before .args .part)) (sym (c .before .peek .ensures) ∙ c .if1 .taken))

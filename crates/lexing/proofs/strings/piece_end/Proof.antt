@@ -1,14 +1,13 @@
-use borrow.Author.Needs.{needs}
 use Rattle.lexing.proofs.strings.piece_end.Statement.{statement}
 use Rattle.lexing.proofs.strings.piece_end.Tie as tie
 use mathlib.Core.Path.{sym, ap}
 use Rattle.lexing.specs.inner.strings.{pieceEnd}
 
 enum-known-p : tie.Need-enum-known-p
-enum-known-p c = search needs
+enum-known-p c = c .match .keys1
 
 enum-known-p-2 : tie.Need-enum-known-p-2
-enum-known-p-2 c = search needs
+enum-known-p-2 c = c .match .keys2
 
 returns : tie.Need-returns
 returns c = sym (ap pieceEnd (c .before .p .given .1))

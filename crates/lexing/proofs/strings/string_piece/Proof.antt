@@ -28,19 +28,19 @@ shared-slice-read-escape-of : tie.Need-shared-slice-read-escape-of
 shared-slice-read-escape-of c = search needs
 
 escape-of-requires : tie.Need-escape-of-requires
-escape-of-requires c κs = search needs
+escape-of-requires c κs = tt
 
 enum-told : tie.Need-enum-told
-enum-told c = search needs
+enum-told c = c .match .keys1
 
 add-t18 : tie.Need-add-t18
 add-t18 c = search needs
 
 enum-told-2 : tie.Need-enum-told-2
-enum-told-2 c = search needs
+enum-told-2 c = c .match .keys2
 
 enum-told-3 : tie.Need-enum-told-3
-enum-told-3 c = search needs
+enum-told-3 c = c .match .keys3
 
 returns-5 : tie.Need-returns-5
 returns-5 c = piece-escape (escapesOf (c .before .before .before .before .before .before .before .before .before .before .args .default)) _ _ (omega arith) (c .before .before .before .before .before .if3 .left) Allowed (c .enum-told .given .1) (c .before .before .escape-of .ensures)

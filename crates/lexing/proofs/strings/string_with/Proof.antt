@@ -36,13 +36,13 @@ string-piece-requires : tie.Need-string-piece-requires Inv-loop μ-loop
 string-piece-requires c κs = search needs
 
 enum-known-p : tie.Need-enum-known-p Inv-loop μ-loop
-enum-known-p c = search needs
+enum-known-p c = c .match .keys1
 
 enum-told : tie.Need-enum-told Inv-loop μ-loop
-enum-told c = search needs
+enum-told c = c .match .keys2
 
 piece-end-requires : tie.Need-piece-end-requires Inv-loop μ-loop
-piece-end-requires c κs = search needs
+piece-end-requires c κs = tt
 
 returns-3 : tie.Need-returns-3 Inv-loop μ-loop
 returns-3 c = string-ends (escapesOf (c .before .before .before .before .before .before .before .before .before .before .args .default)) _ _ _ (c .before .before .before .before .before .loop .inv) _ (c .before .before .before .before .rest-at .ensures) _ (c .before .before .before .string-piece .ensures) _ _ (c .before .enum-told .given .1) (c .piece-end .ensures)

@@ -22,13 +22,13 @@ shared-slice-read-meaning-of : tie.Need-shared-slice-read-meaning-of
 shared-slice-read-meaning-of c = search needs
 
 meaning-of-requires : tie.Need-meaning-of-requires
-meaning-of-requires c κs = search needs
+meaning-of-requires c κs = tt
 
 enum-known-meaning : tie.Need-enum-known-meaning
-enum-known-meaning c = search needs
+enum-known-meaning c = c .match .keys1
 
 enum-told : tie.Need-enum-told
-enum-told c = search needs
+enum-told c = c .match .keys2
 
 returns-4 : tie.Need-returns-4
 returns-4 c = piece-bad _ _ (c .before .before .before .before .before .before .before .before .before .pre) (c .before .before .before .before .before .before .if1 .left) (c .before .before .before .before .before .if2 .left) (c .before .before .before .before .if3 .left) (c .before .before .meaning-of .result) (c .before .before .meaning-of .ensures) (c .enum-told .given .1)

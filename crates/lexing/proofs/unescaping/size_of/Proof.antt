@@ -19,10 +19,10 @@ next-piece-requires : tie.Need-next-piece-requires Inv-loop μ-loop
 next-piece-requires c κs = search needs
 
 enum-known-piece : tie.Need-enum-known-piece Inv-loop μ-loop
-enum-known-piece c = search needs
+enum-known-piece c = c .match .keys1
 
 enum-told : tie.Need-enum-told Inv-loop μ-loop
-enum-told c = search needs
+enum-told c = c .match .keys2
 
 returns : tie.Need-returns Inv-loop μ-loop
 returns c = counting-fault (c .before .before .before .before .loop .inv) _ (c .before .before .next-piece .ensures) (c .enum-told .given .1)

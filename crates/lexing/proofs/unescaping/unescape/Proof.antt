@@ -5,13 +5,13 @@ use Rattle.lexing.proofs.unescaping.Laws.{ends-fault, ends-short, may-w
 use denote.Ref.{now}
 
 size-of-requires : tie.Need-size-of-requires
-size-of-requires c κs = search needs
+size-of-requires c κs = tt
 
 enum-known-size : tie.Need-enum-known-size
-enum-known-size c = search needs
+enum-known-size c = c .match .keys1
 
 enum-known-size-2 : tie.Need-enum-known-size-2
-enum-known-size-2 c = search needs
+enum-known-size-2 c = c .match .keys2
 
 returns : tie.Need-returns
 returns c = ends-short _ _ _ (c .before .before .before .before .size-of .ensures) _ (c .before .before .size2 .given .1) (c .if1 .taken)

@@ -19,10 +19,10 @@ next-piece-requires : tie.Need-next-piece-requires Inv-loop μ-loop
 next-piece-requires c κs = search needs
 
 enum-known-piece : tie.Need-enum-known-piece Inv-loop μ-loop
-enum-known-piece c = search needs
+enum-known-piece c = c .match .keys1
 
 enum-told : tie.Need-enum-told Inv-loop μ-loop
-enum-told c = search needs
+enum-told c = c .match .keys2
 
 same-length : tie.Need-same-length Inv-loop μ-loop
 same-length c = writing-same _ _ (c .before .before .before .before .before .before .before .pre) (c .before .before .before .before .loop .inv)

@@ -11,7 +11,7 @@ shared-slice-read-x : tie.Need-shared-slice-read-x
 shared-slice-read-x c = search needs
 
 is-between-requires : tie.Need-is-between-requires
-is-between-requires c κs = search needs
+is-between-requires c κs = tt
 
 size-by-requires : tie.Need-size-by-requires
 size-by-requires c κs = search needs
@@ -21,7 +21,7 @@ unfolding table later
 returns c = c .size-by .ensures ∙ sequence-by (now (c .before .before .before .before .before .args .rest)) _ (c .before .before .before .before .before .pre .0) (next-row _ _ _ _ _ (not-ascii _ (c .before .before .before .before .before .pre .1)) (this-row _ _ _ _ _ (sym (c .before .before .is-between .ensures) ∙ c .before .if1 .taken)))
 
 is-between-requires-2 : tie.Need-is-between-requires-2
-is-between-requires-2 c κs = search needs
+is-between-requires-2 c κs = tt
 
 size-by-requires-2 : tie.Need-size-by-requires-2
 size-by-requires-2 c κs = search needs
@@ -31,7 +31,7 @@ unfolding table later
 returns-2 c = c .size-by2 .ensures ∙ sequence-by (now (c .before .before .before .before .before .before .before .args .rest)) _ (c .before .before .before .before .before .before .before .pre .0) (next-row _ _ _ _ _ (not-ascii _ (c .before .before .before .before .before .before .before .pre .1)) (next-row _ _ _ _ _ (sym (c .before .before .before .before .is-between .ensures) ∙ c .before .before .before .if1 .left) (this-row _ _ _ _ _ (sym (c .before .before .is-between2 .ensures) ∙ c .before .if2 .taken))))
 
 is-between-requires-3 : tie.Need-is-between-requires-3
-is-between-requires-3 c κs = search needs
+is-between-requires-3 c κs = tt
 
 size-by-requires-3 : tie.Need-size-by-requires-3
 size-by-requires-3 c κs = search needs
@@ -41,7 +41,7 @@ unfolding table later
 returns-3 c = c .size-by3 .ensures ∙ sequence-by (now (c .before .before .before .before .before .before .before .before .before .args .rest)) _ (c .before .before .before .before .before .before .before .before .before .pre .0) (next-row _ _ _ _ _ (not-ascii _ (c .before .before .before .before .before .before .before .before .before .pre .1)) (next-row _ _ _ _ _ (sym (c .before .before .before .before .before .before .is-between .ensures) ∙ c .before .before .before .before .before .if1 .left) (next-row _ _ _ _ _ (sym (c .before .before .before .before .is-between2 .ensures) ∙ c .before .before .before .if2 .left) (this-row _ _ _ _ _ (sym (c .before .before .is-between3 .ensures) ∙ c .before .if3 .taken)))))
 
 is-between-requires-4 : tie.Need-is-between-requires-4
-is-between-requires-4 c κs = search needs
+is-between-requires-4 c κs = tt
 
 size-by-requires-4 : tie.Need-size-by-requires-4
 size-by-requires-4 c κs = search needs
@@ -51,7 +51,7 @@ unfolding table later
 returns-4 c = c .size-by4 .ensures ∙ sequence-by (now (c .before .before .before .before .before .before .before .before .before .before .before .args .rest)) _ (c .before .before .before .before .before .before .before .before .before .before .before .pre .0) (next-row _ _ _ _ _ (not-ascii _ (c .before .before .before .before .before .before .before .before .before .before .before .pre .1)) (next-row _ _ _ _ _ (sym (c .before .before .before .before .before .before .before .before .is-between .ensures) ∙ c .before .before .before .before .before .before .before .if1 .left) (next-row _ _ _ _ _ (sym (c .before .before .before .before .before .before .is-between2 .ensures) ∙ c .before .before .before .before .before .if2 .left) (next-row _ _ _ _ _ (sym (c .before .before .before .before .is-between3 .ensures) ∙ c .before .before .before .if3 .left) (this-row _ _ _ _ _ (sym (c .before .before .is-between4 .ensures) ∙ c .before .if4 .taken))))))
 
 is-between-requires-5 : tie.Need-is-between-requires-5
-is-between-requires-5 c κs = search needs
+is-between-requires-5 c κs = tt
 
 size-by-requires-5 : tie.Need-size-by-requires-5
 size-by-requires-5 c κs = search needs
@@ -61,7 +61,7 @@ unfolding table later
 returns-5 c = c .size-by5 .ensures ∙ sequence-by (now (c .before .before .before .before .before .before .before .before .before .before .before .before .before .args .rest)) _ (c .before .before .before .before .before .before .before .before .before .before .before .before .before .pre .0) (next-row _ _ _ _ _ (not-ascii _ (c .before .before .before .before .before .before .before .before .before .before .before .before .before .pre .1)) (next-row _ _ _ _ _ (sym (c .before .before .before .before .before .before .before .before .before .before .is-between .ensures) ∙ c .before .before .before .before .before .before .before .before .before .if1 .left) (next-row _ _ _ _ _ (sym (c .before .before .before .before .before .before .before .before .is-between2 .ensures) ∙ c .before .before .before .before .before .before .before .if2 .left) (next-row _ _ _ _ _ (sym (c .before .before .before .before .before .before .is-between3 .ensures) ∙ c .before .before .before .before .before .if3 .left) (next-row _ _ _ _ _ (sym (c .before .before .before .before .is-between4 .ensures) ∙ c .before .before .before .if4 .left) (this-row _ _ _ _ _ (sym (c .before .before .is-between5 .ensures) ∙ c .before .if5 .taken)))))))
 
 is-between-requires-6 : tie.Need-is-between-requires-6
-is-between-requires-6 c κs = search needs
+is-between-requires-6 c κs = tt
 
 size-by-requires-6 : tie.Need-size-by-requires-6
 size-by-requires-6 c κs = search needs
@@ -71,7 +71,7 @@ unfolding table later
 returns-6 c = c .size-by6 .ensures ∙ sequence-by (now (c .before .before .before .before .before .before .before .before .before .before .before .before .before .before .before .args .rest)) _ (c .before .before .before .before .before .before .before .before .before .before .before .before .before .before .before .pre .0) (next-row _ _ _ _ _ (not-ascii _ (c .before .before .before .before .before .before .before .before .before .before .before .before .before .before .before .pre .1)) (next-row _ _ _ _ _ (sym (c .before .before .before .before .before .before .before .before .before .before .before .before .is-between .ensures) ∙ c .before .before .before .before .before .before .before .before .before .before .before .if1 .left) (next-row _ _ _ _ _ (sym (c .before .before .before .before .before .before .before .before .before .before .is-between2 .ensures) ∙ c .before .before .before .before .before .before .before .before .before .if2 .left) (next-row _ _ _ _ _ (sym (c .before .before .before .before .before .before .before .before .is-between3 .ensures) ∙ c .before .before .before .before .before .before .before .if3 .left) (next-row _ _ _ _ _ (sym (c .before .before .before .before .before .before .is-between4 .ensures) ∙ c .before .before .before .before .before .if4 .left) (next-row _ _ _ _ _ (sym (c .before .before .before .before .is-between5 .ensures) ∙ c .before .before .before .if5 .left) (this-row _ _ _ _ _ (sym (c .before .before .is-between6 .ensures) ∙ c .before .if6 .taken))))))))
 
 is-between-requires-7 : tie.Need-is-between-requires-7
-is-between-requires-7 c κs = search needs
+is-between-requires-7 c κs = tt
 
 size-by-requires-7 : tie.Need-size-by-requires-7
 size-by-requires-7 c κs = search needs
@@ -81,7 +81,7 @@ unfolding table later
 returns-7 c = c .size-by7 .ensures ∙ sequence-by (now (c .before .before .before .before .before .before .before .before .before .before .before .before .before .before .before .before .before .args .rest)) _ (c .before .before .before .before .before .before .before .before .before .before .before .before .before .before .before .before .before .pre .0) (next-row _ _ _ _ _ (not-ascii _ (c .before .before .before .before .before .before .before .before .before .before .before .before .before .before .before .before .before .pre .1)) (next-row _ _ _ _ _ (sym (c .before .before .before .before .before .before .before .before .before .before .before .before .before .before .is-between .ensures) ∙ c .before .before .before .before .before .before .before .before .before .before .before .before .before .if1 .left) (next-row _ _ _ _ _ (sym (c .before .before .before .before .before .before .before .before .before .before .before .before .is-between2 .ensures) ∙ c .before .before .before .before .before .before .before .before .before .before .before .if2 .left) (next-row _ _ _ _ _ (sym (c .before .before .before .before .before .before .before .before .before .before .is-between3 .ensures) ∙ c .before .before .before .before .before .before .before .before .before .if3 .left) (next-row _ _ _ _ _ (sym (c .before .before .before .before .before .before .before .before .is-between4 .ensures) ∙ c .before .before .before .before .before .before .before .if4 .left) (next-row _ _ _ _ _ (sym (c .before .before .before .before .before .before .is-between5 .ensures) ∙ c .before .before .before .before .before .if5 .left) (next-row _ _ _ _ _ (sym (c .before .before .before .before .is-between6 .ensures) ∙ c .before .before .before .if6 .left) (this-row _ _ _ _ _ (sym (c .before .before .is-between7 .ensures) ∙ c .before .if7 .taken)))))))))
 
 is-between-requires-8 : tie.Need-is-between-requires-8
-is-between-requires-8 c κs = search needs
+is-between-requires-8 c κs = tt
 
 size-by-requires-8 : tie.Need-size-by-requires-8
 size-by-requires-8 c κs = search needs

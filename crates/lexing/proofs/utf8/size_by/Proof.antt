@@ -20,7 +20,7 @@ shared-slice-read-is-between : tie.Need-shared-slice-read-is-between Inv-loop μ
 shared-slice-read-is-between c = search needs
 
 is-between-requires : tie.Need-is-between-requires Inv-loop μ-loop
-is-between-requires c κs = search needs
+is-between-requires c κs = tt
 
 returns-2 : tie.Need-returns-2 Inv-loop μ-loop
 returns-2 c = second-out (now (c .before .before .before .before .before .args .rest)) _ _ _ (c .before .before .before .before .before .pre) (c .before .before .before .if1 .left) (sym (c .before .is-between .ensures) ∙ not-true _ (c .if2 .taken))
@@ -32,7 +32,7 @@ shared-slice-read-is-between-2 : tie.Need-shared-slice-read-is-between-2 Inv-loo
 shared-slice-read-is-between-2 c = search needs
 
 is-between-requires-2 : tie.Need-is-between-requires-2 Inv-loop μ-loop
-is-between-requires-2 c κs = search needs
+is-between-requires-2 c κs = tt
 
 returns-3 : tie.Need-returns-3 Inv-loop μ-loop
 returns-3 c = tail-out _ _ _ _ _ (c .before .before .before .before .loop .inv) (c .before .before .before .loop-test .taken) (sym (c .before .is-between2 .ensures) ∙ not-true _ (c .if3 .taken))

@@ -18,7 +18,7 @@ shared-slice-read-x : tie.Need-shared-slice-read-x Inv-loop μ-loop
 shared-slice-read-x c = search needs
 
 lower-of-requires : tie.Need-lower-of-requires Inv-loop μ-loop
-lower-of-requires c κs = search needs
+lower-of-requires c κs = tt
 
 returns : tie.Need-returns Inv-loop μ-loop
 returns c = lower-not _ _ _ (c .before .before .before .before .loop .inv) (c .before .before .before .before .before .before .pre) (c .before .before .before .loop-test .taken) (λ e. c .if1 .taken (c .before .lower-of .ensures ∙ e))

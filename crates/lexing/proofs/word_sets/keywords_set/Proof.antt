@@ -20,7 +20,7 @@ abbrev μ-words : tie.MeasureT-words
 μ-words part base set count flags₀ next₀ first₀ flags next first = base + length part - next
 
 keyword-count-requires : tie.Need-keyword-count-requires Inv-loop μ-loop Inv-words μ-words
-keyword-count-requires c κs = search needs
+keyword-count-requires c κs = tt
 
 words-holds : tie.Need-words-holds Inv-loop μ-loop Inv-words μ-words
 words-holds c = set-start _ _ _
@@ -32,10 +32,10 @@ word-start-requires : tie.Need-word-start-requires Inv-loop μ-loop Inv-words μ
 word-start-requires c κs = search needs
 
 enum-known-s : tie.Need-enum-known-s Inv-loop μ-loop Inv-words μ-words
-enum-known-s c = search needs
+enum-known-s c = c .match .keys1
 
 enum-told : tie.Need-enum-told Inv-loop μ-loop Inv-words μ-words
-enum-told c = search needs
+enum-told c = c .match .keys2
 
 rest-at-requires-2 : tie.Need-rest-at-requires-2 Inv-loop μ-loop Inv-words μ-words
 rest-at-requires-2 c κs = omega (arith, (start-took _ (c .before .before .before .word-start .result) _ (c .before .before .before .before .rest-at .ensures) (c .before .before .before .word-start .ensures) (c .before .s .given .1)) .up, (start-took _ (c .before .before .before .word-start .result) _ (c .before .before .before .before .rest-at .ensures) (c .before .before .before .word-start .ensures) (c .before .s .given .1)) .inside, c .before .before .before .before .before .words .inv .at .from)
@@ -47,7 +47,7 @@ set-keyword-requires : tie.Need-set-keyword-requires Inv-loop μ-loop Inv-words 
 set-keyword-requires c κs = search needs
 
 enum-known-w : tie.Need-enum-known-w Inv-loop μ-loop Inv-words μ-words
-enum-known-w c = search needs
+enum-known-w c = c .match2 .keys1
 
 sub-with-flag : tie.Need-sub-with-flag Inv-loop μ-loop Inv-words μ-words
 sub-with-flag c = search needs
@@ -71,7 +71,7 @@ words-again : tie.Need-words-again Inv-loop μ-loop Inv-words μ-words
 words-again c = (walk-again (c .before .before .before .before .before .before .before .loop .inv .0) (c .before .before .before .before .before .before .before .before .before .before .before .before .before .before .before .keyword-count .ensures) (c .before .before .before .before .before .before .loop-test .taken) (c .before .before .before .before .before .set-keyword .result) (c .before .before .before .before .before .set-keyword .ensures) _ (c .before .before .before .w .given .1) _ _ _ refl (c .before .is-lower .ensures) (c .with-flag .ensures)) .0
 
 enum-told-2 : tie.Need-enum-told-2 Inv-loop μ-loop Inv-words μ-words
-enum-told-2 c = search needs
+enum-told-2 c = c .match2 .keys2
 
 add-k : tie.Need-add-k Inv-loop μ-loop Inv-words μ-words
 add-k c = search needs

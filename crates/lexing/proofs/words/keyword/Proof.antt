@@ -17,10 +17,10 @@ abbrev μ-loop : tie.MeasureT-loop
 μ-loop part base key i₀ i = length key - i
 
 peek-requires : tie.Need-peek-requires Inv-loop μ-loop
-peek-requires c κs = search needs
+peek-requires c κs = tt
 
 is-letter-requires : tie.Need-is-letter-requires Inv-loop μ-loop
-is-letter-requires c κs = search needs
+is-letter-requires c κs = tt
 
 returns : tie.Need-returns Inv-loop μ-loop
 returns c = keyword-no-word _ _ _ (ap isLetter (sym (c .before .before .peek .ensures)) ∙ (sym (c .before .is-letter .ensures) ∙ not-true _ (c .if1 .taken)))
@@ -29,10 +29,10 @@ loop-holds : tie.Need-loop-holds Inv-loop μ-loop
 loop-holds c = key-start _ _
 
 peek-requires-2 : tie.Need-peek-requires-2 Inv-loop μ-loop
-peek-requires-2 c κs = search needs
+peek-requires-2 c κs = tt
 
 lower-of-requires : tie.Need-lower-of-requires Inv-loop μ-loop
-lower-of-requires c κs = search needs
+lower-of-requires c κs = tt
 
 shared-slice-read-if2 : tie.Need-shared-slice-read-if2 Inv-loop μ-loop
 shared-slice-read-if2 c = search needs
@@ -41,7 +41,7 @@ returns-2 : tie.Need-returns-2 Inv-loop μ-loop
 returns-2 c = key-differs _ _ _ (ap isLetter (sym (c .before .before .before .before .before .before .before .before .peek .ensures)) ∙ (sym (c .before .before .before .before .before .before .before .is-letter .ensures) ∙ not-false _ (c .before .before .before .before .before .before .if1 .left))) _ (c .before .before .before .before .before .loop .inv) (c .before .before .before .before .loop-test .taken) (λ w e. c .if2 .taken ((c .before .before .lower-of .ensures ∙ ap lower (c .before .before .before .peek2 .ensures)) ∙ e))
 
 is-word-requires : tie.Need-is-word-requires Inv-loop μ-loop
-is-word-requires c κs = search needs
+is-word-requires c κs = tt
 
 returns-3 : tie.Need-returns-3 Inv-loop μ-loop
 returns-3 c = key-differs _ _ _ (ap isLetter (sym (c .before .before .before .before .before .before .before .before .before .before .peek .ensures)) ∙ (sym (c .before .before .before .before .before .before .before .before .before .is-letter .ensures) ∙ not-false _ (c .before .before .before .before .before .before .before .before .if1 .left))) _ (c .before .before .before .before .before .before .before .loop .inv) (c .before .before .before .before .before .before .loop-test .taken) (λ w e. false≢true (sym (ap isWord (sym (c .before .before .before .before .before .peek2 .ensures)) ∙ (sym (c .before .is-word .ensures) ∙ not-true _ (c .if3 .taken))) ∙ w))
@@ -56,10 +56,10 @@ loop-again : tie.Need-loop-again Inv-loop μ-loop
 loop-again c = key-more _ 0 _ (ap isLetter (sym (c .before .before .before .before .before .before .before .before .before .before .peek .ensures)) ∙ (sym (c .before .before .before .before .before .before .before .before .before .is-letter .ensures) ∙ not-false _ (c .before .before .before .before .before .before .before .before .if1 .left))) _ (c .before .before .before .before .before .before .before .loop .inv) (c .before .before .before .before .before .before .loop-test .taken) (sym (c .before .before .before .before .lower-of .ensures ∙ ap lower (c .before .before .before .before .before .peek2 .ensures)) ∙ c .before .before .if2 .left) (ap isWord (sym (c .before .before .before .before .before .peek2 .ensures)) ∙ (sym (c .before .is-word .ensures) ∙ not-false _ (c .if3 .left)))
 
 peek-requires-3 : tie.Need-peek-requires-3 Inv-loop μ-loop
-peek-requires-3 c κs = search needs
+peek-requires-3 c κs = tt
 
 is-word-requires-2 : tie.Need-is-word-requires-2 Inv-loop μ-loop
-is-word-requires-2 c κs = search needs
+is-word-requires-2 c κs = tt
 
 returns-4 : tie.Need-returns-4 Inv-loop μ-loop
 returns-4 c = key-longer _ _ _ (ap isLetter (sym (c .before .before .before .before .before .before .before .peek .ensures)) ∙ (sym (c .before .before .before .before .before .before .is-letter .ensures) ∙ not-false _ (c .before .before .before .before .before .if1 .left))) _ (c .before .before .before .before .loop .inv) (c .before .before .before .loop-test .left) (ap isWord (sym (c .before .before .peek3 .ensures)) ∙ (sym (c .before .is-word2 .ensures) ∙ c .if4 .taken))

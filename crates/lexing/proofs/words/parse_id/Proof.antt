@@ -1,4 +1,3 @@
-use borrow.Author.Needs.{needs}
 use Rattle.lexing.proofs.words.parse_id.Statement.{statement}
 use Rattle.lexing.proofs.words.parse_id.Tie as tie
 use mathlib.Core.Path.{sym, _∙_, ap}
@@ -9,13 +8,13 @@ use Rattle.lexing.proofs.Scans.{run-le}
 use Rattle.lexing.proofs.words.Laws.{parse-id-yes, parse-id-no}
 
 peek-requires : tie.Need-peek-requires
-peek-requires c κs = search needs
+peek-requires c κs = tt
 
 is-letter-requires : tie.Need-is-letter-requires
-is-letter-requires c κs = search needs
+is-letter-requires c κs = tt
 
 word-length-requires : tie.Need-word-length-requires
-word-length-requires c κs = search needs
+word-length-requires c κs = tt
 
 add-t6 : tie.Need-add-t6
 add-t6 c = omega (arith, run-le isWord (now (c .before .before .before .before .before .args .part)))

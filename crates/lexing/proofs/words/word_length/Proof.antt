@@ -21,7 +21,7 @@ shared-slice-read-is-word : tie.Need-shared-slice-read-is-word Inv-loop μ-loop
 shared-slice-read-is-word c = search needs
 
 is-word-requires : tie.Need-is-word-requires Inv-loop μ-loop
-is-word-requires c κs = search needs
+is-word-requires c κs = tt
 
 returns : tie.Need-returns Inv-loop μ-loop
 returns c = runs-stop _ _ _ (c .before .before .before .before .loop .inv) (c .before .before .before .loop-test .taken) (sym (c .before .is-word .ensures) ∙ not-true _ (c .if1 .taken))
