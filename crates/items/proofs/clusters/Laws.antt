@@ -18,7 +18,7 @@ use Rattle.lexing.specs.declared.answers.Lost.{Lost}
 use Rattle.lexing.specs.declared.answers.Lost.the-variants.{Fail, Stop}
 use Rattle.lexing.specs.declared.answers.Step.{Step}
 use Rattle.lexing.specs.declared.answers.Step.the-variants.{Next, Not}
-use Rattle.lexing.proofs.Slicing.{Took, walks, told-next, told-not, blank-took}
+use Rattle.lexing.proofs.Slicing.{Took, walks, told-next, told-not, blank-took, or-here, or-next}
 use Rattle.lexing.proofs.Onward.{Onward}
 use Rattle.lexing.proofs.Locality.{chain-many0}
 use Rattle.lexing.proofs.blanks.Laws.{gap-none, gap-some}
@@ -48,7 +48,7 @@ use Rattle.items.specs.declared.clusters.MemberKind.the-variants.{Revisi
 use Rattle.items.proofs.RecordWords.{word-count-none, each-elementwise}
 use Rattle.items.proofs.counts.Laws.{Counting, counting-start, counting-more, counting-ends, count-took, count-none, read-counted, count-is, count-not, count-lost, count-mapped, count-value}
 use Rattle.items.proofs.Locality.{parse-revision-consumes as revision-consumes, member-tries-inside, parse-cluster-member-inside, parse-cluster-member-consumes}
-use Rattle.items.proofs.Choice.{End, kept, lost, ends, Tries, more, last, keeps, left, Within, Reaches, choice}
+use Rattle.items.proofs.Choice.{or-fail, End, kept, lost, ends, Tries, more, last, keeps, left, Within, Reaches, choice}
 use Rattle.items.proofs.Tries.{bind-ok, bind-fail, then-ok, then-fail, opt-none, opt-some, mapped-fail, revision-elsewhere, choice-elsewhere, struct-elsewhere, attribute-elsewhere, command-elsewhere, event-elsewhere}
 
 -- a keyword is there or fails at its start
@@ -66,17 +66,17 @@ stands k b u = go (keyword k b u) refl
 
 -- one of some keywords
 any-there : (k : List ℕ) (ks : List (List ℕ)) (b : ℕ) (u : List ℕ) (w : Word) (c : ℕ) (r : List ℕ) → keyword k b u ≡ ok w c r → found (any-keyword (k ∷ ks) b u) ≡ true
-unfolding any-keyword _or_
-any-there k ks b u w c r e = rw (e, _or_) refl
+unfolding any-keyword
+any-there k ks b u w c r e = ap found (sym (or-here (keyword k) (any-keyword ks) b u w c r (sym e)))
 
 any-elsewhere : (k : List ℕ) (ks : List (List ℕ)) (b : ℕ) (u : List ℕ) → keyword k b u ≡ fail b → found (any-keyword (k ∷ ks) b u) ≡ found (any-keyword ks b u)
-unfolding any-keyword _or_ further
-any-elsewhere k ks b u e = rw (e, _or_) (go (any-keyword ks b u) refl)
+unfolding any-keyword further
+any-elsewhere k ks b u e = ap found (or-fail (keyword k) (any-keyword ks) e) ∙ go (any-keyword ks b u)
   where
-    go : (x : Reply Word) → any-keyword ks b u ≡ x → found (further b x) ≡ found x
-    go (ok w c r) z = refl
-    go (fail p) z = refl
-    go (stop n p) z = refl
+    go : (x : Reply Word) → found (further b x) ≡ found x
+    go (ok w c r) = refl
+    go (fail p) = refl
+    go (stop n p) = refl
 
 any-none : (k : List ℕ) (b : ℕ) (u : List ℕ) → keyword k b u ≡ fail b → found (any-keyword (k ∷ []) b u) ≡ false
 unfolding any-keyword
@@ -281,8 +281,8 @@ unfolding shared-before ret
 shared-followed b u k g = bind-ok _ _ k ∙ then-ok _ _ g
 
 any-third : (i j k : List ℕ) (b : ℕ) (u : List ℕ) {w : Word} {c : ℕ} {r : List ℕ} → Frees b u (i ∷ j ∷ []) → keyword k b u ≡ ok w c r → any-keyword (i ∷ j ∷ k ∷ []) b u ≡ ok w c r
-unfolding any-keyword _or_ further
-any-third i j k b u f e = rw (f .0, _or_) (rw (f .1 .0, _or_) (rw (e, _or_)))
+unfolding any-keyword
+any-third i j k b u {w} {c} {r} f e = sym (or-next _ _ b u b w c r (sym (f .0)) (or-next _ _ b u b w c r (sym (f .1 .0)) (or-here _ _ b u w c r (sym e))))
 
 -- a struct behind `shared` and blanks
 struct-shared : (b : ℕ) (u : List ℕ) (d : Doc) (m : ℕ) → Frees b u (ascii "request" ∷ ascii "response" ∷ []) → {w : Word} {c c₂ : ℕ} {r r₂ : List ℕ} {e : Doc} → keyword (ascii "shared") b u ≡ ok w c r → whitespace0 c r ≡ ok e c₂ r₂

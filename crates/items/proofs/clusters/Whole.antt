@@ -26,7 +26,7 @@ use Rattle.lexing.proofs.Slicing.{Took, took, walks, told-next, or-here, begin,
 use Rattle.items.specs.entries.{enclosed, where-missing, braces, api-maturity, choice-after-doc-maturity, parse-enum-after-doc-maturity, parse-bitmap-after-doc-maturity}
 use Rattle.items.specs.structs.{parse-struct-after-doc-maturity}
 use Rattle.items.specs.members.{parse-event-after-doc-maturity, parse-command-after-doc-maturity, parse-attribute-after-doc-maturity}
-use Rattle.items.specs.clusters.{Member, revision, bitmap, enum, struct, attribute, command, event, mapped, parse-revision, member-tries, parse-cluster-member, cluster-members, side, cluster-head, cluster-after-doc-maturity}
+use Rattle.items.specs.clusters.{Member, revision, bitmap, enum, struct, attribute, command, event, parse-revision, member-tries, parse-cluster-member, cluster-members, side, cluster-head, cluster-after-doc-maturity}
 use Rattle.items.specs.records.{Record, at, value, each, word-extent, documented, choice-records, struct-records, attribute-records, event-records, member-records, last-revision, cluster-records}
 use Rattle.items.specs.layout.{packed, width, from-top, offset, size, layout-20, record-words, big-endian, words-bytes, further-word, catalogue-words, catalogue-bytes, word-count, text-limit}
 use Rattle.items.specs.buffers.{put}
@@ -42,7 +42,6 @@ use Rattle.items.specs.declared.clusters.Candidate.{Candidate}
 use Rattle.items.specs.declared.clusters.ClusterHeadParts.{ClusterHeadParts}
 use Rattle.items.specs.declared.clusters.MembersWrote.{MembersWrote}
 use Rattle.items.proofs.Answers.{read-took}
-use Rattle.items.proofs.Mapped.{mapped-ok}
 use Rattle.items.proofs.Pairs.{onward-bind}
 use Rattle.items.proofs.Headed.{Headed}
 use Rattle.items.proofs.Choice.{further-ok, ok-further}
@@ -52,7 +51,7 @@ use Rattle.items.proofs.RecordWords.{Elementwise, each-elementwise, wor
 use Rattle.items.proofs.Locality.{braces-chain, api-maturity-local, parse-revision-local, member-tries-inside, parse-cluster-member-inside, parse-cluster-member-consumes, side-local, cluster-head-local}
 use Rattle.items.proofs.WordBetween.{extent-between}
 use Rattle.items.proofs.writing.Laws.{put-nothing, put-next, documented-bytes, no-room, written-took, Writing, writing-start, writing-start-seen, writing-same, writing-fits, writing-more, writing-more-seen}
-use Rattle.items.proofs.endpoints.Placed.{mapped-room}
+use Rattle.items.proofs.Recorded.{Recorded, recorded-at, recorded-room, recorded-written}
 use Rattle.items.proofs.clusters.Laws.{keyword-absent, OtherWord, at-other, member-left, member-tries-on, members-on, parse-member-on}
 
 -- one of two keywords
@@ -108,59 +107,47 @@ cluster-headed = record {
 
 -- The second pass.
 
--- a kind of member that has records: its reader, and the records that are handed out
-pub record Recorded {B : Type 0} (k : MemberKind) (d : Doc) (m : ℕ) (p : Parser B) (f : B → List Record) : Type 0 where
-  pub make : B → Member
-  pub reads : member-try k d m ≡ mapped p make
-  pub hands : (x : B) → unhoisted (make x) ≡ f x
-  pub keeps : (z : ℕ) (x : B) → last-revision z (make x ∷ []) ≡ z
+-- a kind of member that has records: its reader, with the records that are handed out; it is no revision
+pub record Kind {B : Type 0} (k : MemberKind) (d : Doc) (m : ℕ) (p : Parser B) (f : B → List Record) : Type 0 where
+  pub recorded : Recorded unhoisted (member-try k d m) f p
+  pub keeps : (z : ℕ) (x : B) → last-revision z (recorded .make x ∷ []) ≡ z
 
 module _ (d : Doc) (m : ℕ) where
-  pub bitmaps : Recorded Bitmap d m (choice-after-doc-maturity (ascii "bitmap") d m) (choice-records 3 0)
+  pub bitmaps : Kind Bitmap d m (choice-after-doc-maturity (ascii "bitmap") d m) (choice-records 3 0)
   unfolding member-try parse-bitmap-after-doc-maturity member-records last-revision
-  bitmaps = record { make = bitmap; reads = refl; hands = λ x. refl; keeps = λ z x. refl }
+  bitmaps = record { recorded = record { make = bitmap; reads = refl; hands = refl }; keeps = λ z x. refl }
 
-  pub enums : Recorded Enum d m (choice-after-doc-maturity (ascii "enum") d m) (choice-records 2 0)
+  pub enums : Kind Enum d m (choice-after-doc-maturity (ascii "enum") d m) (choice-records 2 0)
   unfolding member-try parse-enum-after-doc-maturity member-records last-revision
-  enums = record { make = enum; reads = refl; hands = λ x. refl; keeps = λ z x. refl }
+  enums = record { recorded = record { make = enum; reads = refl; hands = refl }; keeps = λ z x. refl }
 
-  pub structs : Recorded Struct d m (parse-struct-after-doc-maturity d m) (struct-records 0)
+  pub structs : Kind Struct d m (parse-struct-after-doc-maturity d m) (struct-records 0)
   unfolding member-try member-records last-revision
-  structs = record { make = struct; reads = refl; hands = λ x. refl; keeps = λ z x. refl }
+  structs = record { recorded = record { make = struct; reads = refl; hands = refl }; keeps = λ z x. refl }
 
-  pub attributes : Recorded Attribute d m (parse-attribute-after-doc-maturity d m) attribute-records
+  pub attributes : Kind Attribute d m (parse-attribute-after-doc-maturity d m) attribute-records
   unfolding member-try member-records last-revision
-  attributes = record { make = attribute; reads = refl; hands = λ x. refl; keeps = λ z x. refl }
+  attributes = record { recorded = record { make = attribute; reads = refl; hands = refl }; keeps = λ z x. refl }
 
-  pub commands : Recorded Command d m (parse-command-after-doc-maturity d m) command-records
+  pub commands : Kind Command d m (parse-command-after-doc-maturity d m) command-records
   unfolding member-try member-records last-revision
-  commands = record { make = command; reads = refl; hands = λ x. refl; keeps = λ z x. refl }
+  commands = record { recorded = record { make = command; reads = refl; hands = refl }; keeps = λ z x. refl }
 
-  pub events : Recorded Event d m (parse-event-after-doc-maturity d m) event-records
+  pub events : Kind Event d m (parse-event-after-doc-maturity d m) event-records
   unfolding member-try member-records last-revision
-  events = record { make = event; reads = refl; hands = λ x. refl; keeps = λ z x. refl }
+  events = record { recorded = record { make = event; reads = refl; hands = refl }; keeps = λ z x. refl }
 
-module _ {B : Type 0} {k : MemberKind} {d : Doc} {m : ℕ} {p : Parser B} {f : B → List Record} (i : Recorded k d m p f) {x : MemberKind} (e : x ≡ k) (b : ℕ) (u : List ℕ) where
-  try-is : member-try x d m b u ≡ mapped p (i .make) b u
-  try-is = ap (λ (y : MemberKind). member-try y d m b u) e ∙ ap (λ (q : Parser Member). q b u) (i .reads)
+module _ {B : Type 0} {k : MemberKind} {d : Doc} {m : ℕ} {p : Parser B} {f : B → List Record} (i : Kind k d m p f) {x : MemberKind} (e : x ≡ k) (b : ℕ) (u : List ℕ) where
+  abbrev as-kind : Recorded unhoisted (member-try x d m) f p
+  as-kind = recorded-at (ap (λ (y : MemberKind). member-try y d m) e) (i .recorded)
 
   pub kind-room : {at n : ℕ} → Room unhoisted (member-try x d m) b u at n → Room f p b u at n
-  kind-room {at} {n} room =
-      let whole : Room unhoisted (mapped p (i .make)) b u at n = record { value = room .value; next = room .next; is = room .is ∙ try-is; fits = room .fits } in
-      let s = mapped-room (i .make) {one = unhoisted} whole in
-      record { value = s .value; next = s .next; is = s .is; fits = rw (← i .hands (s .value)) (s .fits) }
+  kind-room room = recorded-room as-kind room
 
   pub kind-written : (z : ℕ) {at : ℕ} {w : Wrote} {r : MembersWrote} {old new : List ℕ} → Written f p b u at w old new → r ≡ record { next = w .next; to = w .to; revision = z } → MemberWritten z (member-try x d m) b u at r old new
+  unfolding recorded-written
   kind-written z {at} {w} {r} {old} {new} h y =
-      let s : MemberWritten z (member-try x d m) b u at (record { next = w .next; to = w .to; revision = z }) old new = record {
-        written = record {
-          value = i .make (h .value);
-          is = mapped-ok (i .make) p b u (h .value) (w .next) (drop (w .next - b) u) refl (h .is) ∙ sym try-is;
-          place = rw (i .hands (h .value)) (h .place);
-          bytes = rw (i .hands (h .value)) (h .bytes);
-        };
-        latest = sym (i .keeps z (h .value));
-      } in
+      let s : MemberWritten z (member-try x d m) b u at (record { next = w .next; to = w .to; revision = z }) old new = record { written = recorded-written as-kind h; latest = sym (i .keeps z (h .value)) } in
       subst (λ (o : MembersWrote). MemberWritten z (member-try x d m) b u at o old new) (sym y) s
 
 -- a revision: no records, and it is the last one now

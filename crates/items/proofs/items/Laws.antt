@@ -42,7 +42,7 @@ use Rattle.items.specs.declared.items.DeclarationStart.{DeclarationStart
 use Rattle.lexing.specs.declared.answers.Lost.the-variants.{Fail, Stop}
 use Rattle.items.proofs.Choice.{End, kept, lost, ends, Tries, more, last, keeps, left, Reaches, choice, Past, past-start, or-fail, or-stop, or-keep, or-same, or-assoc, past-first, past-rest, moving-past, further-ok, ok-further}
 use Rattle.items.proofs.Mapped.{mapped-same, lost-as}
-use Rattle.items.proofs.Recorded.{Recorded, recorded-counts}
+use Rattle.items.proofs.Recorded.{Recorded, recorded-at, recorded-counts}
 use Rattle.items.proofs.Locality.{declaration-local, item-local, mapped-local, cluster-after-doc-maturity-local, endpoint-local, parse-enum-local, parse-bitmap-local, parse-struct-local}
 use Rattle.items.proofs.counts.Laws.{count-took, count-lost, count-is, count-not, count-behind}
 use Rattle.items.proofs.Braces.{rest-is}
@@ -197,7 +197,7 @@ module _ (d : Doc) (m : ℕ) where
   structs = record { make = struct-item; reads = refl; hands = refl }
 
 pub of-kind : (d : Doc) (m : ℕ) {k x : DeclarationKind} {B : Type 0} {f : B → List Record} {p : Parser B} → k ≡ x → Recorded unhoisted-item (declaration-try x d m) f p → Recorded unhoisted-item (declaration-try k d m) f p
-of-kind d m {f = f} {p = p} e i = subst (λ (y : DeclarationKind). Recorded unhoisted-item (declaration-try y d m) f p) (sym e) i
+of-kind d m e i = recorded-at (ap (λ (y : DeclarationKind). declaration-try y d m) e) i
 
 -- The first pass over a declaration of a kind: f is what its reader counts.
 pub kind-counted : {k x : DeclarationKind} {B : Type 0} {f : Front → B → List Record} {p : Front → Parser B} {r : Count} {b : ℕ} {u : List ℕ} → k ≡ x → ((i : Front) → Recorded unhoisted-item (declaration-try x (i .doc) (i .maturity)) (f i) (p i))
