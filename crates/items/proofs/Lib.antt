@@ -5,6 +5,8 @@ pub mod Shift
 pub mod RecordsMoved
 -- locality under appended text
 pub mod Locality
+-- keywords
+pub mod Keywords
 -- which tries a first word leaves
 pub mod Tries
 -- what an answer gives its caller, of a value and of what a function makes of it
