@@ -3,7 +3,7 @@ use mathlib.Core.Path.{_≡_, sym, ap, _∙_, subst}
 use mathlib.Core.List.{List, []}
 use Prim.Native.Nat.{ℕ, _-_}
 use lib.ListN.{drop}
-use Rattle.lexing.specs.reply.{Reply, ok, fail, stop, Parser, _>>_, opt, many0}
+use Rattle.lexing.specs.reply.{ok, Parser, _>>_, opt, many0}
 use Rattle.lexing.specs.words.{Word, word, keyword, tag}
 use Rattle.lexing.specs.blanks.{Doc, whitespace0}
 use Rattle.lexing.specs.answers.{Rest, Answer, got, lost, lostReply, reply, stepAnswer, tagReply, wordAt, wordReply}

@@ -5,6 +5,8 @@ pub mod Shift
 pub mod RecordsMoved
 -- locality under appended text
 pub mod Locality
+-- keywords
+pub mod Keywords
 -- tries one after the other, and which of them a first word leaves
 pub mod Choice
 pub mod Tries

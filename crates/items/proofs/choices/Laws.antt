@@ -1,5 +1,5 @@
 -- Enums and bitmaps.
-use mathlib.Core.Path.{_≡_, refl, sym, ap, _∙_, subst}
+use mathlib.Core.Path.{_≡_, refl, sym, _∙_, subst}
 use mathlib.Core.Bool.{Bool}
 use mathlib.Core.Option.{Option}
 use mathlib.Core.List.{List, [], _∷_, map}
@@ -23,9 +23,8 @@ use Rattle.items.specs.buffers.{put}
 use Rattle.items.specs.answers.{Skips, optionalStep, isThere, wordBetween, Front, first-of, spanWord, docWord, docBit, frontOf}
 use Rattle.items.specs.inner.choices.{choice-first}
 use Rattle.items.specs.declared.writing.FrontParts.{FrontParts}
-use Rattle.items.specs.answers.choices.{choiceHeadAt, choiceHeadAnswer, ChoiceHeadBetween, choiceHeadWithin, ChoiceHeadTo}
+use Rattle.items.specs.answers.choices.{choiceHeadAt, ChoiceHeadBetween, ChoiceHeadTo}
 use Rattle.items.specs.declared.choices.ChoiceHeadParts.{ChoiceHeadParts}
-use Rattle.items.specs.declared.choices.ChoiceHeadRead.{ChoiceHeadRead}
 use Rattle.items.specs.declared.choices.ChoiceHeadRead.the-variants.{ChoiceHead}
 use Rattle.items.proofs.Answers.{read-is}
 use Rattle.items.proofs.Headed.{Headed}

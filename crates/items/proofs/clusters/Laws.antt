@@ -397,10 +397,7 @@ module _ (b : ℕ) (u : List ℕ) (clear : whitespace0 b u ≡ ok no-doc b u) wh
       pub at-shared-struct : Frees c₂ r₂ (ascii "bitmap" ∷ []) → Frees c₂ r₂ (ascii "enum" ∷ []) → KindTo (record { kind = Struct; floor = c₂ }) b u
       at-shared-struct f f' = at-type Struct c₂ h (λ d m z. no-bitmap f d m) (λ d m z. no-enum f' d m) (λ d m z. absurd (true≢false z))
 
--- the code's answers behind `shared`
-pub keyword-absent : (k : List ℕ) (b : ℕ) (u : List ℕ) (a : Step) → wordReply a b u ≡ keyword k b u → (l : Lost) → a ≡ Not l → keyword k b u ≡ fail b
-keyword-absent k b u a h l e = frees-all (k ∷ []) b u (sym (starts-no k b u a h l e)) .0
-
+-- behind `shared`
 module _ (b : ℕ) (u : List ℕ) (clear : whitespace0 b u ≡ ok no-doc b u) (c : ℕ) (k : wordReply (Next c) b u ≡ keyword (ascii "shared") b u) {r : List ℕ} (q : Rest b u c r) (t : Blank) (w : BlankTo t c r) where
   word-is : keyword (ascii "shared") b u ≡ ok (wordAt b u c) c (drop (c - b) u)
   word-is = sym k

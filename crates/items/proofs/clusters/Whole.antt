@@ -42,6 +42,7 @@ use Rattle.items.specs.declared.clusters.Candidate.{Candidate}
 use Rattle.items.specs.declared.clusters.ClusterHeadParts.{ClusterHeadParts}
 use Rattle.items.specs.declared.clusters.MembersWrote.{MembersWrote}
 use Rattle.items.proofs.Answers.{read-took}
+use Rattle.items.proofs.Keywords.{keyword-missing}
 use Rattle.items.proofs.Pairs.{onward-bind}
 use Rattle.items.proofs.Headed.{Headed}
 use Rattle.items.proofs.Choice.{further-ok, ok-further}
@@ -52,7 +53,7 @@ use Rattle.items.proofs.Locality.{braces-chain, api-maturity-local, par
 use Rattle.items.proofs.WordBetween.{extent-between}
 use Rattle.items.proofs.writing.Laws.{put-nothing, put-next, documented-bytes, no-room, written-took, Writing, writing-start, writing-start-seen, writing-same, writing-fits, writing-more, writing-more-seen}
 use Rattle.items.proofs.Recorded.{Recorded, recorded-at, recorded-room, recorded-written}
-use Rattle.items.proofs.clusters.Laws.{keyword-absent, OtherWord, at-other, member-left, member-tries-on, members-on, parse-member-on}
+use Rattle.items.proofs.clusters.Laws.{OtherWord, at-other, member-left, member-tries-on, members-on, parse-member-on}
 
 -- one of two keywords
 module _ (k j : List ℕ) (b : ℕ) (u : List ℕ) where
@@ -68,7 +69,7 @@ module _ (k j : List ℕ) (b : ℕ) (u : List ℕ) where
   either-second {a} a' l h e h' = go (keyword j b u) refl
     where
       f : keyword k b u ≡ fail b
-      f = keyword-absent k b u a h l e
+      f = sym (keyword-missing k b u a h l e)
 
       go : (x : Reply Word) → keyword j b u ≡ x → wordReply a' b u ≡ any-keyword (k ∷ j ∷ []) b u
       go (ok w c r) z = h' ∙ rw (f, z, any-keyword, _or_) refl

@@ -1,15 +1,14 @@
 -- Annotations and entries.
-use mathlib.Core.Path.{_≡_, refl, sym, ap, _∙_, subst}
+use mathlib.Core.Path.{_≡_, refl, sym, ap, _∙_}
 use mathlib.Core.List.{List, [], _∷_, map}
-use Prim.Native.Nat.{ℕ, _+_, _-_, _*_, _≤_, _<_}
+use Prim.Native.Nat.{ℕ, _+_, _-_, _≤_, _<_}
 use native.Mathlib.Omega.{arith}
-use lib.ListN.{length, drop, take, length-drop}
-use lib.Seq.{length-take-le}
-use Rattle.lexing.specs.reply.{Reply, ok, Parser, _>>_, opt, many0}
+use lib.ListN.{length, drop}
+use Rattle.lexing.specs.reply.{ok, Parser, _>>_, opt, many0}
 use Rattle.lexing.specs.words.{Word, word, tag}
 use Rattle.lexing.specs.blanks.{Doc, whitespace0}
 use Rattle.lexing.specs.strings.{span, annotation-escape, quoted-string}
-use Rattle.lexing.specs.answers.{Rest, lostReply, lostOf, reply, stepAnswer, spanTo, stringReply}
+use Rattle.lexing.specs.answers.{Rest, lostReply, lostOf, spanTo, stringReply}
 use Rattle.lexing.specs.declared.answers.Lost.{Lost}
 use Rattle.lexing.specs.declared.answers.Step.{Step}
 use Rattle.lexing.specs.declared.answers.Step.the-variants.{Next, Not}
@@ -17,12 +16,12 @@ use Rattle.lexing.proofs.Onward.{Onward}
 use Rattle.lexing.proofs.Locality.{Consumes, chain-ret, chain-many0, chain-opt, chain-then, consumes-then-right}
 use Rattle.lexing.proofs.TokenLocality.{whitespace0-chain}
 use Rattle.lexing.proofs.Slicing.{Took, took, walks, rest-self, begin, on, told-next, step-lost, string-took}
-use Rattle.items.specs.entries.{Annotation, constant-annotation, blank-annotation, annotations-in-brackets, constant-annotations-list, Entry, constant-entry, blank-entry, constant-entries}
-use Rattle.items.specs.records.{Record, at, value, entry-record, plain, each, word-extent}
+use Rattle.items.specs.entries.{Annotation, constant-annotation, blank-annotation, constant-annotations-list, Entry, constant-entry, blank-entry, constant-entries}
+use Rattle.items.specs.records.{Record, value, entry-record, plain, each}
 use Rattle.items.specs.layout.{packed, width, from-top, offset, size, further-word, word-count, catalogue-words, catalogue-bytes, record-words, words-bytes, big-endian, layout-20}
 use Rattle.items.specs.buffers.{put}
 use Rattle.items.specs.answers.{first-of, Room, Written}
-use Rattle.items.specs.answers.entries.{entryAt, entryAnswer, entryLost, EntryBounds, EntryWithin, EntryTo}
+use Rattle.items.specs.answers.entries.{entryAt, entryLost, EntryBounds, EntryTo}
 use Rattle.items.specs.inner.entries.{entry-end, EndTo, parts-record}
 use Rattle.items.specs.declared.entries.EntryParts.{EntryParts}
 use Rattle.items.specs.declared.entries.EntryRead.{EntryRead}

@@ -6,12 +6,11 @@ use mathlib.Core.List.{List, [], _∷_, map}
 use Prim.Native.Nat.{ℕ, _+_, _-_, _*_, _≤_, _<_}
 use native.Mathlib.Omega.{arith}
 use lib.Dec.{ltb}
-use lib.ListN.{length, drop, take}
+use lib.ListN.{length, drop}
 use borrow.Author.Tests.{lt-ltb, le-ltb}
-use Rattle.lexing.specs.reply.{ok, fail, Parser, ret, _>>_, opt}
-use Rattle.lexing.specs.words.{Word, word, parse-id, keyword}
-use Rattle.lexing.specs.blanks.{Doc}
-use Rattle.lexing.specs.answers.{Answer, got, lost, Rest, lostReply, reply, lostOf, wordAt, wordReply, docOf}
+use Rattle.lexing.specs.reply.{ok, fail, Parser, _>>_, opt}
+use Rattle.lexing.specs.words.{Word, parse-id}
+use Rattle.lexing.specs.answers.{Rest, lostReply, reply, lostOf, wordAt, wordReply, docOf}
 use Rattle.lexing.specs.word_sets.{bit}
 use Rattle.lexing.specs.declared.answers.Lost.{Lost}
 use Rattle.lexing.specs.declared.answers.Lost.the-variants.{Fail, Stop}
@@ -21,14 +20,13 @@ use Rattle.lexing.specs.declared.blanks.DocSpan.{DocSpan}
 use Rattle.lexing.proofs.Onward.{Onward, parse-id-advances}
 use Rattle.lexing.proofs.Locality.{OnChain, chain-opt, chain-inside}
 use Rattle.lexing.proofs.TokenLocality.{parse-id-chain}
-use Rattle.lexing.proofs.Slicing.{Took, took, walks, told-not, rebase, begin, on}
-use Rattle.lexing.proofs.words.Laws.{Says, keyword-says}
+use Rattle.lexing.proofs.Slicing.{Took, took, walks, begin, on}
 use Rattle.items.specs.structs.{struct-fields, StructField as StructFieldOf}
 use Rattle.items.specs.members.{or-else, event-qualities, event-head, parse-event-after-doc-maturity, command-head, CommandTypes as CommandTypesOf, command-types, Command as CommandOf, parse-command-after-doc-maturity}
 use Rattle.items.specs.records.{bits, value, each, word-extent, documented, field-record, command-record, event-records, at, spanned, flag, optional-extent}
 use Rattle.items.specs.layout.{layout-20, record-words, catalogue-words, word-count, packed, width, from-top, offset, size, further-word, big-endian, words-bytes, catalogue-bytes, text-limit}
 use Rattle.items.specs.answers.{optionOf, wordBetween, optionalStep, CountTo, Front, first-of, spanWord, docWord, docBit, frontOf}
-use Rattle.items.specs.answers.members.{command-records, levelAnswer, levelLost, levelSmall, LevelTo, levelOr, SmallEventQualities, EventQualitiesTo, eventHeadAt, eventHeadLost, EventHeadBetween, EventHeadTo, optionalBetween, CommandHeadBetween, commandHeadAnswer, commandHeadWithin, CommandHeadTo, commandTypesAt, commandTypesAnswer, CommandTypesBetween, commandTypesWithin, CommandTypesTo, commandAt, CommandTo, CommandBetween}
+use Rattle.items.specs.answers.members.{command-records, levelAnswer, levelLost, levelSmall, LevelTo, levelOr, SmallEventQualities, EventQualitiesTo, eventHeadAt, eventHeadLost, EventHeadBetween, EventHeadTo, optionalBetween, CommandHeadBetween, CommandHeadTo, commandTypesAt, CommandTypesBetween, CommandTypesTo, commandAt, CommandTo, CommandBetween}
 use Rattle.items.specs.declared.counts.Count.the-variants.{Words}
 use Rattle.items.specs.declared.members.Level.{Level}
 use Rattle.items.specs.declared.members.Level.the-variants.{Chosen, NoLevel}
@@ -40,18 +38,17 @@ use Rattle.items.specs.declared.members.EventHeadRead.{EventHeadRead}
 use Rattle.items.specs.declared.members.EventHeadRead.the-variants.{EventHead, NoEventHead}
 use Rattle.items.specs.declared.members.CommandHeadParts.{CommandHeadParts}
 use Rattle.items.specs.declared.members.CommandHeadRead.{CommandHeadRead}
-use Rattle.items.specs.declared.members.CommandHeadRead.the-variants.{CommandHead, NoCommandHead}
+use Rattle.items.specs.declared.members.CommandHeadRead.the-variants.{CommandHead}
 use Rattle.items.specs.declared.members.CommandTypesParts.{CommandTypesParts}
 use Rattle.items.specs.declared.members.CommandTypesRead.{CommandTypesRead}
-use Rattle.items.specs.declared.members.CommandTypesRead.the-variants.{CommandTypes, NoCommandTypes}
+use Rattle.items.specs.declared.members.CommandTypesRead.the-variants.{CommandTypes}
 use Rattle.items.specs.declared.members.CommandParts.{CommandParts}
 use Rattle.items.specs.declared.members.CommandRead.{CommandRead}
-use Rattle.items.specs.declared.members.CommandRead.the-variants.{Command, NoCommand}
+use Rattle.items.specs.declared.members.CommandRead.the-variants.{Command}
 use Rattle.items.proofs.Answers.{read-within, read-took, read-lost}
 use Rattle.items.proofs.WordBetween.{word-moved, extent-between}
 use Rattle.items.proofs.writing.Laws.{put-next, documented-bytes, documented-put}
 use Rattle.items.proofs.structs.Laws.{present-is}
-use Rattle.items.proofs.maturity.Laws.{fail-then}
 use Rattle.items.proofs.optional.Laws.{opt-ok, opt-fail, opt-stop}
 use Rattle.items.proofs.Locality.{command-types-inside, event-head-inside, parse-command-consumes}
 use Rattle.items.specs.buffers.{put}
@@ -59,17 +56,6 @@ use Rattle.items.specs.inner.members.{event-first, extentIf, command-par
 use Rattle.items.specs.declared.writing.FrontParts.{FrontParts}
 use Rattle.items.proofs.Headed.{Headed}
 use Rattle.items.proofs.counts.Laws.{read-counted}
-
--- a keyword that is not there fails at its start
-keyword-lost : (k : List ℕ) (b : ℕ) (u : List ℕ) (l : Lost) → lostReply l ≡ keyword k b u → fail b ≡ keyword k b u
-keyword-lost k b u (Fail p) e = ap fail (sym (rw (← e) at (keyword-says k b u))) ∙ e
-keyword-lost k b u (Stop n p) e = absurd (rw (← e) at (keyword-says k b u))
-
-pub keyword-not : (k : List ℕ) (b : ℕ) (u : List ℕ) (a : Step) → wordReply a b u ≡ keyword k b u → (l : Lost) → a ≡ Not l → fail b ≡ keyword k b u
-keyword-not k b u a h l e = keyword-lost k b u l (told-not (wordAt b u) a l b u (keyword k b u) e h)
-
-pub keyword-fails : (k : List ℕ) (v b : ℕ) (u : List ℕ) (a : Step) → wordReply a b u ≡ keyword k b u → (l : Lost) → a ≡ Not l → fail b ≡ (keyword k >> ret v) b u
-keyword-fails k v b u a h l e = fail-then k v b u b (keyword-not k b u a h l e)
 
 -- an optional part that is not there
 pub level-or-fail : (r : Level) (z b : ℕ) (l : Lost) (p : ℕ) → r ≡ NoLevel l → l ≡ Fail p → Chosen z b ≡ levelOr r z b

@@ -9,30 +9,30 @@ use lib.Dec.{eqb}
 use lib.ListN.{length, take, drop}
 use Rattle.lexing.specs.bytes.{ascii, within, lower}
 use Rattle.lexing.specs.reply.{ok, fail, stop, Parser, ret, opt, pick, many0}
-use Rattle.lexing.specs.words.{Word, word, bytesOf, isKeyword, isLower, keyword, any-keyword, tag}
+use Rattle.lexing.specs.words.{Word, bytesOf, isKeyword, isLower, keyword, any-keyword, tag}
 use Rattle.lexing.specs.word_sets.{same-bytes, bit}
 use Rattle.lexing.specs.answers.{Rest, lostReply, wordAt, wordReply, numberReply, numberLost}
 use Rattle.lexing.specs.declared.answers.Lost.{Lost}
 use Rattle.lexing.specs.declared.answers.Lost.the-variants.{Fail, Stop}
 use Rattle.lexing.specs.declared.answers.Step.{Step}
-use Rattle.lexing.specs.declared.answers.Step.the-variants.{Next, Not}
+use Rattle.lexing.specs.declared.answers.Step.the-variants.{Next}
 use Rattle.lexing.specs.declared.integers.Number.{Number}
 use Rattle.lexing.specs.declared.integers.Number.the-variants.{Value, NoNumber}
 use Rattle.lexing.proofs.Tests.{false-if}
 use Rattle.lexing.proofs.Locality.{chain-opt, chain-many0}
 use Rattle.lexing.proofs.TokenLocality.{any-keyword-chain}
 use Rattle.lexing.proofs.Onward.{Onward}
-use Rattle.lexing.proofs.Slicing.{Took, took, walks, reads-in, told-next, told-not}
+use Rattle.lexing.proofs.Slicing.{Took, took, walks, reads-in, told-next}
 use Rattle.lexing.proofs.words.Laws.{keyword-says}
 use Rattle.lexing.proofs.word_sets.Laws.{same-eq, like-keyword}
 use Rattle.items.specs.entries.{present}
-use Rattle.items.specs.structs.{StructField as StructFieldOf, max-length, list-marker, parse-field, parse-struct-field, closed-field, fields-run, struct-fields, regular, response-code, struct-kind, struct-type-of, StructHead, struct-head, parse-struct-after-doc-maturity}
+use Rattle.items.specs.structs.{StructField as StructFieldOf, max-length, list-marker, parse-field, parse-struct-field, closed-field, fields-run, struct-fields, regular, response-code, struct-kind, struct-type-of, struct-head, parse-struct-after-doc-maturity}
 use Rattle.items.specs.records.{Record, at, bits, value, spanned, flag, each, word-extent, plain, documented, field-record, struct-number, response-of, struct-records}
 use Rattle.items.specs.layout.{packed, width, from-top, offset, size, layout-20, further-word, record-words, big-endian, words-bytes, catalogue-words, catalogue-bytes, word-count, text-limit}
 use Rattle.items.specs.members.{or-else}
 use Rattle.items.specs.buffers.{put}
 use Rattle.items.specs.answers.{optionOf, wordBetween, Front, Room, Written, first-of, spanWord, docWord, docBit, frontOf}
-use Rattle.items.specs.answers.structs.{fieldAt, fieldAnswer, fieldLost, FieldBetween, fieldWithin, FieldTo, structFieldAt, structFieldAnswer, structFieldLost, StructFieldBetween, structFieldWithin, StructFieldTo, typeOf, headAt, headAnswer, headLost, HeadBetween, headWithin, StructHeadTo}
+use Rattle.items.specs.answers.structs.{fieldAt, fieldLost, FieldBetween, FieldTo, structFieldAt, structFieldLost, StructFieldBetween, StructFieldTo, typeOf, headAt, headLost, HeadBetween, StructHeadTo}
 use Rattle.items.specs.inner.structs.{lengthReply, lengthLost, optionalLength, MarkerTo, kindBy, typeBy, struct-words, StructWordTo, codeReply, field-parts, kindNumber, responseNumber, struct-first}
 use Rattle.items.specs.declared.writing.FrontParts.{FrontParts}
 use Rattle.items.specs.declared.structs.FieldParts.{FieldParts}
@@ -224,15 +224,11 @@ word-is k x t b c u a h e s d r =
     }
 
 -- and none
-pub keyword-missing : (k : List ℕ) (b : ℕ) (u : List ℕ) (a : Step) → wordReply a b u ≡ keyword k b u → (l : Lost) → a ≡ Not l → (p : ℕ) × (fail p ≡ keyword k b u)
-keyword-missing k b u a h (Fail p) e = (p, told-not (wordAt b u) a (Fail p) b u (keyword k b u) e h)
-keyword-missing k b u a h (Stop n p) e = absurd (rw (← told-not (wordAt b u) a (Stop n p) b u (keyword k b u) e h) at (keyword-says k b u))
-
-pub word-none : (b : ℕ) (u : List ℕ) → (p : ℕ) × (fail p ≡ keyword (ascii "request") b u) → (p : ℕ) × (fail p ≡ keyword (ascii "response") b u) → (p : ℕ) × (fail p ≡ keyword (ascii "shared") b u)
+pub word-none : (b : ℕ) (u : List ℕ) → fail b ≡ keyword (ascii "request") b u → fail b ≡ keyword (ascii "response") b u → fail b ≡ keyword (ascii "shared") b u
     → StructWordTo (record { kind = Regular; next = b }) b u
 unfolding any-keyword struct-type-of typeBy
 word-none b u x y z =
-    let e = sym (or-lost _ _ (sym (x .1)) (or-lost _ _ (sym (y .1)) (or-lost _ _ (sym (z .1)) refl))) in
+    let e = sym (or-lost _ _ (sym x) (or-lost _ _ (sym y) (or-lost _ _ (sym z) refl))) in
     let o : b - b ≡ 0 = omega arith in
     record { read = none; reads = rw o (opt-fail (any-keyword struct-words) b u _ e); means = refl; up = omega arith; inside = omega arith }
 

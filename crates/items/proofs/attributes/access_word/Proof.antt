@@ -7,7 +7,7 @@ use Rattle.lexing.specs.words.{any-keyword}
 use Rattle.lexing.specs.answers.{wordAt}
 use Rattle.lexing.proofs.Slicing.{rest-self, keyword-took, told-next, or-here, or-next}
 use Rattle.items.specs.declared.attributes.Operation.the-variants.{Read, Write}
-use Rattle.items.proofs.members.Laws.{keyword-not}
+use Rattle.items.proofs.Keywords.{keyword-missing}
 use Rattle.items.proofs.attributes.Laws.{read-operation, write-operation, operation-is, operation-none}
 
 slice-aggregate-keyword : tie.Need-slice-aggregate-keyword
@@ -49,13 +49,13 @@ operation-by-requires-2 c κs = omega (arith, (keyword-took (rest-self _ _) (c .
 
 returns-2 : tie.Need-returns-2
 unfolding any-keyword
-returns-2 c = operation-is (ascii "write") Write _ _ _ _ _ (c .before .before .before .before .keyword2 .ensures) (c .before .before .write .given .1) write-operation (c .operation-by2 .ensures) (or-next _ _ _ _ _ _ _ _ (keyword-not (ascii "read") _ _ _ (c .before .before .before .before .before .before .before .before .keyword .ensures) _ (c .before .before .before .before .before .before .enum-told .given .1)) (or-here _ _ _ _ _ _ _ (told-next (wordAt _ _) _ _ _ _ _ (c .before .before .write .given .1) (c .before .before .before .before .keyword2 .ensures))))
+returns-2 c = operation-is (ascii "write") Write _ _ _ _ _ (c .before .before .before .before .keyword2 .ensures) (c .before .before .write .given .1) write-operation (c .operation-by2 .ensures) (or-next _ _ _ _ _ _ _ _ (keyword-missing (ascii "read") _ _ _ (c .before .before .before .before .before .before .before .before .keyword .ensures) _ (c .before .before .before .before .before .before .enum-told .given .1)) (or-here _ _ _ _ _ _ _ (told-next (wordAt _ _) _ _ _ _ _ (c .before .before .write .given .1) (c .before .before .before .before .keyword2 .ensures))))
 
 enum-told-2 : tie.Need-enum-told-2
 enum-told-2 c = c .match2 .keys2
 
 returns-3 : tie.Need-returns-3
-returns-3 c = operation-none _ _ (keyword-not (ascii "read") _ _ _ (c .before .before .before .before .before .before .keyword .ensures) _ (c .before .before .before .before .enum-told .given .1)) (keyword-not (ascii "write") _ _ _ (c .before .before .keyword2 .ensures) _ (c .enum-told2 .given .1))
+returns-3 c = operation-none _ _ (keyword-missing (ascii "read") _ _ _ (c .before .before .before .before .before .before .keyword .ensures) _ (c .before .before .before .before .enum-told .given .1)) (keyword-missing (ascii "write") _ _ _ (c .before .before .keyword2 .ensures) _ (c .enum-told2 .given .1))
 
 pub access-word-spec : {M : Type 1} → statement M
 access-word-spec =

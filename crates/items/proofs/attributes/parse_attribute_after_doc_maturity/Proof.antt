@@ -3,7 +3,7 @@ use Rattle.items.proofs.attributes.parse_attribute_after_doc_maturity.S
 use Rattle.items.proofs.attributes.parse_attribute_after_doc_maturity.Tie as tie
 use Rattle.lexing.specs.answers.{docOf}
 use Rattle.items.specs.members.{parse-attribute-after-doc-maturity}
-use Rattle.items.proofs.SetSizes.{fits-4}
+use Rattle.items.proofs.SetSizes.{fits}
 use Rattle.items.proofs.attributes.Laws.{privileges-small, attribute-access-onward}
 use Rattle.items.proofs.structs.Laws.{struct-field-between, between-wider, parse-struct-field-on, struct-field-took, struct-field-none}
 use mathlib.Core.Path.{refl}
@@ -112,7 +112,7 @@ returns-5 c = read-not _ refl tt (begin (parse-attribute-after-doc-maturity (doc
 
 returns-6 : tie.Need-returns-6
 unfolding parse-attribute-after-doc-maturity
-returns-6 c = read-is refl (begin (parse-attribute-after-doc-maturity (docOf (c .before .before .before .before .before .before .before .before .before .before .before .before .before .before .before .before .before .before .before .before .before .before .before .before .before .before .args .doc)) (c .before .before .before .before .before .before .before .before .before .before .before .before .before .before .before .before .before .before .before .before .before .before .before .before .before .before .args .maturity)) _ _ (go _ (set-took (rest-self _ _) (c .before .before .before .before .before .before .before .before .before .before .before .before .before .before .before .before .before .before .before .before .before .before .before .before .keywords-set .ensures)) (pair-on _ _ _ (keyword-behind-took (ascii "attribute") (c .before .before .before .before .before .before .before .before .before .before .before .before .before .before .before .before .before .before .before .before .attribute .given .1) (c .before .before .before .before .before .before .before .before .before .before .before .before .before .before .before .before .before .before .before .before .before .before .keyword-behind .ensures)) (on _ (gap-at-took (c .before .before .before .before .before .before .before .before .before .before .before .before .before .before .before .before .gap .given .1) (c .before .before .before .before .before .before .before .before .before .before .before .before .before .before .before .before .before .before .gap-at .ensures)) (go _ (read-took (c .before .before .before .before .before .before .before .before .before .before .before .before .before .attribute-access .ensures) (c .before .before .before .before .before .before .before .before .before .before .before .access .given .1) attribute-access-onward (c .before .before .before .before .before .before .before .before .before .before .before .before .before .before .rest-at .ensures) refl) (on _ (blank-at-took (c .before .before .before .before .before .before .before .before .before .blank-at .ensures)) (go _ (struct-field-took parse-struct-field-on (c .before .before .before .before .before .before .before .before .rest-at2 .ensures) (c .before .before .before .before .before .before .before .parse-struct-field .ensures) (c .before .before .before .before .before .r .given .1)) (pair-on _ _ _ (tag-behind-took 59 (c .before .semicolon .given .1) (c .before .before .before .tag-behind .ensures)) (done _ _ _ _))))))))) (let w = struct-field-between parse-struct-field-on (c .before .before .before .before .before .before .before .before .rest-at2 .ensures) (c .before .before .before .before .before .before .before .parse-struct-field .ensures) (c .before .before .before .before .before .r .given .1) in record { doc = refl; maturity = refl; between = record { flags = fits-4 (c .before .before .before .before .before .before .before .before .before .before .before .before .before .before .before .before .before .before .before .before .before .before .before .before .keywords-set .ensures); privileges = privileges-small (c .before .before .before .before .before .before .before .before .before .before .before .before .before .attribute-access .ensures) (c .before .before .before .before .before .before .before .before .before .before .before .access .given .1); field = record { between = between-wider (c .before .before .before .before .before .before .before .before .rest-at2 .ensures .from) (omega (arith, (tag-behind-took 59 (c .before .semicolon .given .1) (c .before .before .before .tag-behind .ensures)) .up)) (w .between); few-maturities = w .few-maturities; few-flags = w .few-flags } } })
+returns-6 c = read-is refl (begin (parse-attribute-after-doc-maturity (docOf (c .before .before .before .before .before .before .before .before .before .before .before .before .before .before .before .before .before .before .before .before .before .before .before .before .before .before .args .doc)) (c .before .before .before .before .before .before .before .before .before .before .before .before .before .before .before .before .before .before .before .before .before .before .before .before .before .before .args .maturity)) _ _ (go _ (set-took (rest-self _ _) (c .before .before .before .before .before .before .before .before .before .before .before .before .before .before .before .before .before .before .before .before .before .before .before .before .keywords-set .ensures)) (pair-on _ _ _ (keyword-behind-took (ascii "attribute") (c .before .before .before .before .before .before .before .before .before .before .before .before .before .before .before .before .before .before .before .before .attribute .given .1) (c .before .before .before .before .before .before .before .before .before .before .before .before .before .before .before .before .before .before .before .before .before .before .keyword-behind .ensures)) (on _ (gap-at-took (c .before .before .before .before .before .before .before .before .before .before .before .before .before .before .before .before .gap .given .1) (c .before .before .before .before .before .before .before .before .before .before .before .before .before .before .before .before .before .before .gap-at .ensures)) (go _ (read-took (c .before .before .before .before .before .before .before .before .before .before .before .before .before .attribute-access .ensures) (c .before .before .before .before .before .before .before .before .before .before .before .access .given .1) attribute-access-onward (c .before .before .before .before .before .before .before .before .before .before .before .before .before .before .rest-at .ensures) refl) (on _ (blank-at-took (c .before .before .before .before .before .before .before .before .before .blank-at .ensures)) (go _ (struct-field-took parse-struct-field-on (c .before .before .before .before .before .before .before .before .rest-at2 .ensures) (c .before .before .before .before .before .before .before .parse-struct-field .ensures) (c .before .before .before .before .before .r .given .1)) (pair-on _ _ _ (tag-behind-took 59 (c .before .semicolon .given .1) (c .before .before .before .tag-behind .ensures)) (done _ _ _ _))))))))) (let w = struct-field-between parse-struct-field-on (c .before .before .before .before .before .before .before .before .rest-at2 .ensures) (c .before .before .before .before .before .before .before .parse-struct-field .ensures) (c .before .before .before .before .before .r .given .1) in record { doc = refl; maturity = refl; between = record { flags = fits 4 (c .before .before .before .before .before .before .before .before .before .before .before .before .before .before .before .before .before .before .before .before .before .before .before .before .keywords-set .ensures); privileges = privileges-small (c .before .before .before .before .before .before .before .before .before .before .before .before .before .attribute-access .ensures) (c .before .before .before .before .before .before .before .before .before .before .before .access .given .1); field = record { between = between-wider (c .before .before .before .before .before .before .before .before .rest-at2 .ensures .from) (omega (arith, (tag-behind-took 59 (c .before .semicolon .given .1) (c .before .before .before .tag-behind .ensures)) .up)) (w .between); few-maturities = w .few-maturities; few-flags = w .few-flags } } })
 
 pub parse-attribute-after-doc-maturity-spec : {M : Type 1} → statement M
 parse-attribute-after-doc-maturity-spec = tie.close (tie.spec keywords-set-requires slice-aggregate-keyword-behind keyword-behind-requires enum-known-attribute enum-told step-lost-requires returns gap-at-requires enum-known-gap enum-told-2 step-lost-requires-2 returns-2 rest-at-requires attribute-access-requires enum-known-access enum-told-3 privileges-lost-requires returns-3 blank-at-requires rest-at-requires-2 parse-struct-field-requires enum-known-r enum-told-4 struct-field-lost-requires returns-4 tag-behind-requires enum-known-semicolon enum-told-5 step-lost-requires-3 returns-5 returns-6)

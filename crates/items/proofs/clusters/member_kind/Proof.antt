@@ -2,7 +2,9 @@ use borrow.Author.Needs.{needs}
 use Rattle.items.proofs.clusters.member_kind.Statement.{statement}
 use Rattle.items.proofs.clusters.member_kind.Tie as tie
 use Rattle.lexing.specs.bytes.{ascii}
-use Rattle.items.proofs.clusters.Laws.{keyword-absent, keyword-read}
+use mathlib.Core.Path.{sym}
+use Rattle.items.proofs.Keywords.{keyword-missing}
+use Rattle.items.proofs.clusters.Laws.{keyword-read}
 
 slice-aggregate-keyword : tie.Need-slice-aggregate-keyword
 slice-aggregate-keyword c = search needs
@@ -17,7 +19,7 @@ enum-told : tie.Need-enum-told
 enum-told c = c .match .keys2
 
 word-kind-requires : tie.Need-word-kind-requires
-word-kind-requires c κs = (c .before .before .before .before .before .pre .0, (c .before .before .before .before .before .pre .1, keyword-absent (ascii "shared") _ _ _ (c .before .before .keyword .ensures) _ (c .enum-told .given .1)))
+word-kind-requires c κs = (c .before .before .before .before .before .pre .0, (c .before .before .before .before .before .pre .1, sym (keyword-missing (ascii "shared") _ _ _ (c .before .before .keyword .ensures) _ (c .enum-told .given .1))))
 
 returns : tie.Need-returns
 returns c = c .word-kind .ensures

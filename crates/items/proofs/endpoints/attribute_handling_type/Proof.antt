@@ -5,7 +5,7 @@ use native.Mathlib.Omega.{arith}
 use Rattle.lexing.specs.bytes.{ascii}
 use Rattle.lexing.proofs.Slicing.{or-here}
 use Rattle.items.specs.endpoints.{attribute-handling-type}
-use Rattle.items.proofs.maturity.Laws.{keyword-value, keyword-not}
+use Rattle.items.proofs.Keywords.{keyword-value, keyword-not}
 use mathlib.Core.Path.{refl}
 use Rattle.items.proofs.Answers.{read-is, read-not}
 use Rattle.items.proofs.Choice.{or-past}

@@ -6,7 +6,7 @@ use Rattle.lexing.specs.bytes.{ascii}
 use mathlib.Core.Bool.{true, false}
 use Rattle.lexing.proofs.Slicing.{or-here}
 use Rattle.items.specs.endpoints.{truth, value-tries}
-use Rattle.items.proofs.maturity.Laws.{keyword-value, keyword-not}
+use Rattle.items.proofs.Keywords.{keyword-value, keyword-not}
 use mathlib.Core.Path.{refl}
 use Rattle.items.proofs.Answers.{read-is, read-not}
 use Rattle.items.proofs.Choice.{or-past, or-stop}

@@ -5,7 +5,8 @@ use native.Mathlib.Omega.{arith}
 use Rattle.lexing.specs.bytes.{ascii}
 use Rattle.lexing.proofs.Slicing.{or-here, or-next}
 use Rattle.items.specs.entries.{api-maturity}
-use Rattle.items.proofs.maturity.Laws.{keyword-value, keyword-none, maturity-is, maturity-none, ret-here}
+use Rattle.items.proofs.Keywords.{keyword-value, keyword-not}
+use Rattle.items.proofs.maturity.Laws.{maturity-is, maturity-none, ret-here}
 
 slice-aggregate-keyword : tie.Need-slice-aggregate-keyword
 slice-aggregate-keyword c = search needs
@@ -34,7 +35,7 @@ enum-known-provisional c = c .match2 .keys1
 
 returns-2 : tie.Need-returns-2
 unfolding api-maturity
-returns-2 c = maturity-is 1 _ _ _ (omega arith) (or-next _ _ _ _ _ _ _ _ (keyword-none (ascii "stable") 0 _ _ _ (c .before .before .before .before .before .before .before .keyword .ensures) _ (c .before .before .before .before .before .enum-told .given .1) .1) (or-here _ _ _ _ _ _ _ (keyword-value (ascii "provisional") 1 _ _ _ (c .before .before .before .keyword2 .ensures) _ (c .before .provisional .given .1))))
+returns-2 c = maturity-is 1 _ _ _ (omega arith) (or-next _ _ _ _ _ _ _ _ (keyword-not (ascii "stable") 0 _ _ _ (c .before .before .before .before .before .before .before .keyword .ensures) _ (c .before .before .before .before .before .enum-told .given .1)) (or-here _ _ _ _ _ _ _ (keyword-value (ascii "provisional") 1 _ _ _ (c .before .before .before .keyword2 .ensures) _ (c .before .provisional .given .1))))
 
 enum-told-2 : tie.Need-enum-told-2
 enum-told-2 c = c .match2 .keys2
@@ -50,7 +51,7 @@ enum-known-internal c = c .match3 .keys1
 
 returns-3 : tie.Need-returns-3
 unfolding api-maturity
-returns-3 c = maturity-is 2 _ _ _ (omega arith) (or-next _ _ _ _ _ _ _ _ (keyword-none (ascii "stable") 0 _ _ _ (c .before .before .before .before .before .before .before .before .before .before .before .keyword .ensures) _ (c .before .before .before .before .before .before .before .before .before .enum-told .given .1) .1) (or-next _ _ _ _ _ _ _ _ (keyword-none (ascii "provisional") 1 _ _ _ (c .before .before .before .before .before .before .before .keyword2 .ensures) _ (c .before .before .before .before .before .enum-told2 .given .1) .1) (or-here _ _ _ _ _ _ _ (keyword-value (ascii "internal") 2 _ _ _ (c .before .before .before .keyword3 .ensures) _ (c .before .internal .given .1)))))
+returns-3 c = maturity-is 2 _ _ _ (omega arith) (or-next _ _ _ _ _ _ _ _ (keyword-not (ascii "stable") 0 _ _ _ (c .before .before .before .before .before .before .before .before .before .before .before .keyword .ensures) _ (c .before .before .before .before .before .before .before .before .before .enum-told .given .1)) (or-next _ _ _ _ _ _ _ _ (keyword-not (ascii "provisional") 1 _ _ _ (c .before .before .before .before .before .before .before .keyword2 .ensures) _ (c .before .before .before .before .before .enum-told2 .given .1)) (or-here _ _ _ _ _ _ _ (keyword-value (ascii "internal") 2 _ _ _ (c .before .before .before .keyword3 .ensures) _ (c .before .internal .given .1)))))
 
 enum-told-3 : tie.Need-enum-told-3
 enum-told-3 c = c .match3 .keys2
@@ -66,14 +67,14 @@ enum-known-deprecated c = c .match4 .keys1
 
 returns-4 : tie.Need-returns-4
 unfolding api-maturity
-returns-4 c = maturity-is 3 _ _ _ (omega arith) (or-next _ _ _ _ _ _ _ _ (keyword-none (ascii "stable") 0 _ _ _ (c .before .before .before .before .before .before .before .before .before .before .before .before .before .before .before .keyword .ensures) _ (c .before .before .before .before .before .before .before .before .before .before .before .before .before .enum-told .given .1) .1) (or-next _ _ _ _ _ _ _ _ (keyword-none (ascii "provisional") 1 _ _ _ (c .before .before .before .before .before .before .before .before .before .before .before .keyword2 .ensures) _ (c .before .before .before .before .before .before .before .before .before .enum-told2 .given .1) .1) (or-next _ _ _ _ _ _ _ _ (keyword-none (ascii "internal") 2 _ _ _ (c .before .before .before .before .before .before .before .keyword3 .ensures) _ (c .before .before .before .before .before .enum-told3 .given .1) .1) (or-here _ _ _ _ _ _ _ (keyword-value (ascii "deprecated") 3 _ _ _ (c .before .before .before .keyword4 .ensures) _ (c .before .deprecated .given .1))))))
+returns-4 c = maturity-is 3 _ _ _ (omega arith) (or-next _ _ _ _ _ _ _ _ (keyword-not (ascii "stable") 0 _ _ _ (c .before .before .before .before .before .before .before .before .before .before .before .before .before .before .before .keyword .ensures) _ (c .before .before .before .before .before .before .before .before .before .before .before .before .before .enum-told .given .1)) (or-next _ _ _ _ _ _ _ _ (keyword-not (ascii "provisional") 1 _ _ _ (c .before .before .before .before .before .before .before .before .before .before .before .keyword2 .ensures) _ (c .before .before .before .before .before .before .before .before .before .enum-told2 .given .1)) (or-next _ _ _ _ _ _ _ _ (keyword-not (ascii "internal") 2 _ _ _ (c .before .before .before .before .before .before .before .keyword3 .ensures) _ (c .before .before .before .before .before .enum-told3 .given .1)) (or-here _ _ _ _ _ _ _ (keyword-value (ascii "deprecated") 3 _ _ _ (c .before .before .before .keyword4 .ensures) _ (c .before .deprecated .given .1))))))
 
 enum-told-4 : tie.Need-enum-told-4
 enum-told-4 c = c .match4 .keys2
 
 returns-5 : tie.Need-returns-5
 unfolding api-maturity
-returns-5 c = maturity-none _ _ (or-next _ _ _ _ _ _ _ _ (keyword-none (ascii "stable") 0 _ _ _ (c .before .before .before .before .before .before .before .before .before .before .before .before .before .before .keyword .ensures) _ (c .before .before .before .before .before .before .before .before .before .before .before .before .enum-told .given .1) .1) (or-next _ _ _ _ _ _ _ _ (keyword-none (ascii "provisional") 1 _ _ _ (c .before .before .before .before .before .before .before .before .before .before .keyword2 .ensures) _ (c .before .before .before .before .before .before .before .before .enum-told2 .given .1) .1) (or-next _ _ _ _ _ _ _ _ (keyword-none (ascii "internal") 2 _ _ _ (c .before .before .before .before .before .before .keyword3 .ensures) _ (c .before .before .before .before .enum-told3 .given .1) .1) (or-next _ _ _ _ _ _ _ _ (keyword-none (ascii "deprecated") 3 _ _ _ (c .before .before .keyword4 .ensures) _ (c .enum-told4 .given .1) .1) (ret-here 0 _ _)))))
+returns-5 c = maturity-none _ _ (or-next _ _ _ _ _ _ _ _ (keyword-not (ascii "stable") 0 _ _ _ (c .before .before .before .before .before .before .before .before .before .before .before .before .before .before .keyword .ensures) _ (c .before .before .before .before .before .before .before .before .before .before .before .before .enum-told .given .1)) (or-next _ _ _ _ _ _ _ _ (keyword-not (ascii "provisional") 1 _ _ _ (c .before .before .before .before .before .before .before .before .before .before .keyword2 .ensures) _ (c .before .before .before .before .before .before .before .before .enum-told2 .given .1)) (or-next _ _ _ _ _ _ _ _ (keyword-not (ascii "internal") 2 _ _ _ (c .before .before .before .before .before .before .keyword3 .ensures) _ (c .before .before .before .before .enum-told3 .given .1)) (or-next _ _ _ _ _ _ _ _ (keyword-not (ascii "deprecated") 3 _ _ _ (c .before .before .keyword4 .ensures) _ (c .enum-told4 .given .1)) (ret-here 0 _ _)))))
 
 pub api-maturity-spec : {M : Type 1} → statement M
 api-maturity-spec =

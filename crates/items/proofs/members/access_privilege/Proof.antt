@@ -6,10 +6,9 @@ use Rattle.lexing.specs.bytes.{ascii}
 use Rattle.lexing.specs.declared.answers.Lost.the-variants.{Fail}
 use Rattle.lexing.proofs.Slicing.{or-here, or-next}
 use Rattle.items.specs.members.{access-privilege}
-use Rattle.items.proofs.maturity.Laws.{keyword-value}
+use Rattle.items.proofs.Keywords.{keyword-value, keyword-not}
 use mathlib.Core.Path.{refl}
 use Rattle.items.proofs.Answers.{read-is, read-not}
-use Rattle.items.proofs.members.Laws.{keyword-fails}
 use Rattle.items.proofs.Choice.{or-past}
 
 slice-aggregate-keyword : tie.Need-slice-aggregate-keyword
@@ -39,7 +38,7 @@ enum-known-operate c = c .match2 .keys1
 
 returns-2 : tie.Need-returns-2
 unfolding access-privilege
-returns-2 c = read-is refl (or-next _ _ _ _ _ _ _ _ (keyword-fails (ascii "view") 0 _ _ _ (c .before .before .before .before .before .before .before .keyword .ensures) _ (c .before .before .before .before .before .enum-told .given .1)) (or-here _ _ _ _ _ _ _ (keyword-value (ascii "operate") 1 _ _ _ (c .before .before .before .keyword2 .ensures) _ (c .before .operate .given .1)))) (omega arith)
+returns-2 c = read-is refl (or-next _ _ _ _ _ _ _ _ (keyword-not (ascii "view") 0 _ _ _ (c .before .before .before .before .before .before .before .keyword .ensures) _ (c .before .before .before .before .before .enum-told .given .1)) (or-here _ _ _ _ _ _ _ (keyword-value (ascii "operate") 1 _ _ _ (c .before .before .before .keyword2 .ensures) _ (c .before .operate .given .1)))) (omega arith)
 
 enum-told-2 : tie.Need-enum-told-2
 enum-told-2 c = c .match2 .keys2
@@ -55,7 +54,7 @@ enum-known-manage c = c .match3 .keys1
 
 returns-3 : tie.Need-returns-3
 unfolding access-privilege
-returns-3 c = read-is refl (or-next _ _ _ _ _ _ _ _ (keyword-fails (ascii "view") 0 _ _ _ (c .before .before .before .before .before .before .before .before .before .before .before .keyword .ensures) _ (c .before .before .before .before .before .before .before .before .before .enum-told .given .1)) (or-next _ _ _ _ _ _ _ _ (keyword-fails (ascii "operate") 1 _ _ _ (c .before .before .before .before .before .before .before .keyword2 .ensures) _ (c .before .before .before .before .before .enum-told2 .given .1)) (or-here _ _ _ _ _ _ _ (keyword-value (ascii "manage") 2 _ _ _ (c .before .before .before .keyword3 .ensures) _ (c .before .manage .given .1))))) (omega arith)
+returns-3 c = read-is refl (or-next _ _ _ _ _ _ _ _ (keyword-not (ascii "view") 0 _ _ _ (c .before .before .before .before .before .before .before .before .before .before .before .keyword .ensures) _ (c .before .before .before .before .before .before .before .before .before .enum-told .given .1)) (or-next _ _ _ _ _ _ _ _ (keyword-not (ascii "operate") 1 _ _ _ (c .before .before .before .before .before .before .before .keyword2 .ensures) _ (c .before .before .before .before .before .enum-told2 .given .1)) (or-here _ _ _ _ _ _ _ (keyword-value (ascii "manage") 2 _ _ _ (c .before .before .before .keyword3 .ensures) _ (c .before .manage .given .1))))) (omega arith)
 
 enum-told-3 : tie.Need-enum-told-3
 enum-told-3 c = c .match3 .keys2
@@ -71,14 +70,14 @@ enum-known-administer c = c .match4 .keys1
 
 returns-4 : tie.Need-returns-4
 unfolding access-privilege
-returns-4 c = read-is refl (or-next _ _ _ _ _ _ _ _ (keyword-fails (ascii "view") 0 _ _ _ (c .before .before .before .before .before .before .before .before .before .before .before .before .before .before .before .keyword .ensures) _ (c .before .before .before .before .before .before .before .before .before .before .before .before .before .enum-told .given .1)) (or-next _ _ _ _ _ _ _ _ (keyword-fails (ascii "operate") 1 _ _ _ (c .before .before .before .before .before .before .before .before .before .before .before .keyword2 .ensures) _ (c .before .before .before .before .before .before .before .before .before .enum-told2 .given .1)) (or-next _ _ _ _ _ _ _ _ (keyword-fails (ascii "manage") 2 _ _ _ (c .before .before .before .before .before .before .before .keyword3 .ensures) _ (c .before .before .before .before .before .enum-told3 .given .1)) (keyword-value (ascii "administer") 3 _ _ _ (c .before .before .before .keyword4 .ensures) _ (c .before .administer .given .1))))) (omega arith)
+returns-4 c = read-is refl (or-next _ _ _ _ _ _ _ _ (keyword-not (ascii "view") 0 _ _ _ (c .before .before .before .before .before .before .before .before .before .before .before .before .before .before .before .keyword .ensures) _ (c .before .before .before .before .before .before .before .before .before .before .before .before .before .enum-told .given .1)) (or-next _ _ _ _ _ _ _ _ (keyword-not (ascii "operate") 1 _ _ _ (c .before .before .before .before .before .before .before .before .before .before .before .keyword2 .ensures) _ (c .before .before .before .before .before .before .before .before .before .enum-told2 .given .1)) (or-next _ _ _ _ _ _ _ _ (keyword-not (ascii "manage") 2 _ _ _ (c .before .before .before .before .before .before .before .keyword3 .ensures) _ (c .before .before .before .before .before .enum-told3 .given .1)) (keyword-value (ascii "administer") 3 _ _ _ (c .before .before .before .keyword4 .ensures) _ (c .before .administer .given .1))))) (omega arith)
 
 enum-told-4 : tie.Need-enum-told-4
 enum-told-4 c = c .match4 .keys2
 
 returns-5 : tie.Need-returns-5
 unfolding access-privilege
-returns-5 c = read-not (Fail (c .before .before .before .before .before .before .before .before .before .before .before .before .before .before .before .before .before .args .base)) refl tt (or-past _ _ _ _ _ (keyword-fails (ascii "view") 0 _ _ _ (c .before .before .before .before .before .before .before .before .before .before .before .before .before .before .keyword .ensures) _ (c .before .before .before .before .before .before .before .before .before .before .before .before .enum-told .given .1)) (omega arith) (or-past _ _ _ _ _ (keyword-fails (ascii "operate") 1 _ _ _ (c .before .before .before .before .before .before .before .before .before .before .keyword2 .ensures) _ (c .before .before .before .before .before .before .before .before .enum-told2 .given .1)) (omega arith) (or-past _ _ _ _ _ (keyword-fails (ascii "manage") 2 _ _ _ (c .before .before .before .before .before .before .keyword3 .ensures) _ (c .before .before .before .before .enum-told3 .given .1)) (omega arith) (keyword-fails (ascii "administer") 3 _ _ _ (c .before .before .keyword4 .ensures) _ (c .enum-told4 .given .1)))))
+returns-5 c = read-not (Fail (c .before .before .before .before .before .before .before .before .before .before .before .before .before .before .before .before .before .args .base)) refl tt (or-past _ _ _ _ _ (keyword-not (ascii "view") 0 _ _ _ (c .before .before .before .before .before .before .before .before .before .before .before .before .before .before .keyword .ensures) _ (c .before .before .before .before .before .before .before .before .before .before .before .before .enum-told .given .1)) (omega arith) (or-past _ _ _ _ _ (keyword-not (ascii "operate") 1 _ _ _ (c .before .before .before .before .before .before .before .before .before .before .keyword2 .ensures) _ (c .before .before .before .before .before .before .before .before .enum-told2 .given .1)) (omega arith) (or-past _ _ _ _ _ (keyword-not (ascii "manage") 2 _ _ _ (c .before .before .before .before .before .before .keyword3 .ensures) _ (c .before .before .before .before .enum-told3 .given .1)) (omega arith) (keyword-not (ascii "administer") 3 _ _ _ (c .before .before .keyword4 .ensures) _ (c .enum-told4 .given .1)))))
 
 pub access-privilege-spec : {M : Type 1} → statement M
 access-privilege-spec =

@@ -2,7 +2,7 @@ use borrow.Author.Needs.{needs}
 use Rattle.items.proofs.members.command_head.Statement.{statement}
 use Rattle.items.proofs.members.command_head.Tie as tie
 use Rattle.items.specs.members.{command-head}
-use Rattle.items.proofs.SetSizes.{fits-3}
+use Rattle.items.proofs.SetSizes.{fits}
 use Rattle.items.proofs.members.Laws.{command-head-is, level-or-took, level-or-lost}
 use mathlib.Core.Path.{refl}
 use native.Mathlib.Omega.{arith}
@@ -84,7 +84,7 @@ returns-3 c = read-not _ refl tt (begin (command-head) _ _ (go _ (set-took (rest
 
 returns-4 : tie.Need-returns-4
 unfolding command-head
-returns-4 c = command-head-is _ 1 _ ((level-or-took 1 (c .before .before .before .before .before .before .before .before .before .before .invoke-access .ensures) (c .before .before .before .before .before .before .before .before .before .level-or .ensures) (chain-then whitespace0-chain (chain-inside (access-to-inside (ascii "invoke")))) (omega arith) (c .before .before .before .before .before .before .before .before .before .before .before .rest-at .ensures) (c .before .before .before .before .before .before .before .access .given .1)) .granted) _ _ _ _ (fits-3 (c .before .before .before .before .before .before .before .before .before .before .before .before .before .before .before .before .before .keywords-set .ensures)) ((level-or-took 1 (c .before .before .before .before .before .before .before .before .before .before .invoke-access .ensures) (c .before .before .before .before .before .before .before .before .before .level-or .ensures) (chain-then whitespace0-chain (chain-inside (access-to-inside (ascii "invoke")))) (omega arith) (c .before .before .before .before .before .before .before .before .before .before .before .rest-at .ensures) (c .before .before .before .before .before .before .before .access .given .1)) .small) (omega (arith, (blank-at-took (c .before .before .before .before .before .blank-at .ensures)) .up, c .before .before .before .before .before .blank-at .ensures .at .from)) (omega (arith, (word-took (c .before .before .before .before .rest-at2 .ensures) (c .before .id .given .1) (c .before .before .before .parse-id .ensures)) .up)) ((level-or-took 1 (c .before .before .before .before .before .before .before .before .before .before .invoke-access .ensures) (c .before .before .before .before .before .before .before .before .before .level-or .ensures) (chain-then whitespace0-chain (chain-inside (access-to-inside (ascii "invoke")))) (omega arith) (c .before .before .before .before .before .before .before .before .before .before .before .rest-at .ensures) (c .before .before .before .before .before .before .before .access .given .1)) .is) (begin (command-head) _ _ (go _ (set-took (rest-self _ _) (c .before .before .before .before .before .before .before .before .before .before .before .before .before .before .before .before .before .keywords-set .ensures)) (pair-on _ _ _ (keyword-behind-took (ascii "command") (c .before .before .before .before .before .before .before .before .before .before .before .before .before .command .given .1) (c .before .before .before .before .before .before .before .before .before .before .before .before .before .before .before .keyword-behind .ensures)) (go _ ((level-or-took 1 (c .before .before .before .before .before .before .before .before .before .before .invoke-access .ensures) (c .before .before .before .before .before .before .before .before .before .level-or .ensures) (chain-then whitespace0-chain (chain-inside (access-to-inside (ascii "invoke")))) (omega arith) (c .before .before .before .before .before .before .before .before .before .before .before .rest-at .ensures) (c .before .before .before .before .before .before .before .access .given .1)) .step) (on _ (blank-at-took (c .before .before .before .before .before .blank-at .ensures)) (go _ (word-took (c .before .before .before .before .rest-at2 .ensures) (c .before .id .given .1) (c .before .before .before .parse-id .ensures)) (done _ _ _ _)))))))
+returns-4 c = command-head-is _ 1 _ ((level-or-took 1 (c .before .before .before .before .before .before .before .before .before .before .invoke-access .ensures) (c .before .before .before .before .before .before .before .before .before .level-or .ensures) (chain-then whitespace0-chain (chain-inside (access-to-inside (ascii "invoke")))) (omega arith) (c .before .before .before .before .before .before .before .before .before .before .before .rest-at .ensures) (c .before .before .before .before .before .before .before .access .given .1)) .granted) _ _ _ _ (fits 3 (c .before .before .before .before .before .before .before .before .before .before .before .before .before .before .before .before .before .keywords-set .ensures)) ((level-or-took 1 (c .before .before .before .before .before .before .before .before .before .before .invoke-access .ensures) (c .before .before .before .before .before .before .before .before .before .level-or .ensures) (chain-then whitespace0-chain (chain-inside (access-to-inside (ascii "invoke")))) (omega arith) (c .before .before .before .before .before .before .before .before .before .before .before .rest-at .ensures) (c .before .before .before .before .before .before .before .access .given .1)) .small) (omega (arith, (blank-at-took (c .before .before .before .before .before .blank-at .ensures)) .up, c .before .before .before .before .before .blank-at .ensures .at .from)) (omega (arith, (word-took (c .before .before .before .before .rest-at2 .ensures) (c .before .id .given .1) (c .before .before .before .parse-id .ensures)) .up)) ((level-or-took 1 (c .before .before .before .before .before .before .before .before .before .before .invoke-access .ensures) (c .before .before .before .before .before .before .before .before .before .level-or .ensures) (chain-then whitespace0-chain (chain-inside (access-to-inside (ascii "invoke")))) (omega arith) (c .before .before .before .before .before .before .before .before .before .before .before .rest-at .ensures) (c .before .before .before .before .before .before .before .access .given .1)) .is) (begin (command-head) _ _ (go _ (set-took (rest-self _ _) (c .before .before .before .before .before .before .before .before .before .before .before .before .before .before .before .before .before .keywords-set .ensures)) (pair-on _ _ _ (keyword-behind-took (ascii "command") (c .before .before .before .before .before .before .before .before .before .before .before .before .before .command .given .1) (c .before .before .before .before .before .before .before .before .before .before .before .before .before .before .before .keyword-behind .ensures)) (go _ ((level-or-took 1 (c .before .before .before .before .before .before .before .before .before .before .invoke-access .ensures) (c .before .before .before .before .before .before .before .before .before .level-or .ensures) (chain-then whitespace0-chain (chain-inside (access-to-inside (ascii "invoke")))) (omega arith) (c .before .before .before .before .before .before .before .before .before .before .before .rest-at .ensures) (c .before .before .before .before .before .before .before .access .given .1)) .step) (on _ (blank-at-took (c .before .before .before .before .before .blank-at .ensures)) (go _ (word-took (c .before .before .before .before .rest-at2 .ensures) (c .before .id .given .1) (c .before .before .before .parse-id .ensures)) (done _ _ _ _)))))))
 
 pub command-head-spec : {M : Type 1} → statement M
 command-head-spec = tie.close (tie.spec keywords-set-requires slice-aggregate-keyword-behind keyword-behind-requires enum-known-command enum-told step-lost-requires returns rest-at-requires invoke-access-requires level-or-requires enum-known-access enum-told-2 level-lost-requires returns-2 blank-at-requires rest-at-requires-2 parse-id-requires enum-known-id enum-told-3 step-lost-requires-2 returns-3 returns-4)

@@ -2,7 +2,7 @@ use borrow.Author.Needs.{needs}
 use Rattle.items.proofs.members.event_qualities.Statement.{statement}
 use Rattle.items.proofs.members.event_qualities.Tie as tie
 use Rattle.items.specs.members.{event-qualities}
-use Rattle.items.proofs.SetSizes.{fits-2}
+use Rattle.items.proofs.SetSizes.{fits}
 use Rattle.items.proofs.members.Laws.{level-small, event-qualities-is, level-took, level-lost, level-or-took, level-or-lost}
 use mathlib.Core.Path.{refl}
 use native.Mathlib.Omega.{arith}
@@ -120,7 +120,7 @@ returns-5 c = read-not _ refl tt (begin (event-qualities) _ _ (go _ (set-took (r
 
 returns-6 : tie.Need-returns-6
 unfolding event-qualities
-returns-6 c = event-qualities-is _ _ 0 _ ((level-or-took 0 (c .before .before .before .before .access-to .ensures) (c .before .before .before .level-or .ensures) (chain-inside (access-to-inside (ascii "read"))) (omega arith) (c .before .before .before .before .before .before .rest-at3 .ensures) (c .before .access .given .1)) .granted) _ _ _ (fits-2 (c .before .before .before .before .before .before .before .before .before .before .before .before .before .before .before .before .before .before .before .before .before .before .before .before .before .before .before .keywords-set .ensures)) (level-small (c .before .before .before .before .before .before .before .before .before .before .before .before .before .before .before .before .before .before .before .before .before .before .before .before .event-priority .ensures) (c .before .before .before .before .before .before .before .before .before .before .before .before .before .before .before .before .before .before .before .before .before .before .priority .given .1)) ((level-or-took 0 (c .before .before .before .before .access-to .ensures) (c .before .before .before .level-or .ensures) (chain-inside (access-to-inside (ascii "read"))) (omega arith) (c .before .before .before .before .before .before .rest-at3 .ensures) (c .before .access .given .1)) .small) ((level-or-took 0 (c .before .before .before .before .access-to .ensures) (c .before .before .before .level-or .ensures) (chain-inside (access-to-inside (ascii "read"))) (omega arith) (c .before .before .before .before .before .before .rest-at3 .ensures) (c .before .access .given .1)) .is) (begin (event-qualities) _ _ (go _ (set-took (rest-self _ _) (c .before .before .before .before .before .before .before .before .before .before .before .before .before .before .before .before .before .before .before .before .before .before .before .before .before .before .before .keywords-set .ensures)) (on _ (blank-at-took (c .before .before .before .before .before .before .before .before .before .before .before .before .before .before .before .before .before .before .before .before .before .before .before .before .before .before .blank-at .ensures)) (go _ (level-took (c .before .before .before .before .before .before .before .before .before .before .before .before .before .before .before .before .before .before .before .before .before .before .before .before .event-priority .ensures) (walks (event-priority-local .on-chain)) (c .before .before .before .before .before .before .before .before .before .before .before .before .before .before .before .before .before .before .before .before .before .before .before .before .before .rest-at .ensures) (c .before .before .before .before .before .before .before .before .before .before .before .before .before .before .before .before .before .before .before .before .before .before .priority .given .1)) (on _ (gap-at-took (c .before .before .before .before .before .before .before .before .before .before .before .before .before .before .before .before .before .before .gap1 .given .1) (c .before .before .before .before .before .before .before .before .before .before .before .before .before .before .before .before .before .before .before .before .gap-at .ensures)) (on _ (keyword-took (c .before .before .before .before .before .before .before .before .before .before .before .before .before .before .before .before .rest-at2 .ensures) (c .before .before .before .before .before .before .before .before .before .before .before .before .event .given .1) (ascii "event") (c .before .before .before .before .before .before .before .before .before .before .before .before .before .before .keyword .ensures)) (on _ (gap-at-took (c .before .before .before .before .before .before .before .before .gap2 .given .1) (c .before .before .before .before .before .before .before .before .before .before .gap-at2 .ensures)) (go _ ((level-or-took 0 (c .before .before .before .before .access-to .ensures) (c .before .before .before .level-or .ensures) (chain-inside (access-to-inside (ascii "read"))) (omega arith) (c .before .before .before .before .before .before .rest-at3 .ensures) (c .before .access .given .1)) .step) (done _ _ _ _)))))))))
+returns-6 c = event-qualities-is _ _ 0 _ ((level-or-took 0 (c .before .before .before .before .access-to .ensures) (c .before .before .before .level-or .ensures) (chain-inside (access-to-inside (ascii "read"))) (omega arith) (c .before .before .before .before .before .before .rest-at3 .ensures) (c .before .access .given .1)) .granted) _ _ _ (fits 2 (c .before .before .before .before .before .before .before .before .before .before .before .before .before .before .before .before .before .before .before .before .before .before .before .before .before .before .before .keywords-set .ensures)) (level-small (c .before .before .before .before .before .before .before .before .before .before .before .before .before .before .before .before .before .before .before .before .before .before .before .before .event-priority .ensures) (c .before .before .before .before .before .before .before .before .before .before .before .before .before .before .before .before .before .before .before .before .before .before .priority .given .1)) ((level-or-took 0 (c .before .before .before .before .access-to .ensures) (c .before .before .before .level-or .ensures) (chain-inside (access-to-inside (ascii "read"))) (omega arith) (c .before .before .before .before .before .before .rest-at3 .ensures) (c .before .access .given .1)) .small) ((level-or-took 0 (c .before .before .before .before .access-to .ensures) (c .before .before .before .level-or .ensures) (chain-inside (access-to-inside (ascii "read"))) (omega arith) (c .before .before .before .before .before .before .rest-at3 .ensures) (c .before .access .given .1)) .is) (begin (event-qualities) _ _ (go _ (set-took (rest-self _ _) (c .before .before .before .before .before .before .before .before .before .before .before .before .before .before .before .before .before .before .before .before .before .before .before .before .before .before .before .keywords-set .ensures)) (on _ (blank-at-took (c .before .before .before .before .before .before .before .before .before .before .before .before .before .before .before .before .before .before .before .before .before .before .before .before .before .before .blank-at .ensures)) (go _ (level-took (c .before .before .before .before .before .before .before .before .before .before .before .before .before .before .before .before .before .before .before .before .before .before .before .before .event-priority .ensures) (walks (event-priority-local .on-chain)) (c .before .before .before .before .before .before .before .before .before .before .before .before .before .before .before .before .before .before .before .before .before .before .before .before .before .rest-at .ensures) (c .before .before .before .before .before .before .before .before .before .before .before .before .before .before .before .before .before .before .before .before .before .before .priority .given .1)) (on _ (gap-at-took (c .before .before .before .before .before .before .before .before .before .before .before .before .before .before .before .before .before .before .gap1 .given .1) (c .before .before .before .before .before .before .before .before .before .before .before .before .before .before .before .before .before .before .before .before .gap-at .ensures)) (on _ (keyword-took (c .before .before .before .before .before .before .before .before .before .before .before .before .before .before .before .before .rest-at2 .ensures) (c .before .before .before .before .before .before .before .before .before .before .before .before .event .given .1) (ascii "event") (c .before .before .before .before .before .before .before .before .before .before .before .before .before .before .keyword .ensures)) (on _ (gap-at-took (c .before .before .before .before .before .before .before .before .gap2 .given .1) (c .before .before .before .before .before .before .before .before .before .before .gap-at2 .ensures)) (go _ ((level-or-took 0 (c .before .before .before .before .access-to .ensures) (c .before .before .before .level-or .ensures) (chain-inside (access-to-inside (ascii "read"))) (omega arith) (c .before .before .before .before .before .before .rest-at3 .ensures) (c .before .access .given .1)) .step) (done _ _ _ _)))))))))
 
 pub event-qualities-spec : {M : Type 1} → statement M
 event-qualities-spec = tie.close (tie.spec keywords-set-requires blank-at-requires rest-at-requires event-priority-requires enum-known-priority enum-told level-lost-requires returns gap-at-requires enum-known-gap1 enum-told-2 step-lost-requires returns-2 rest-at-requires-2 slice-aggregate-keyword keyword-requires enum-known-event enum-told-3 step-lost-requires-2 returns-3 gap-at-requires-2 enum-known-gap2 enum-told-4 step-lost-requires-3 returns-4 rest-at-requires-3 slice-aggregate-access-to access-to-requires level-or-requires enum-known-access enum-told-5 level-lost-requires-2 returns-5 returns-6)

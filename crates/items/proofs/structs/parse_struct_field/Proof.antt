@@ -1,7 +1,7 @@
 use Rattle.items.proofs.structs.parse_struct_field.Statement.{statement}
 use Rattle.items.proofs.structs.parse_struct_field.Tie as tie
 use Rattle.items.specs.structs.{parse-struct-field}
-use Rattle.items.proofs.SetSizes.{fits-0}
+use Rattle.items.proofs.SetSizes.{fits}
 use Rattle.items.proofs.structs.Laws.{field-between, between-wider, field-took, field-none}
 use mathlib.Core.Path.{refl}
 use native.Mathlib.Omega.{arith}
@@ -49,7 +49,7 @@ returns c = read-not _ refl tt (begin (parse-struct-field) _ _ (on _ (blank-at-t
 
 returns-2 : tie.Need-returns-2
 unfolding parse-struct-field
-returns-2 c = read-is refl (begin (parse-struct-field) _ _ (on _ (blank-at-took (c .before .before .before .before .before .before .before .before .before .before .blank-at .ensures)) (go _ (maturity-took (c .before .before .before .before .before .before .before .before .before .rest-at .ensures) (c .before .before .before .before .before .before .before .before .api-maturity .ensures)) (on _ (blank-at-took (c .before .before .before .before .before .before .before .blank-at2 .ensures)) (go _ (set-took (c .before .before .before .before .before .before .rest-at2 .ensures) (c .before .before .before .before .before .keywords-set .ensures)) (go _ (field-took (c .before .before .before .before .rest-at3 .ensures) (c .before .before .before .parse-field .ensures) (c .before .r .given .1)) (done _ _ _ _))))))) (record { between = between-wider (c .before .before .before .before .rest-at3 .ensures .from) (omega arith) (field-between (c .before .before .before .before .rest-at3 .ensures) (c .before .before .before .parse-field .ensures) (c .before .r .given .1)); few-maturities = c .before .before .before .before .before .before .before .before .api-maturity .ensures .small; few-flags = fits-0 (c .before .before .before .before .before .keywords-set .ensures) })
+returns-2 c = read-is refl (begin (parse-struct-field) _ _ (on _ (blank-at-took (c .before .before .before .before .before .before .before .before .before .before .blank-at .ensures)) (go _ (maturity-took (c .before .before .before .before .before .before .before .before .before .rest-at .ensures) (c .before .before .before .before .before .before .before .before .api-maturity .ensures)) (on _ (blank-at-took (c .before .before .before .before .before .before .before .blank-at2 .ensures)) (go _ (set-took (c .before .before .before .before .before .before .rest-at2 .ensures) (c .before .before .before .before .before .keywords-set .ensures)) (go _ (field-took (c .before .before .before .before .rest-at3 .ensures) (c .before .before .before .parse-field .ensures) (c .before .r .given .1)) (done _ _ _ _))))))) (record { between = between-wider (c .before .before .before .before .rest-at3 .ensures .from) (omega arith) (field-between (c .before .before .before .before .rest-at3 .ensures) (c .before .before .before .parse-field .ensures) (c .before .r .given .1)); few-maturities = c .before .before .before .before .before .before .before .before .api-maturity .ensures .small; few-flags = fits 0 (c .before .before .before .before .before .keywords-set .ensures) })
 
 pub parse-struct-field-spec : {M : Type 1} → statement M
 parse-struct-field-spec = tie.close (tie.spec blank-at-requires rest-at-requires api-maturity-requires blank-at-requires-2 rest-at-requires-2 keywords-set-requires rest-at-requires-3 parse-field-requires enum-known-r enum-told field-lost-requires returns returns-2)

@@ -2,7 +2,7 @@ use borrow.Author.Needs.{needs}
 use Rattle.items.proofs.structs.struct_head.Statement.{statement}
 use Rattle.items.proofs.structs.struct_head.Tie as tie
 use Rattle.items.specs.structs.{struct-head}
-use Rattle.items.proofs.SetSizes.{fits-1}
+use Rattle.items.proofs.SetSizes.{fits}
 use mathlib.Core.Path.{refl}
 use native.Mathlib.Omega.{arith}
 use Rattle.lexing.specs.bytes.{ascii}
@@ -103,7 +103,7 @@ returns-4 c = read-not _ refl tt (begin (struct-head) _ _ (go _ (struct-word-too
 
 returns-5 : tie.Need-returns-5
 unfolding struct-head
-returns-5 c = read-is refl (begin (struct-head) _ _ (go _ (struct-word-took (rest-self _ _) (c .before .before .before .before .before .before .before .before .before .before .before .before .before .before .before .before .before .before .before .before .before .before .before .struct-word .ensures)) (on _ (blank-at-took (c .before .before .before .before .before .before .before .before .before .before .before .before .before .before .before .before .before .before .before .before .before .before .blank-at .ensures)) (go _ (set-took (c .before .before .before .before .before .before .before .before .before .before .before .before .before .before .before .before .before .before .before .before .before .rest-at .ensures) (c .before .before .before .before .before .before .before .before .before .before .before .before .before .before .before .before .before .before .before .before .keywords-set .ensures)) (pair-on _ _ _ (keyword-behind-took (ascii "struct") (c .before .before .before .before .before .before .before .before .before .before .before .before .before .before .before .before .key .given .1) (c .before .before .before .before .before .before .before .before .before .before .before .before .before .before .before .before .before .before .keyword-behind .ensures)) (on _ (gap-at-took (c .before .before .before .before .before .before .before .before .before .before .before .before .gap .given .1) (c .before .before .before .before .before .before .before .before .before .before .before .before .before .before .gap-at .ensures)) (go _ (word-took (c .before .before .before .before .before .before .before .before .before .before .rest-at2 .ensures) (c .before .before .before .before .before .before .before .name .given .1) (c .before .before .before .before .before .before .before .before .before .parse-id .ensures)) (on _ (blank-at-took (c .before .before .before .before .before .blank-at2 .ensures)) (go _ (type-took (c .before .before .before .before .before .before .before .before .before .before .before .before .before .before .before .before .before .before .before .before .before .before .before .struct-word .ensures .read) (c .before .before .before .before .before .before .before .before .before .before .before .before .before .before .before .before .before .before .before .before .before .before .before .struct-word .result .kind) (c .before .before .before .before .before .before .before .before .before .before .before .before .before .before .before .before .before .before .before .before .before .before .before .struct-word .ensures .means) _ _ (c .before .before .before .struct-code .result) (c .before .before .before .struct-code .ensures) (c .before .before .before .before .rest-at3 .ensures) (c .before .number .given .1)) (done _ _ _ _)))))))))) (record { name-from = omega (arith, (gap-at-took (c .before .before .before .before .before .before .before .before .before .before .before .before .gap .given .1) (c .before .before .before .before .before .before .before .before .before .before .before .before .before .before .gap-at .ensures)) .up, c .before .before .before .before .before .before .before .before .before .before .before .before .before .before .gap-at .ensures .at .from); name-to = (word-took (c .before .before .before .before .before .before .before .before .before .before .rest-at2 .ensures) (c .before .before .before .before .before .before .before .name .given .1) (c .before .before .before .before .before .before .before .before .before .parse-id .ensures)) .up; before = omega (arith, (blank-at-took (c .before .before .before .before .before .blank-at2 .ensures)) .up, (type-took (c .before .before .before .before .before .before .before .before .before .before .before .before .before .before .before .before .before .before .before .before .before .before .before .struct-word .ensures .read) (c .before .before .before .before .before .before .before .before .before .before .before .before .before .before .before .before .before .before .before .before .before .before .before .struct-word .result .kind) (c .before .before .before .before .before .before .before .before .before .before .before .before .before .before .before .before .before .before .before .before .before .before .before .struct-word .ensures .means) _ _ (c .before .before .before .struct-code .result) (c .before .before .before .struct-code .ensures) (c .before .before .before .before .rest-at3 .ensures) (c .before .number .given .1)) .up); few-flags = fits-1 (c .before .before .before .before .before .before .before .before .before .before .before .before .before .before .before .before .before .before .before .before .keywords-set .ensures) })
+returns-5 c = read-is refl (begin (struct-head) _ _ (go _ (struct-word-took (rest-self _ _) (c .before .before .before .before .before .before .before .before .before .before .before .before .before .before .before .before .before .before .before .before .before .before .before .struct-word .ensures)) (on _ (blank-at-took (c .before .before .before .before .before .before .before .before .before .before .before .before .before .before .before .before .before .before .before .before .before .before .blank-at .ensures)) (go _ (set-took (c .before .before .before .before .before .before .before .before .before .before .before .before .before .before .before .before .before .before .before .before .before .rest-at .ensures) (c .before .before .before .before .before .before .before .before .before .before .before .before .before .before .before .before .before .before .before .before .keywords-set .ensures)) (pair-on _ _ _ (keyword-behind-took (ascii "struct") (c .before .before .before .before .before .before .before .before .before .before .before .before .before .before .before .before .key .given .1) (c .before .before .before .before .before .before .before .before .before .before .before .before .before .before .before .before .before .before .keyword-behind .ensures)) (on _ (gap-at-took (c .before .before .before .before .before .before .before .before .before .before .before .before .gap .given .1) (c .before .before .before .before .before .before .before .before .before .before .before .before .before .before .gap-at .ensures)) (go _ (word-took (c .before .before .before .before .before .before .before .before .before .before .rest-at2 .ensures) (c .before .before .before .before .before .before .before .name .given .1) (c .before .before .before .before .before .before .before .before .before .parse-id .ensures)) (on _ (blank-at-took (c .before .before .before .before .before .blank-at2 .ensures)) (go _ (type-took (c .before .before .before .before .before .before .before .before .before .before .before .before .before .before .before .before .before .before .before .before .before .before .before .struct-word .ensures .read) (c .before .before .before .before .before .before .before .before .before .before .before .before .before .before .before .before .before .before .before .before .before .before .before .struct-word .result .kind) (c .before .before .before .before .before .before .before .before .before .before .before .before .before .before .before .before .before .before .before .before .before .before .before .struct-word .ensures .means) _ _ (c .before .before .before .struct-code .result) (c .before .before .before .struct-code .ensures) (c .before .before .before .before .rest-at3 .ensures) (c .before .number .given .1)) (done _ _ _ _)))))))))) (record { name-from = omega (arith, (gap-at-took (c .before .before .before .before .before .before .before .before .before .before .before .before .gap .given .1) (c .before .before .before .before .before .before .before .before .before .before .before .before .before .before .gap-at .ensures)) .up, c .before .before .before .before .before .before .before .before .before .before .before .before .before .before .gap-at .ensures .at .from); name-to = (word-took (c .before .before .before .before .before .before .before .before .before .before .rest-at2 .ensures) (c .before .before .before .before .before .before .before .name .given .1) (c .before .before .before .before .before .before .before .before .before .parse-id .ensures)) .up; before = omega (arith, (blank-at-took (c .before .before .before .before .before .blank-at2 .ensures)) .up, (type-took (c .before .before .before .before .before .before .before .before .before .before .before .before .before .before .before .before .before .before .before .before .before .before .before .struct-word .ensures .read) (c .before .before .before .before .before .before .before .before .before .before .before .before .before .before .before .before .before .before .before .before .before .before .before .struct-word .result .kind) (c .before .before .before .before .before .before .before .before .before .before .before .before .before .before .before .before .before .before .before .before .before .before .before .struct-word .ensures .means) _ _ (c .before .before .before .struct-code .result) (c .before .before .before .struct-code .ensures) (c .before .before .before .before .rest-at3 .ensures) (c .before .number .given .1)) .up); few-flags = fits 1 (c .before .before .before .before .before .before .before .before .before .before .before .before .before .before .before .before .before .before .before .before .keywords-set .ensures) })
 
 pub struct-head-spec : {M : Type 1} → statement M
 struct-head-spec = tie.close (tie.spec struct-word-requires blank-at-requires rest-at-requires keywords-set-requires slice-aggregate-keyword-behind keyword-behind-requires enum-known-key enum-told step-lost-requires returns gap-at-requires enum-known-gap enum-told-2 step-lost-requires-2 returns-2 rest-at-requires-2 parse-id-requires enum-known-name enum-told-3 step-lost-requires-3 returns-3 blank-at-requires-2 rest-at-requires-3 struct-code-requires enum-known-number enum-told-4 number-lost-requires returns-4 returns-5)

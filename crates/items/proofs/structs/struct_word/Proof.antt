@@ -1,13 +1,14 @@
 use borrow.Author.Needs.{needs}
 use Rattle.items.proofs.structs.struct_word.Statement.{statement}
 use Rattle.items.proofs.structs.struct_word.Tie as tie
+use Rattle.items.proofs.Keywords.{keyword-missing}
 use native.Mathlib.Omega.{arith}
 use Rattle.lexing.specs.bytes.{ascii}
 use Rattle.lexing.specs.words.{any-keyword}
 use Rattle.lexing.specs.answers.{wordAt}
 use Rattle.lexing.proofs.Slicing.{rest-self, keyword-took, told-next, or-here, or-next}
 use Rattle.items.specs.declared.structs.StructKind.the-variants.{Request, Response, Shared}
-use Rattle.items.proofs.structs.Laws.{request-kind, response-kind, shared-kind, word-is, word-none, keyword-missing}
+use Rattle.items.proofs.structs.Laws.{request-kind, response-kind, shared-kind, word-is, word-none}
 
 slice-aggregate-keyword : tie.Need-slice-aggregate-keyword
 slice-aggregate-keyword c = search needs
@@ -48,7 +49,7 @@ kind-by-requires-2 c κs = omega (arith, (keyword-took (rest-self _ _) (c .befor
 
 returns-2 : tie.Need-returns-2
 unfolding any-keyword
-returns-2 c = word-is (ascii "response") Response _ _ _ _ _ (c .before .before .before .before .keyword2 .ensures) (c .before .before .response .given .1) response-kind (c .kind-by2 .ensures) (or-next _ _ _ _ _ _ _ _ ((keyword-missing (ascii "request") _ _ _ (c .before .before .before .before .before .before .before .before .keyword .ensures) _ (c .before .before .before .before .before .before .enum-told .given .1)) .1) (or-here _ _ _ _ _ _ _ (told-next (wordAt _ _) _ _ _ _ _ (c .before .before .response .given .1) (c .before .before .before .before .keyword2 .ensures))))
+returns-2 c = word-is (ascii "response") Response _ _ _ _ _ (c .before .before .before .before .keyword2 .ensures) (c .before .before .response .given .1) response-kind (c .kind-by2 .ensures) (or-next _ _ _ _ _ _ _ _ (keyword-missing (ascii "request") _ _ _ (c .before .before .before .before .before .before .before .before .keyword .ensures) _ (c .before .before .before .before .before .before .enum-told .given .1)) (or-here _ _ _ _ _ _ _ (told-next (wordAt _ _) _ _ _ _ _ (c .before .before .response .given .1) (c .before .before .before .before .keyword2 .ensures))))
 
 enum-told-2 : tie.Need-enum-told-2
 enum-told-2 c = c .match2 .keys2
@@ -70,7 +71,7 @@ kind-by-requires-3 c κs = omega (arith, (keyword-took (rest-self _ _) (c .befor
 
 returns-3 : tie.Need-returns-3
 unfolding any-keyword
-returns-3 c = word-is (ascii "shared") Shared _ _ _ _ _ (c .before .before .before .before .keyword3 .ensures) (c .before .before .shared .given .1) shared-kind (c .kind-by3 .ensures) (or-next _ _ _ _ _ _ _ _ ((keyword-missing (ascii "request") _ _ _ (c .before .before .before .before .before .before .before .before .before .before .before .before .keyword .ensures) _ (c .before .before .before .before .before .before .before .before .before .before .enum-told .given .1)) .1) (or-next _ _ _ _ _ _ _ _ ((keyword-missing (ascii "response") _ _ _ (c .before .before .before .before .before .before .before .before .keyword2 .ensures) _ (c .before .before .before .before .before .before .enum-told2 .given .1)) .1) (or-here _ _ _ _ _ _ _ (told-next (wordAt _ _) _ _ _ _ _ (c .before .before .shared .given .1) (c .before .before .before .before .keyword3 .ensures)))))
+returns-3 c = word-is (ascii "shared") Shared _ _ _ _ _ (c .before .before .before .before .keyword3 .ensures) (c .before .before .shared .given .1) shared-kind (c .kind-by3 .ensures) (or-next _ _ _ _ _ _ _ _ (keyword-missing (ascii "request") _ _ _ (c .before .before .before .before .before .before .before .before .before .before .before .before .keyword .ensures) _ (c .before .before .before .before .before .before .before .before .before .before .enum-told .given .1)) (or-next _ _ _ _ _ _ _ _ (keyword-missing (ascii "response") _ _ _ (c .before .before .before .before .before .before .before .before .keyword2 .ensures) _ (c .before .before .before .before .before .before .enum-told2 .given .1)) (or-here _ _ _ _ _ _ _ (told-next (wordAt _ _) _ _ _ _ _ (c .before .before .shared .given .1) (c .before .before .before .before .keyword3 .ensures)))))
 
 enum-told-3 : tie.Need-enum-told-3
 enum-told-3 c = c .match3 .keys2
