@@ -19,7 +19,7 @@ rest-at-requires : tie.Need-rest-at-requires Inv-loop μ-loop
 rest-at-requires c κs = search needs
 
 line-length-requires : tie.Need-line-length-requires Inv-loop μ-loop
-line-length-requires c κs = search needs
+line-length-requires c κs = tt
 
 slice-aggregate-print-line : tie.Need-slice-aggregate-print-line Inv-loop μ-loop
 slice-aggregate-print-line c = sym (length-take-le _ _ (c .before .line-length .ensures))
