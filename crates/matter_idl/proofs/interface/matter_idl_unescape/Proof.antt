@@ -1,11 +1,11 @@
 use borrow.Author.Needs.{needs}
 use Rattle.matter_idl.proofs.interface.matter_idl_unescape.Statement.{statement}
 use Rattle.matter_idl.proofs.interface.matter_idl_unescape.Tie as tie
+use borrow.Author.Tests.{le-leb, lt-leb}
 use denote.Ref.{now}
 use mathlib.Core.Path.{ap}
 use native.Mathlib.Omega.{arith}
 use lib.ListN.{length}
-use borrow.Author.Tests.{le-leb, lt-leb}
 use Rattle.lexing.specs.unescaping.{answer}
 use Rattle.matter_idl.proofs.interface.Laws.{long-result, long-left, value-fits, told-result, told-left}
 
