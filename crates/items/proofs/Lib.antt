@@ -17,4 +17,6 @@ pub mod Headed
 pub mod WordBetween
 pub mod RecordWords
 pub mod SetSizes
+-- what is read stands in the text
+pub mod Truth
 pub mod KnownAnswers

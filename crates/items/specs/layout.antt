@@ -2,7 +2,7 @@
 use Prim.Native.Nat.{ℕ, zero, suc, _+_, _-_, _*_, _^_, _/_, _%_}
 use mathlib.Core.List.{List, [], _∷_, _++_, map}
 use lib.ListN.{length}
-use Rattle.items.specs.records.{Extent, absent, at, Bits, bits, Further, value, spanned, Record, each}
+use Rattle.items.specs.records.{Extent, absent, at, Bits, bits, Further, value, spanned, Record, further-of-kind, each}
 
 -- values one behind the other, most significant bit first; z stands above them
 unfoldable pub packed : ℕ → List Bits → ℕ
@@ -69,6 +69,10 @@ catalogue-words L l = each (record-words L) l
 
 unfoldable pub catalogue-bytes : Layout → List Record → List ℕ
 catalogue-bytes L l = words-bytes (catalogue-words L l)
+
+-- how many words a record of a kind takes: the first and the further ones
+unfoldable pub words-of-kind : ℕ → ℕ
+words-of-kind k = suc (further-of-kind k)
 
 -- how many words records take
 unfoldable pub word-count : List Record → ℕ
