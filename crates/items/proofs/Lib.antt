@@ -19,4 +19,6 @@ pub mod RecordWords
 pub mod SetSizes
 -- what is read stands in the text
 pub mod Truth
+-- what was packed comes back; a word comes back from its bytes
+pub mod Packing
 pub mod KnownAnswers

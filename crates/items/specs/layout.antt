@@ -61,6 +61,11 @@ unfoldable pub big-endian : ℕ → ℕ → List ℕ
 big-endian zero w = []
 big-endian (suc n) w = big-endian n (w / 256) ++ (w % 256 ∷ [])
 
+-- the number that bytes stand for, the most significant first
+unfoldable pub from-big-endian : List ℕ → ℕ
+from-big-endian [] = 0
+from-big-endian (x ∷ l) = x * 256 ^ length l + from-big-endian l
+
 unfoldable pub words-bytes : List ℕ → List ℕ
 words-bytes l = each (big-endian 8) l
 
