@@ -21,4 +21,6 @@ pub mod SetSizes
 pub mod Truth
 -- what was packed comes back; a word comes back from its bytes
 pub mod Packing
+-- every record of what is read fits its words
+pub mod RecordsFit
 pub mod KnownAnswers

@@ -65,6 +65,19 @@ pub top-back : (w v : ℕ) (l : List Bits) → Fit l → packed 0 (bits w v ∷ 
 unfolding packed
 top-back w v l k = rw (packed-high (0 * 2 ^ w + v) l k) (nought w v)
 
+-- each value of a list, by its place in it
+unfoldable pub bits-of : Bits → ℕ
+bits-of (bits w v) = w
+
+unfoldable pub value-of : Bits → ℕ
+value-of (bits w v) = v
+
+pub values-back : (z : ℕ) (l : List Bits) (i : ℕ) → Fit l → i < length l → packed z l / 2 ^ width (drop (suc i) l) % 2 ^ bits-of (getD l i (bits 0 0)) ≡ value-of (getD l i (bits 0 0))
+unfolding packed bits-of value-of
+values-back z [] i h k = absurd (omega arith)
+values-back z (bits w v ∷ l) zero h k = value-back z w v l (h .0) (h .1)
+values-back z (bits w v ∷ l) (suc i) h k = values-back (z * 2 ^ w + v) l i (h .1) (omega arith)
+
 -- values from the top, the rest zero
 pub from-top-less : (n : ℕ) (l : List Bits) → Fit l → width l ≤ n → from-top n l < 2 ^ n
 unfolding from-top
