@@ -17,8 +17,9 @@ pub mod Headed
 pub mod WordBetween
 pub mod RecordWords
 pub mod SetSizes
--- what is read stands in the text
+-- what is read stands in the text; where it is refused
 pub mod Truth
+pub mod RefusedPlaces
 -- what was packed comes back; a word comes back from its bytes
 pub mod Packing
 -- every record of what is read fits its words

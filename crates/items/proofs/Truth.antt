@@ -11,7 +11,7 @@ use lib.Dec.{leb, eqb, lit<}
 use lib.ListN.{length, take, drop}
 use Rattle.lexing.specs.reply.{Reply, ok, fail, stop, Parser, ret, _>>=_, _>>_, opt, further, _or_, prepend, manyWithin, many0, iterWithin, iter, position, failAt, stopAt, catch, pick}
 use Rattle.lexing.specs.bytes.{ascii, quote, backslash, plus, minus, isLetter, isDigit, isWord, isHex, takeWhile, dropWhile}
-use Rattle.lexing.specs.words.{Word, word, offsetOf, bytesOf, parse-id}
+use Rattle.lexing.specs.words.{Word, word, offsetOf, bytesOf, parse-id, keyword, any-keyword}
 use Rattle.lexing.specs.integers.{u64-max, fitting, hex-integer, decimal-integer, positive-integer, Signed, signed, largest, in-range, after-sign, signed-integer}
 use Rattle.lexing.specs.blanks.{Doc, no-doc, doc-at, whitespace0, whitespace1}
 use Rattle.lexing.specs.strings.{Span, span, Escape, allowed, forbidden, panics, string-rest, span-from, string-with, default-string}
@@ -35,6 +35,9 @@ use Rattle.items.specs.items.{Item, cluster-item, endpoint-item, enum-it
 use Rattle.items.specs.records.{response-of}
 use Rattle.items.proofs.Locality.{braces-chain, mapped-inside, api-maturity-local, constant-annotations-list-inside, blank-entry-inside, constant-entries-list-local, shared-before-local, choice-head-local, max-length-local, list-marker-local, parse-field-inside, parse-struct-field-inside, closed-field-inside, struct-fields-local, struct-type-of-local, struct-head-local, access-privilege-local, event-priority-local, access-to-inside, event-qualities-inside, event-head-inside, command-head-inside, command-types-inside, access-entry-inside, access-entry-consumes, comma-local, separated-list0-inside, access-list-inside, attribute-access-inside, parse-cluster-member-inside, side-local, cluster-head-local, deep-run-inside, name-behind-local, device-version-local, default-attribute-value-local, attribute-handling-type-local, instance-tries-inside, instance-tries-consumes, instantiation-head-local, instances-local, part-tries-inside, part-tries-consumes, endpoint-head-local, parts-local}
 
+-- what a step leaves behind it
+pub ruleset onward-rules = (walks, advances-onward, parse-id-advances, tag-advances, integer-advances, signed-advances, keyword-chain, any-keyword-chain, whitespace0-chain, whitespace1-chain, set-flags-chain, chain-opt, chain-local, chain-inside, chain-then)
+
 -- every element, and an optional one
 abbrev pub All : {A : Type 0} → (A → Type 0) → List A → Type 0
 All Q [] = Unit {0}
@@ -50,7 +53,7 @@ fail-no e = let z : _≡_ {A = ℕ} 0 1 = cc in absurd (omega arith)
 stop-no : {A X : Type 0} {n p : ℕ} {a : A} {c : ℕ} {r : List ℕ} → stop n p ≡ ok a c r → X
 stop-no e = let z : _≡_ {A = ℕ} 0 1 = cc in absurd (omega arith)
 
-rest-on : {s b c : ℕ} {t u r : List ℕ} → Rest s t b u → Suf r u → c + length r ≡ b + length u → Rest s t c r
+pub rest-on : {s b c : ℕ} {t u r : List ℕ} → Rest s t b u → Suf r u → c + length r ≡ b + length u → Rest s t c r
 rest-on {s} {b} {c} {t} {u} {r} h p e =
     let l = suf-length p in
     let z : length u - length r ≡ c - b = omega (arith, l) in
@@ -182,6 +185,13 @@ module _ (s : ℕ) (t : List ℕ) where
     pub left : List ℕ
     pub reads : m base rest ≡ ok a next left
 
+  -- the place where a parser fails somewhere in the part
+  pub record FailsAt {A : Type 0} (m : Parser A) (p : ℕ) : Type 0 where
+    pub base : ℕ
+    pub rest : List ℕ
+    pub stands : Rest s t base rest
+    pub refuses : m base rest ≡ fail p
+
   seen : {A B : Type 0} {m : Parser A} {k : Parser B} {a : A} {d : B} (h : Read k d) → m (h .base) (h .rest) ≡ ok a (h .next) (h .left) → Read m a
   seen h e = record { base = h .base; rest = h .rest; stands = h .stands; next = h .next; left = h .left; reads = e }
 
@@ -207,13 +217,13 @@ module _ (s : ℕ) (t : List ℕ) where
     gives-pick true v w = v
     gives-pick false v w = w
 
-    pub gives-catch : {m : Parser A} {k : ℕ → Parser A} → Gives R m → ((p : ℕ) → Gives R (k p)) → Gives R (catch m k)
+    pub gives-catch : {m : Parser A} {k : ℕ → Parser A} → Gives R m → ((p : ℕ) → FailsAt m p → Gives R (k p)) → Gives R (catch m k)
     unfolding catch
     gives-catch {m} {k} v w = record { holds = λ d h. go d h (m (h .base) (h .rest)) refl }
       where
         go : (d : A) (h : Read (catch m k) d) (x : Reply A) → m (h .base) (h .rest) ≡ x → R d
         go d h (ok a c r) e = v .holds d (seen h (e ∙ (rw (e, catch) at (h .reads))))
-        go d h (fail p) e = w p .holds d (seen h (rw (e, catch) at (h .reads)))
+        go d h (fail p) e = w p (record { base = h .base; rest = h .rest; stands = h .stands; refuses = e }) .holds d (seen h (rw (e, catch) at (h .reads)))
         go d h (stop n p) e = stop-no (rw (e, catch) at (h .reads))
 
     pub gives-or : {m k : Parser A} → Gives R m → Gives R k → Gives R (m or k)
@@ -278,7 +288,7 @@ module _ (s : ℕ) (t : List ℕ) where
   unfolding many0
   gives-many0 {Q = Q} {m} w v = record { holds = λ l h. many-within Q m w v (suc (length (h .rest))) l (seen h (h .reads)) }
 
-  module _ {S : Type 0} (Q : S → Type 0) (f : S → Parser S) (g : ℕ → S → S) (w : (x : S) → Onward (f x)) (v : (x : S) → Q x → Gives Q (f x)) (k : (p : ℕ) (x : S) → Q x → Q (g p x)) where
+  module _ {S : Type 0} (Q : S → Type 0) (f : S → Parser S) (g : ℕ → S → S) (w : (x : S) → Onward (f x)) (v : (x : S) → Q x → Gives Q (f x)) (k : (p : ℕ) (x : S) → FailsAt (f x) p → Q x → Q (g p x)) where
     iter-within : (n : ℕ) (x y : S) → Q x → Read (iterWithin n f g x) y → Q y
     unfolding iterWithin
     iter-within zero x y q h = let e : ok x (h .base) (h .rest) ≡ ok y (h .next) (h .left) = h .reads in let z : x ≡ y = cc in subst Q z q
@@ -288,7 +298,7 @@ module _ (s : ℕ) (t : List ℕ) where
         go (ok a c r) e p ih =
             ih a y (v x q .holds a (record { base = h .base; rest = h .rest; stands = h .stands; next = c; left = r; reads = e }))
             (record { base = c; rest = r; stands = rest-on (h .stands) (p .0) (p .1); next = h .next; left = h .left; reads = rw (e, iterWithin) at (h .reads) })
-        go (fail i) e p ih = let d : ok (g i x) (h .base) (h .rest) ≡ ok y (h .next) (h .left) = rw (e, iterWithin) at (h .reads) in let z : g i x ≡ y = cc in subst Q z (k i x q)
+        go (fail i) e p ih = let d : ok (g i x) (h .base) (h .rest) ≡ ok y (h .next) (h .left) = rw (e, iterWithin) at (h .reads) in let z : g i x ≡ y = cc in subst Q z (k i x (record { base = h .base; rest = h .rest; stands = h .stands; refuses = e }) q)
         go (stop j i) e p ih = stop-no (rw (e, iterWithin) at (h .reads))
 
     pub gives-iter : (x : S) → Q x → Gives Q (iter f g x)
@@ -336,7 +346,7 @@ module _ (s : ℕ) (t : List ℕ) where
   pub integer-true : {n : ℕ} → Read positive-integer n → n < 2 ^ 64
   unfolding positive-integer
   integer-true {n} h =
-      gives-catch {R = λ n. n < 2 ^ 64} (record { holds = λ n h. let k = hex-fits (h .base) (h .rest) (h .reads) in omega (arith, k) }) (λ p. record { holds = λ n h. let k = decimal-fits (h .base) (h .rest) (h .reads) in omega (arith, k) }) .holds n h
+      gives-catch {R = λ n. n < 2 ^ 64} (record { holds = λ n h. let k = hex-fits (h .base) (h .rest) (h .reads) in omega (arith, k) }) (λ p i. record { holds = λ n h. let k = decimal-fits (h .base) (h .rest) (h .reads) in omega (arith, k) }) .holds n h
 
   pub signed-true : {z : Signed} → Read signed-integer z → InRange z
   signed-true h = signed-fits (h .base) (h .rest) (h .reads)
@@ -412,33 +422,31 @@ module _ (s : ℕ) (t : List ℕ) where
   gives-word : Gives WordTrue parse-id
   gives-word = record { holds = λ w h. word-true h }
 
-  -- Certificates are found by search: the rules of the combinators, what a step leaves behind it, what is known of a token's value.
+  -- Certificates are found by search: the rules of the combinators, what is known of a token's value, what a step leaves behind it.
   ruleset gives-rules = (gives-ret, gives-last, gives-bind, gives-then, gives-or, gives-catch, gives-pick, gives-fail, gives-stop, gives-mapped, gives-word, lit<)
-
-  ruleset onward-rules = (walks, advances-onward, parse-id-advances, tag-advances, integer-advances, signed-advances, keyword-chain, any-keyword-chain, whitespace0-chain, whitespace1-chain, set-flags-chain, chain-opt, chain-local, chain-inside, chain-then)
 
   ruleset token-rules = (word-true, doc-true, integer-true, signed-true)
 
-  module _ where
-    flags-0 : (f : ℕ) → Read (set-flags 0) f → f < 2 ^ 3
-    unfolding set-of sets
-    flags-0 = from (flags-true 0)
+  -- the flags of each set, by its size
+  flags-0 : (f : ℕ) → Read (set-flags 0) f → f < 2 ^ 3
+  unfolding set-of sets
+  flags-0 = from (flags-true 0)
 
-    flags-1 : (f : ℕ) → Read (set-flags 1) f → f < 2 ^ 1
-    unfolding set-of sets
-    flags-1 = from (flags-true 1)
+  flags-1 : (f : ℕ) → Read (set-flags 1) f → f < 2 ^ 1
+  unfolding set-of sets
+  flags-1 = from (flags-true 1)
 
-    flags-2 : (f : ℕ) → Read (set-flags 2) f → f < 2 ^ 1
-    unfolding set-of sets
-    flags-2 = from (flags-true 2)
+  flags-2 : (f : ℕ) → Read (set-flags 2) f → f < 2 ^ 1
+  unfolding set-of sets
+  flags-2 = from (flags-true 2)
 
-    flags-3 : (f : ℕ) → Read (set-flags 3) f → f < 2 ^ 2
-    unfolding set-of sets
-    flags-3 = from (flags-true 3)
+  flags-3 : (f : ℕ) → Read (set-flags 3) f → f < 2 ^ 2
+  unfolding set-of sets
+  flags-3 = from (flags-true 3)
 
-    flags-4 : (f : ℕ) → Read (set-flags 4) f → f < 2 ^ 4
-    unfolding set-of sets
-    flags-4 = from (flags-true 4)
+  flags-4 : (f : ℕ) → Read (set-flags 4) f → f < 2 ^ 4
+  unfolding set-of sets
+  flags-4 = from (flags-true 4)
 
   -- entries, enums and bitmaps
   maturity-true : (m : ℕ) → Read api-maturity m → m < 2 ^ 2
@@ -577,20 +585,32 @@ module _ (s : ℕ) (t : List ℕ) where
   command-types-true = from (search (value-rules, true-command-types, input-true, parse-id-chain) depth 24)
 
   -- an attribute's privileges
-  abbrev AccessTrue : Access → Type 0
-  AccessTrue a = a .granted < 2 ^ 2
+  pub data AccessTrue (a : Access) : Type 0 where
+    true-access : WordTrue (a .operation) → a .granted < 2 ^ 2 → AccessTrue a
+
+  gives-keyword : (k : List ℕ) → Gives WordTrue (keyword k)
+  unfolding keyword
+  gives-keyword k = search (value-rules, chain-position) depth 8
+
+  gives-any-keyword : (ks : List (List ℕ)) → Gives WordTrue (any-keyword ks)
+  unfolding any-keyword
+  gives-any-keyword [] = record { holds = λ w h. fail-no (h .reads) }
+  gives-any-keyword (k ∷ ks) = gives-or (gives-keyword k) (gives-any-keyword ks)
+
+  operation-true : (w : Word) → Read (any-keyword (ascii "read" ∷ ascii "write" ∷ [])) w → WordTrue w
+  operation-true = from (gives-any-keyword _)
 
   pub data PrivilegesTrue (p : Privileges) : Type 0 where
     true-privileges : p .read < 2 ^ 2 → p .write < 2 ^ 2 → PrivilegesTrue p
 
   gives-access-entry : Gives AccessTrue access-entry
   unfolding access-entry
-  gives-access-entry = search (value-rules, privilege-true, access-privilege-local) depth 24
+  gives-access-entry = search (value-rules, true-access, operation-true, privilege-true, access-privilege-local) depth 24
 
   separated-true : {A : Type 0} {R : A → Type 0} {p : Parser (Unit {0})} {m : Parser A} → OnChain p → OnChain m → Gives R m → (l : List A) → Read (separated-list0 p m) l → All R l
   unfolding separated-list0
   separated-true w v g =
-      from (gives-catch (gives-bind (walks v) λ a h. gives-bind (walks (chain-many0 (chain-then w v))) λ l k. gives-ret (a ∷ l) (g .holds a h, gives-many0 (walks (chain-then w v)) (gives-then (walks w) g) .holds l k)) (λ p. gives-ret [] tt))
+      from (gives-catch (gives-bind (walks v) λ a h. gives-bind (walks (chain-many0 (chain-then w v))) λ l k. gives-ret (a ∷ l) (g .holds a h, gives-many0 (walks (chain-then w v)) (gives-then (walks w) g) .holds l k)) (λ p i. gives-ret [] tt))
 
   accesses-true : (l : List Access) → Read (separated-list0 comma access-entry) l → All AccessTrue l
   accesses-true = separated-true (chain-local comma-local) (chain-inside access-entry-inside) gives-access-entry
@@ -604,11 +624,17 @@ module _ (s : ℕ) (t : List ℕ) where
   listed-true none h = tt
   listed-true (some l) h = h
 
+  granted-less : {a : Access} → AccessTrue a → a .granted < 2 ^ 2
+  granted-less (true-access w p) = p
+
   gives-granted : (p : Privileges) (l : List Access) → PrivilegesTrue p → All AccessTrue l → Gives PrivilegesTrue (granted-by p l)
   unfolding granted-by
   gives-granted p [] q h = gives-ret p q
   gives-granted p (a ∷ l) (true-privileges r w) h =
-      gives-pick _ (gives-granted _ l (true-privileges (h .0) w) (h .1)) (gives-pick _ (gives-granted _ l (true-privileges r (h .0)) (h .1)) (gives-stop _ _))
+      gives-pick _ (gives-granted _ l (true-privileges g w) (h .1)) (gives-pick _ (gives-granted _ l (true-privileges r g) (h .1)) (gives-stop _ _))
+    where
+      g : a .granted < 2 ^ 2
+      g = granted-less (h .0)
 
   privileges-true : (p : Privileges) → Read attribute-access p → PrivilegesTrue p
   unfolding attribute-access default-privileges
@@ -750,7 +776,7 @@ module _ (s : ℕ) (t : List ℕ) where
   -- tries that keep the furthest place
   gives-intercept : {A : Type 0} {R : A → Type 0} {m : Parser A} {k : ℕ → Parser (Tried A)} (q : ℕ) → Gives R m → ((q : ℕ) → Gives (λ x. R (x .found)) (k q)) → Gives (λ x. R (x .found)) (intercept q m k)
   unfolding intercept
-  gives-intercept q v w = gives-catch (gives-mapped _ (v .holds)) (λ p. w _)
+  gives-intercept q v w = gives-catch (gives-mapped _ (v .holds)) (λ p i. w _)
 
   all-more : {A : Type 0} (R : A → Type 0) (l : List A) (a : A) → All R l → R a → All R (l ++ (a ∷ []))
   all-more R [] a h k = (k, tt)
@@ -767,7 +793,7 @@ module _ (s : ℕ) (t : List ℕ) where
       step-on x = walks (chain-then whitespace0-chain (chain-inside (mapped-inside _ (t _))))
 
       run : (y : Deep A) → Read (deep-run f) y → All R (y .read)
-      run = from (gives-bind (walks chain-position) λ b h. gives-iter (λ (y : Deep A). All R (y .read)) (deep-step f) deeper step-on step (λ p x k. k) _ tt)
+      run = from (gives-bind (walks chain-position) λ b h. gives-iter (λ (y : Deep A). All R (y .read)) (deep-step f) deeper step-on step (λ p x i k. k) _ tt)
 
   gives-instance : (q : ℕ) → Gives (λ x. InstanceTrue (x .found)) (instance-tries q)
   unfolding instance-tries
