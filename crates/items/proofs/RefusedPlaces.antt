@@ -2,6 +2,7 @@
 use Prim.Native.Nat.{ℕ, zero, suc, _+_, _≤_, max}
 use mathlib.Core.Path.{_≡_, refl}
 use mathlib.Core.Bool.{Bool, true, false, _&&_, _||_}
+use mathlib.Core.Option.{Option, none, some}
 use mathlib.Core.List.{List, [], _∷_}
 use native.Mathlib.Omega.{arith}
 use lib.Dec.{leb, eqb, lit≤}
@@ -16,9 +17,16 @@ use Rattle.lexing.specs.word_sets.{next-word, set-step, keywords-set, set-of, s
 use Rattle.lexing.specs.answers.{Rest}
 use Rattle.lexing.proofs.Onward.{Ends, Onward, advances-onward, parse-id-advances, tag-advances, group-advances}
 use Rattle.lexing.proofs.Slicing.{walks}
-use Rattle.lexing.proofs.Locality.{OnChain, chain-position}
-use Rattle.lexing.proofs.TokenLocality.{whitespace0-chain, whitespace1-chain, one-blank-chain, set-step-chain, keywords-set-chain}
-use Rattle.items.proofs.Truth.{All, rest-on, onward-rules, Read, FailsAt, WordTrue}
+use Rattle.lexing.proofs.Locality.{LocalInside, Consumes, chain-position, chain-then, chain-opt, chain-local, chain-inside}
+use Rattle.lexing.proofs.TokenLocality.{whitespace0-chain, whitespace1-chain, one-blank-chain, set-step-chain}
+use Rattle.items.specs.entries.{enclosed, where-missing, braces, api-maturity, constant-annotation, blank-annotation, annotations-in-brackets, constant-annotations-list, constant-entry, blank-entry, constant-entries, constant-entries-list, shared-before, choice-head, choice-after-doc-maturity, parse-enum-after-doc-maturity, parse-bitmap-after-doc-maturity}
+use Rattle.items.specs.structs.{max-length, list-marker, parse-field, parse-struct-field, closed-field, fields-run, struct-fields, response-code, struct-kind, struct-type-of, struct-head, parse-struct-after-doc-maturity}
+use Rattle.items.specs.members.{access-privilege, event-priority, access-to, event-qualities, event-head, parse-event-after-doc-maturity, command-head, command-types, parse-command-after-doc-maturity, Access, access-entry, comma, separated-list0, access-list, Privileges, granted-by, default-privileges, listed, attribute-access, parse-attribute-after-doc-maturity}
+use Rattle.items.specs.clusters.{mapped, parse-revision, member-tries, parse-cluster-member, cluster-members, side, cluster-head, cluster-after-doc-maturity, parse-cluster}
+use Rattle.items.specs.endpoints.{Tried, Deep, intercept, deep-step, deeper, deep-run, deep-place, deep-braces, name-behind, device-version, device-type, value-tries, default-attribute-value, attribute-handling-type, attribute-instantiation, named-after, instance-tries, instantiation-head, cluster-instantiation, part-tries, endpoint-head, endpoint}
+use Rattle.items.specs.items.{Item, with-doc-maturity, item}
+use Rattle.items.proofs.Locality.{mapped-inside, api-maturity-local, constant-annotation-local, blank-entry-inside, closed-field-inside, access-list-inside, deep-run-inside, instance-tries-inside, instance-tries-consumes, part-tries-inside, part-tries-consumes}
+use Rattle.items.proofs.Truth.{All, rest-on, onward-rules, Read, FailsAt, Gives, gives-fail, gives-catch, gives-bind, gives-then, gives-mapped, gives-iter, AccessTrue, true-access, accesses-listed}
 
 module _ (s : ℕ) (t : List ℕ) where
   pub record InPart (p : ℕ) : Type 0 where
@@ -352,3 +360,267 @@ module _ (s : ℕ) (t : List ℕ) where
   unfolding next-word
   next-word-in ks [] = any-keyword-in ks
   next-word-in ks (w ∷ ws) = placed-then (walks whitespace1-chain) gap-in (any-keyword-in ks)
+
+  -- a value that is changed
+  module _ {A B : Type 0} {m : Parser A} where
+    placed-made : (f : A → B) → Placed m → Placed (m >>= λ a. ret (f a))
+    unfolding _>>=_ ret
+    placed-made f v = record { places = λ b u h. go b u (m b u) refl (v .places b u h) }
+      where
+        go : (b : ℕ) (u : List ℕ) (x : Reply A) → m b u ≡ x → RefusedIn x → RefusedIn ((m >>= λ a. ret (f a)) b u)
+        go b u (ok a c r) e i = rw (e, _>>=_) tt
+        go b u (fail p) e i = rw (e, _>>=_) i
+        go b u (stop n p) e i = rw (e, _>>=_) i
+
+    pub placed-mapped : (f : A → B) → Placed m → Placed (mapped m f)
+    unfolding mapped
+    placed-mapped f v = placed-made f v
+
+  set-in : (n : ℕ) → Placed (set-flags n)
+  unfolding set-flags keywords-set set-step
+  set-in n = placed-made _ (placed-iter Any (set-step (set-of n)) keep (λ ws. walks (set-step-chain (set-of n) ws)) (λ ws q. placed-made _ (next-word-in (set-of n) ws)) (λ x y h q. tt) [] tt)
+
+  -- what stands between braces: g is the place of a missing }
+  enclosed-in : {A : Type 0} {m : Parser A} (g : A → ℕ → ℕ) → Onward m → Placed m → ((a : A) → Read s t m a → (p : ℕ) → InPart p → InPart (g a p)) → Placed (enclosed m g)
+  unfolding enclosed
+  enclosed-in g w v k =
+      placed-then (advances-onward (tag-advances 123)) (placed-tag 123) (placed-bind w v λ a h. placed-last a (placed-catch (placed-then (walks whitespace0-chain) blank-in (placed-tag 125)) λ p i. placed-fail (g a p) (k a h p i)))
+
+  braces-in : {A : Type 0} {m : Parser A} → Onward m → Placed m → Placed (braces m)
+  unfolding braces where-missing
+  braces-in w v = enclosed-in where-missing w v (λ a h p i. i)
+
+  -- Certificates of the productions, found by search.
+  ruleset placed-rules = (placed-ret, placed-last, placed-then, placed-bind, placed-opt, placed-or, placed-pick, placed-catch, placed-mapped, placed-many0, braces-in, placed-word, placed-tag, keyword-in, any-keyword-in, integer-in, signed-in, blank-in, gap-in, string-in, set-in, onward-rules)
+
+  -- entries, enums and bitmaps
+  maturity-in : Placed api-maturity
+  unfolding api-maturity
+  maturity-in = search placed-rules depth 20
+
+  annotations-in : Placed constant-annotations-list
+  unfolding constant-annotations-list annotations-in-brackets blank-annotation constant-annotation quoted-string
+  annotations-in = search (placed-rules, constant-annotation-local) depth 24
+
+  entry-in : Placed blank-entry
+  unfolding blank-entry constant-entry
+  entry-in = search (placed-rules, maturity-in, annotations-in) depth 30
+
+  entries-in : Placed constant-entries-list
+  unfolding constant-entries-list constant-entries
+  entries-in = search (placed-rules, entry-in, blank-entry-inside) depth 8
+
+  choice-head-in : (k : List ℕ) → Placed (choice-head k)
+  unfolding choice-head shared-before
+  choice-head-in k = search placed-rules depth 30
+
+  choice-in : (k : List ℕ) (d : Doc) (m : ℕ) → Placed (choice-after-doc-maturity k d m)
+  unfolding choice-after-doc-maturity
+  choice-in k d m = search (placed-rules, choice-head-in, entries-in) depth 8
+
+  -- fields and structs
+  field-in : Placed parse-struct-field
+  unfolding parse-struct-field parse-field max-length list-marker
+  field-in = search (placed-rules, maturity-in) depth 30
+
+  closed-field-in : Placed closed-field
+  unfolding closed-field
+  closed-field-in = search (placed-rules, field-in) depth 12
+
+  fields-in : Placed struct-fields
+  unfolding struct-fields fields-run
+  fields-in = search (placed-rules, closed-field-in, closed-field-inside) depth 8
+
+  type-in : (k : Option Word) → Placed (struct-type-of k)
+  unfolding struct-type-of struct-kind response-code
+  type-in none = placed-ret _
+  type-in (some w) = search placed-rules depth 12
+
+  struct-head-in : Placed struct-head
+  unfolding struct-head
+  struct-head-in = search (placed-rules, type-in) depth 24
+
+  struct-in : (d : Doc) (m : ℕ) → Placed (parse-struct-after-doc-maturity d m)
+  unfolding parse-struct-after-doc-maturity
+  struct-in d m = search (placed-rules, struct-head-in, fields-in) depth 8
+
+  -- events, commands and attributes
+  privilege-in : Placed access-privilege
+  unfolding access-privilege
+  privilege-in = search placed-rules depth 12
+
+  access-in : (k : List ℕ) → Placed (access-to k)
+  unfolding access-to
+  access-in k = search (placed-rules, privilege-in) depth 24
+
+  qualities-in : Placed event-qualities
+  unfolding event-qualities event-priority
+  qualities-in = search (placed-rules, access-in) depth 24
+
+  event-head-in : Placed event-head
+  unfolding event-head
+  event-head-in = search (placed-rules, qualities-in) depth 24
+
+  event-in : (d : Doc) (m : ℕ) → Placed (parse-event-after-doc-maturity d m)
+  unfolding parse-event-after-doc-maturity
+  event-in d m = search (placed-rules, event-head-in, fields-in) depth 8
+
+  command-head-in : Placed command-head
+  unfolding command-head
+  command-head-in = search (placed-rules, access-in) depth 24
+
+  command-types-in : Placed command-types
+  unfolding command-types
+  command-types-in = search placed-rules depth 24
+
+  command-in : (d : Doc) (m : ℕ) → Placed (parse-command-after-doc-maturity d m)
+  unfolding parse-command-after-doc-maturity
+  command-in d m = search (placed-rules, command-head-in, command-types-in) depth 16
+
+  access-entry-in : Placed access-entry
+  unfolding access-entry
+  access-entry-in = search (placed-rules, privilege-in) depth 24
+
+  comma-in : Placed comma
+  unfolding comma
+  comma-in = search placed-rules depth 8
+
+  access-list-in : Placed access-list
+  unfolding access-list separated-list0
+  access-list-in = search (placed-rules, access-entry-in, comma-in) depth 24
+
+  granted-in : (p : Privileges) (l : List Access) → All (AccessTrue s t) l → Placed (granted-by p l)
+  unfolding granted-by stopAt
+  granted-in p [] h = placed-ret p
+  granted-in p (a ∷ l) h = placed-pick _ (granted-in _ l (h .1)) (placed-pick _ (granted-in _ l (h .1)) (record { places = λ b u i. (stands (h .0), lit≤ tt, lit≤ tt) }))
+    where
+      stands : AccessTrue s t a → InPart (offsetOf (a .operation))
+      stands (true-access w g) = record { after = w .after; before = omega (arith, w .inside) }
+
+  attribute-access-in : Placed attribute-access
+  unfolding attribute-access
+  attribute-access-in = placed-bind (walks (chain-opt (chain-inside access-list-inside))) (placed-opt access-list-in) λ o h. granted-in _ (listed o) (accesses-listed s t o h)
+
+  attribute-in : (d : Doc) (m : ℕ) → Placed (parse-attribute-after-doc-maturity d m)
+  unfolding parse-attribute-after-doc-maturity
+  attribute-in d m = search (placed-rules, attribute-access-in, field-in) depth 16
+
+  -- clusters
+  member-in : Placed parse-cluster-member
+  unfolding parse-cluster-member member-tries parse-revision parse-enum-after-doc-maturity parse-bitmap-after-doc-maturity
+  member-in = search (placed-rules, maturity-in, choice-in, struct-in, attribute-in, command-in, event-in) depth 24
+
+  cluster-head-in : Placed cluster-head
+  unfolding cluster-head side
+  cluster-head-in = search placed-rules depth 24
+
+  cluster-in : Placed parse-cluster
+  unfolding parse-cluster cluster-after-doc-maturity cluster-members
+  cluster-in = search (placed-rules, maturity-in, cluster-head-in, member-in) depth 16
+
+  -- endpoints: tries that keep the furthest place
+  record TriesIn {A : Type 0} (m : Parser (Tried A)) : Type 0 where
+    refused : Placed m
+    kept : Gives s t (λ x. InPart (x .furthest)) m
+
+  tries-end : {A : Type 0} (q : ℕ) → InPart q → TriesIn (failAt {A = Tried A} q)
+  tries-end q h = record { refused = placed-fail q h; kept = gives-fail s t q }
+
+  tries-next : {A : Type 0} {m : Parser A} {k : ℕ → Parser (Tried A)} (q : ℕ) → InPart q → Placed m → ((q : ℕ) → InPart q → TriesIn (k q)) → TriesIn (intercept q m k)
+  unfolding intercept
+  tries-next q h v w =
+      record {
+        refused = placed-catch (placed-mapped _ v) (λ p i. w _ (furthest q p h i) .refused);
+        kept = gives-catch s t (gives-mapped s t _ (λ a r. h)) (λ p f. w _ (furthest q p h (fails-in (placed-mapped _ v) f)) .kept);
+      }
+
+  module _ {A : Type 0} (f : ℕ → Parser (Tried A)) (i : (q : ℕ) → LocalInside (f q)) (c : (q : ℕ) → Consumes (f q)) (w : (q : ℕ) → InPart q → TriesIn (f q)) where
+    abbrev DeepIn : Deep A → Type 0
+    DeepIn x = InPart (x .deepest)
+
+    step-on : (x : Deep A) → Onward (deep-step f x)
+    unfolding deep-step
+    step-on x = walks (chain-then whitespace0-chain (chain-inside (mapped-inside _ (i _))))
+
+    step-in : (x : Deep A) → DeepIn x → Placed (deep-step f x)
+    unfolding deep-step
+    step-in x h = placed-then (walks whitespace0-chain) blank-in (placed-mapped _ (w _ h .refused))
+
+    step-kept : (x : Deep A) → DeepIn x → Gives s t DeepIn (deep-step f x)
+    unfolding deep-step
+    step-kept x h = gives-then s t (walks whitespace0-chain) (gives-mapped s t _ (w _ h .kept .holds))
+
+    run-in : Placed (deep-run f)
+    unfolding deep-run
+    run-in = placed-bind (walks chain-position) placed-position λ b h. placed-iter DeepIn (deep-step f) deeper step-on step-in (λ x y r k. step-kept x k .holds y r) _ (position-in b h)
+
+    run-kept : Gives s t DeepIn (deep-run f)
+    unfolding deep-run deeper
+    run-kept = gives-bind s t (walks chain-position) λ b h. gives-iter s t DeepIn (deep-step f) deeper step-on step-kept (λ p x r k. furthest p (x .deepest) (fails-in (step-in x k) r) k) _ (position-in b h)
+
+    deep-braces-in : Placed (deep-braces f)
+    unfolding deep-braces deep-place
+    deep-braces-in = placed-mapped _ (enclosed-in deep-place (walks (chain-inside (deep-run-inside i c))) run-in (λ x r p h. furthest p (x .deepest) h (run-kept .holds x r)))
+
+  name-in : (k j : List ℕ) → Placed (name-behind k j)
+  unfolding name-behind
+  name-in k j = search placed-rules depth 8
+
+  device-in : Placed device-type
+  unfolding device-type device-version
+  device-in = search (placed-rules, name-in) depth 16
+
+  default-in : Placed default-attribute-value
+  unfolding default-attribute-value value-tries default-string
+  default-in = search placed-rules depth 16
+
+  attribute-instance-in : Placed attribute-instantiation
+  unfolding attribute-instantiation attribute-handling-type
+  attribute-instance-in = search (placed-rules, default-in) depth 16
+
+  named-in : (k j : List ℕ) → Placed (named-after k j)
+  unfolding named-after
+  named-in k j = search (placed-rules, name-in) depth 8
+
+  instance-in : (q : ℕ) → InPart q → TriesIn (instance-tries q)
+  unfolding instance-tries
+  instance-in q h =
+      tries-next q h (placed-mapped _ attribute-instance-in) λ q h.
+      tries-next q h (placed-mapped _ (named-in _ _)) λ q h.
+      tries-next q h (placed-mapped _ (named-in _ _)) λ q h.
+      tries-end q h
+
+  instances-in : Placed (deep-braces instance-tries)
+  instances-in = deep-braces-in instance-tries instance-tries-inside instance-tries-consumes instance-in
+
+  instantiation-in : Placed cluster-instantiation
+  unfolding cluster-instantiation instantiation-head
+  instantiation-in = search (placed-rules, name-in, instances-in) depth 16
+
+  part-in : (q : ℕ) → InPart q → TriesIn (part-tries q)
+  unfolding part-tries
+  part-in q h =
+      tries-next q h (placed-mapped _ device-in) λ q h.
+      tries-next q h (placed-mapped _ (placed-then (walks whitespace0-chain) blank-in (named-in _ _))) λ q h.
+      tries-next q h (placed-mapped _ instantiation-in) λ q h.
+      tries-end q h
+
+  parts-in : Placed (deep-braces part-tries)
+  parts-in = deep-braces-in part-tries part-tries-inside part-tries-consumes part-in
+
+  endpoint-in : Placed endpoint
+  unfolding endpoint endpoint-head
+  endpoint-in = search (placed-rules, parts-in) depth 16
+
+  -- items
+  behind-doc : {A : Type 0} {f : Doc → ℕ → Parser A} → ((d : Doc) (m : ℕ) → Placed (f d m)) → Placed (with-doc-maturity f)
+  unfolding with-doc-maturity
+  behind-doc v = placed-bind (walks whitespace0-chain) blank-in λ d h. placed-then (walks whitespace0-chain) blank-in (placed-bind (walks (chain-local api-maturity-local)) maturity-in λ m k. placed-then (walks whitespace0-chain) blank-in (v d m))
+
+  pub item-in : Placed item
+  unfolding item parse-enum-after-doc-maturity parse-bitmap-after-doc-maturity
+  item-in = search (placed-rules, behind-doc, cluster-in, endpoint-in, choice-in, struct-in) depth 16
+
+  -- every refusal of an item that is read from the part
+  pub item-refused : {b : ℕ} {u : List ℕ} → Rest s t b u → RefusedIn (item b u)
+  item-refused {b} {u} h = item-in .places b u h

@@ -36,7 +36,9 @@ use Rattle.items.specs.records.{response-of}
 use Rattle.items.proofs.Locality.{braces-chain, mapped-inside, api-maturity-local, constant-annotations-list-inside, blank-entry-inside, constant-entries-list-local, shared-before-local, choice-head-local, max-length-local, list-marker-local, parse-field-inside, parse-struct-field-inside, closed-field-inside, struct-fields-local, struct-type-of-local, struct-head-local, access-privilege-local, event-priority-local, access-to-inside, event-qualities-inside, event-head-inside, command-head-inside, command-types-inside, access-entry-inside, access-entry-consumes, comma-local, separated-list0-inside, access-list-inside, attribute-access-inside, parse-cluster-member-inside, side-local, cluster-head-local, deep-run-inside, name-behind-local, device-version-local, default-attribute-value-local, attribute-handling-type-local, instance-tries-inside, instance-tries-consumes, instantiation-head-local, instances-local, part-tries-inside, part-tries-consumes, endpoint-head-local, parts-local}
 
 -- what a step leaves behind it
-pub ruleset onward-rules = (walks, advances-onward, parse-id-advances, tag-advances, integer-advances, signed-advances, keyword-chain, any-keyword-chain, whitespace0-chain, whitespace1-chain, set-flags-chain, chain-opt, chain-local, chain-inside, chain-then)
+pub ruleset token-onward = (walks, advances-onward, parse-id-advances, tag-advances, integer-advances, signed-advances, string-advances, keyword-chain, any-keyword-chain, whitespace0-chain, whitespace1-chain, set-flags-chain, parse-id-chain, chain-position, chain-opt, chain-local, chain-inside, chain-then, chain-many0, braces-chain)
+
+pub ruleset onward-rules = (token-onward, api-maturity-local, constant-annotations-list-inside, constant-entries-list-local, shared-before-local, choice-head-local, max-length-local, list-marker-local, parse-field-inside, parse-struct-field-inside, struct-fields-local, struct-type-of-local, struct-head-local, access-privilege-local, event-priority-local, access-to-inside, event-qualities-inside, event-head-inside, command-head-inside, command-types-inside, comma-local, access-entry-inside, access-entry-consumes, separated-list0-inside, access-list-inside, attribute-access-inside, parse-cluster-member-inside, side-local, cluster-head-local, name-behind-local, device-version-local, default-attribute-value-local, attribute-handling-type-local, instantiation-head-local, instances-local, endpoint-head-local, parts-local)
 
 -- every element, and an optional one
 abbrev pub All : {A : Type 0} → (A → Type 0) → List A → Type 0
@@ -453,14 +455,14 @@ module _ (s : ℕ) (t : List ℕ) where
   unfolding api-maturity
   maturity-true = from (search (gives-rules, onward-rules) depth 20)
 
-  ruleset value-rules = (gives-rules, onward-rules, token-rules, maturity-true, api-maturity-local)
+  ruleset value-rules = (gives-rules, onward-rules, token-rules, maturity-true)
 
   pub data EntryTrue (e : Entry) : Type 0 where
     true-entry : e .maturity < 2 ^ 2 → WordTrue (e .name) → e .code < 2 ^ 64 → EntryTrue e
 
   entry-true : (e : Entry) → Read constant-entry e → EntryTrue e
   unfolding constant-entry
-  entry-true = from (search (value-rules, true-entry, constant-annotations-list-inside) depth 30)
+  entry-true = from (search (value-rules, true-entry) depth 30)
 
   entries-true : (l : List Entry) → Read constant-entries-list l → All EntryTrue l
   unfolding constant-entries-list constant-entries blank-entry
@@ -474,7 +476,7 @@ module _ (s : ℕ) (t : List ℕ) where
 
   choice-head-true : (k : List ℕ) (h : ChoiceHead) → Read (choice-head k) h → ChoiceHeadTrue h
   unfolding choice-head
-  choice-head-true k = from (search (value-rules, true-choice-head, shared-before-local) depth 30)
+  choice-head-true k = from (search (value-rules, true-choice-head) depth 30)
 
   -- fields and structs
   abbrev pub NumberTrue : ℕ → Type 0
@@ -489,18 +491,18 @@ module _ (s : ℕ) (t : List ℕ) where
 
   field-true : (f : Field) → Read parse-field f → FieldTrue f
   unfolding parse-field
-  field-true = from (search (value-rules, true-field, maximum-true, max-length-local, list-marker-local) depth 24)
+  field-true = from (search (value-rules, true-field, maximum-true) depth 24)
 
   pub data StructFieldTrue (f : StructField) : Type 0 where
     true-struct-field : f .maturity < 2 ^ 2 → f .flags < 2 ^ 3 → FieldTrue (f .field) → StructFieldTrue f
 
   struct-field-true : (f : StructField) → Read parse-struct-field f → StructFieldTrue f
   unfolding parse-struct-field
-  struct-field-true = from (search (value-rules, true-struct-field, flags-0, field-true, parse-field-inside) depth 16)
+  struct-field-true = from (search (value-rules, true-struct-field, flags-0, field-true) depth 16)
 
   fields-true : (l : List StructField) → Read struct-fields l → All StructFieldTrue l
   unfolding struct-fields fields-run closed-field
-  fields-true = list-true (chain-inside closed-field-inside) (from (search (value-rules, struct-field-true, parse-struct-field-inside) depth 12))
+  fields-true = list-true (chain-inside closed-field-inside) (from (search (value-rules, struct-field-true) depth 12))
 
   pub data StructTrue (x : Struct) : Type 0 where
     true-struct : DocTrue (x .doc) → x .maturity < 2 ^ 2 → response-of (x .struct-type) < 2 ^ 64 → x .fabric-scoped < 2 ^ 1 → WordTrue (x .name) → All StructFieldTrue (x .fields) → StructTrue x
@@ -515,7 +517,7 @@ module _ (s : ℕ) (t : List ℕ) where
 
   struct-head-true : (h : StructHead) → Read struct-head h → StructHeadTrue h
   unfolding struct-head
-  struct-head-true = from (search (value-rules, true-struct-head, flags-1, type-true, struct-type-of-local) depth 24)
+  struct-head-true = from (search (value-rules, true-struct-head, flags-1, type-true) depth 24)
 
   -- events, commands and attributes
   privilege-true : (p : ℕ) → Read access-privilege p → p < 2 ^ 2
@@ -531,7 +533,7 @@ module _ (s : ℕ) (t : List ℕ) where
 
   gives-access : (k : List ℕ) → Gives PrivilegeTrue (access-to k)
   unfolding access-to
-  gives-access k = search (value-rules, privilege-true, access-privilege-local) depth 24
+  gives-access k = search (value-rules, privilege-true) depth 24
 
   read-access-true : (o : Option ℕ) → Read (opt (access-to (ascii "read"))) o → Maybe PrivilegeTrue o
   read-access-true = from (gives-opt (gives-access (ascii "read")))
@@ -549,7 +551,7 @@ module _ (s : ℕ) (t : List ℕ) where
 
   event-qualities-true : (q : EventQualities) → Read event-qualities q → EventQualitiesTrue q
   unfolding event-qualities
-  event-qualities-true = from (search (value-rules, true-event-qualities, flags-2, priority-true, event-priority-local, or-else-true, read-access-true, access-to-inside) depth 24)
+  event-qualities-true = from (search (value-rules, true-event-qualities, flags-2, priority-true, or-else-true, read-access-true) depth 24)
 
   data EventHeadTrue (h : EventHead) : Type 0 where
     true-event-head : h .sensitive < 2 ^ 1 → h .rank < 2 ^ 2 → h .privilege < 2 ^ 2 → WordTrue (h .id) → h .number < 2 ^ 64 → EventHeadTrue h
@@ -559,7 +561,7 @@ module _ (s : ℕ) (t : List ℕ) where
 
   event-head-true : (h : EventHead) → Read event-head h → EventHeadTrue h
   unfolding event-head
-  event-head-true = from (search (value-rules, event-head-of, event-qualities-true, event-qualities-inside) depth 24)
+  event-head-true = from (search (value-rules, event-head-of, event-qualities-true) depth 24)
 
   pub data EventTrue (e : Event) : Type 0 where
     true-event : DocTrue (e .doc) → e .maturity < 2 ^ 2 → e .fabric-sensitive < 2 ^ 1 → e .priority < 2 ^ 2 → e .access < 2 ^ 2 → WordTrue (e .name) → e .code < 2 ^ 64 → All StructFieldTrue (e .fields) → EventTrue e
@@ -572,7 +574,7 @@ module _ (s : ℕ) (t : List ℕ) where
 
   command-head-true : (h : CommandHead) → Read command-head h → CommandHeadTrue h
   unfolding command-head
-  command-head-true = from (search (value-rules, true-command-head, flags-3, or-else-true, invoke-access-true, access-to-inside) depth 24)
+  command-head-true = from (search (value-rules, true-command-head, flags-3, or-else-true, invoke-access-true) depth 24)
 
   data CommandTypesTrue (h : CommandTypes) : Type 0 where
     true-command-types : Maybe WordTrue (h .from) → WordTrue (h .to) → CommandTypesTrue h
@@ -582,7 +584,7 @@ module _ (s : ℕ) (t : List ℕ) where
 
   command-types-true : (h : CommandTypes) → Read command-types h → CommandTypesTrue h
   unfolding command-types
-  command-types-true = from (search (value-rules, true-command-types, input-true, parse-id-chain) depth 24)
+  command-types-true = from (search (value-rules, true-command-types, input-true) depth 24)
 
   -- an attribute's privileges
   pub data AccessTrue (a : Access) : Type 0 where
@@ -590,7 +592,7 @@ module _ (s : ℕ) (t : List ℕ) where
 
   gives-keyword : (k : List ℕ) → Gives WordTrue (keyword k)
   unfolding keyword
-  gives-keyword k = search (value-rules, chain-position) depth 8
+  gives-keyword k = search value-rules depth 8
 
   gives-any-keyword : (ks : List (List ℕ)) → Gives WordTrue (any-keyword ks)
   unfolding any-keyword
@@ -605,7 +607,7 @@ module _ (s : ℕ) (t : List ℕ) where
 
   gives-access-entry : Gives AccessTrue access-entry
   unfolding access-entry
-  gives-access-entry = search (value-rules, true-access, operation-true, privilege-true, access-privilege-local) depth 24
+  gives-access-entry = search (value-rules, true-access, operation-true, privilege-true) depth 24
 
   separated-true : {A : Type 0} {R : A → Type 0} {p : Parser (Unit {0})} {m : Parser A} → OnChain p → OnChain m → Gives R m → (l : List A) → Read (separated-list0 p m) l → All R l
   unfolding separated-list0
@@ -617,7 +619,7 @@ module _ (s : ℕ) (t : List ℕ) where
 
   gives-access-list : Gives (All AccessTrue) access-list
   unfolding access-list
-  gives-access-list = search (value-rules, accesses-true, separated-list0-inside, comma-local, access-entry-inside, access-entry-consumes) depth 24
+  gives-access-list = search (value-rules, accesses-true) depth 24
 
   listed-true : (o : Option (List Access)) → Maybe (All AccessTrue) o → All AccessTrue (listed o)
   unfolding listed
@@ -636,9 +638,12 @@ module _ (s : ℕ) (t : List ℕ) where
       g : a .granted < 2 ^ 2
       g = granted-less (h .0)
 
+  pub accesses-listed : (o : Option (List Access)) → Read (opt access-list) o → All AccessTrue (listed o)
+  accesses-listed o h = listed-true o (gives-opt gives-access-list .holds o h)
+
   privileges-true : (p : Privileges) → Read attribute-access p → PrivilegesTrue p
   unfolding attribute-access default-privileges
-  privileges-true = from (gives-bind (walks (chain-opt (chain-inside access-list-inside))) λ o h. gives-granted _ (listed o) (true-privileges (lit< tt) (lit< tt)) (listed-true o (gives-opt gives-access-list .holds o h)))
+  privileges-true = from (gives-bind (walks (chain-opt (chain-inside access-list-inside))) λ o h. gives-granted _ (listed o) (true-privileges (lit< tt) (lit< tt)) (accesses-listed o h))
 
   pub data AttributeTrue (a : Attribute) : Type 0 where
     true-attribute : DocTrue (a .doc) → a .maturity < 2 ^ 2 → a .flags < 2 ^ 4 → PrivilegesTrue (a .privileges) → StructFieldTrue (a .field) → AttributeTrue a
@@ -665,7 +670,7 @@ module _ (s : ℕ) (t : List ℕ) where
 
   cluster-head-true : (h : ClusterHead) → Read cluster-head h → ClusterHeadTrue h
   unfolding cluster-head
-  cluster-head-true = from (search (value-rules, true-cluster-head, side-local) depth 24)
+  cluster-head-true = from (search (value-rules, true-cluster-head) depth 24)
 
   -- declarations behind a doc comment and a maturity
   module _ (d : Doc) (m : ℕ) (doc : DocTrue d) (mature : m < 2 ^ 2) where
@@ -674,14 +679,14 @@ module _ (s : ℕ) (t : List ℕ) where
 
     choice-true : (k : List ℕ) (c : Choice) → Read (choice-after-doc-maturity k d m) c → ChoiceTrue c
     unfolding choice-after-doc-maturity
-    choice-true k = from (search (value-rules, choice-of, choice-head-true k, choice-head-local, entries-true, constant-entries-list-local) depth 12)
+    choice-true k = from (search (value-rules, choice-of, choice-head-true k, entries-true) depth 12)
 
     struct-of : (h : StructHead) (l : List StructField) → StructHeadTrue h → All StructFieldTrue l → StructTrue (record { doc = d; maturity = m; struct-type = h .head-type; fabric-scoped = h .head-scoped; name = h .head-name; fields = l })
     struct-of h l (true-struct-head x y n) f = true-struct doc mature x y n f
 
     struct-true : (x : Struct) → Read (parse-struct-after-doc-maturity d m) x → StructTrue x
     unfolding parse-struct-after-doc-maturity
-    struct-true = from (search (value-rules, struct-of, struct-head-true, struct-head-local, fields-true, struct-fields-local) depth 12)
+    struct-true = from (search (value-rules, struct-of, struct-head-true, fields-true) depth 12)
 
     event-of : (h : EventHead) (l : List StructField) → EventHeadTrue h → All StructFieldTrue l
         → EventTrue (record { doc = d; maturity = m; fabric-sensitive = h .sensitive; priority = h .rank; access = h .privilege; name = h .id; code = h .number; fields = l })
@@ -689,7 +694,7 @@ module _ (s : ℕ) (t : List ℕ) where
 
     event-true : (e : Event) → Read (parse-event-after-doc-maturity d m) e → EventTrue e
     unfolding parse-event-after-doc-maturity
-    event-true = from (search (value-rules, event-of, event-head-true, event-head-inside, fields-true, struct-fields-local) depth 12)
+    event-true = from (search (value-rules, event-of, event-head-true, fields-true) depth 12)
 
     command-of : (h : CommandHead) (k : CommandTypes) (c : ℕ) → CommandHeadTrue h → CommandTypesTrue k → c < 2 ^ 64
         → CommandTrue (record { doc = d; maturity = m; flags = h .qualities; access = h .privilege; name = h .id; input = k .from; output = k .to; code = c })
@@ -697,11 +702,11 @@ module _ (s : ℕ) (t : List ℕ) where
 
     command-true : (c : Command) → Read (parse-command-after-doc-maturity d m) c → CommandTrue c
     unfolding parse-command-after-doc-maturity
-    command-true = from (search (value-rules, command-of, command-head-true, command-head-inside, command-types-true, command-types-inside) depth 16)
+    command-true = from (search (value-rules, command-of, command-head-true, command-types-true) depth 16)
 
     attribute-true : (a : Attribute) → Read (parse-attribute-after-doc-maturity d m) a → AttributeTrue a
     unfolding parse-attribute-after-doc-maturity
-    attribute-true = from (search (value-rules, true-attribute, flags-4, privileges-true, attribute-access-inside, struct-field-true, parse-struct-field-inside) depth 16)
+    attribute-true = from (search (value-rules, true-attribute, flags-4, privileges-true, struct-field-true) depth 16)
 
     gives-member : Gives MemberTrue (member-tries d m)
     unfolding member-tries parse-bitmap-after-doc-maturity parse-enum-after-doc-maturity
@@ -720,7 +725,7 @@ module _ (s : ℕ) (t : List ℕ) where
 
   cluster-true : (c : Cluster) → Read parse-cluster c → ClusterTrue c
   unfolding parse-cluster cluster-after-doc-maturity cluster-members
-  cluster-true = from (search (value-rules, cluster-of, cluster-head-true, cluster-head-local, members-true, braces-chain, chain-many0, parse-cluster-member-inside) depth 16)
+  cluster-true = from (search (value-rules, cluster-of, cluster-head-true, members-true) depth 16)
 
   -- endpoints
   pub data DeviceTrue (x : DeviceType) : Type 0 where
@@ -736,7 +741,7 @@ module _ (s : ℕ) (t : List ℕ) where
 
   device-true : (x : DeviceType) → Read device-type x → DeviceTrue x
   unfolding device-type
-  device-true = from (search (value-rules, true-device, name-true (ascii "device") (ascii "type"), name-behind-local, version-true, device-version-local) depth 12)
+  device-true = from (search (value-rules, true-device, name-true (ascii "device") (ascii "type"), version-true) depth 12)
 
   abbrev pub DefaultTrue : Default → Type 0
   DefaultTrue (number n) = NumberTrue n
@@ -762,11 +767,11 @@ module _ (s : ℕ) (t : List ℕ) where
 
   attribute-instance-true : (a : AttributeInstance) → Read attribute-instantiation a → AttributeInstanceTrue a
   unfolding attribute-instantiation
-  attribute-instance-true = from (search (value-rules, true-attribute-instance, handling-true, attribute-handling-type-local, default-true, default-attribute-value-local) depth 16)
+  attribute-instance-true = from (search (value-rules, true-attribute-instance, handling-true, default-true) depth 16)
 
   named-true : (k j : List ℕ) (w : Word) → Read (named-after k j) w → WordTrue w
   unfolding named-after
-  named-true k j = from (search (value-rules, name-true k j, name-behind-local) depth 8)
+  named-true k j = from (search (value-rules, name-true k j) depth 8)
 
   abbrev pub InstanceTrue : Instance → Type 0
   InstanceTrue (attribute-instance a) = AttributeInstanceTrue a
@@ -811,11 +816,11 @@ module _ (s : ℕ) (t : List ℕ) where
 
   instantiation-head-true : (w : Word) → Read instantiation-head w → WordTrue w
   unfolding instantiation-head
-  instantiation-head-true = from (search (value-rules, name-true (ascii "server") (ascii "cluster"), name-behind-local) depth 8)
+  instantiation-head-true = from (search (value-rules, name-true (ascii "server") (ascii "cluster")) depth 8)
 
   instantiation-true : (i : Instantiation) → Read cluster-instantiation i → InstantiationTrue i
   unfolding cluster-instantiation
-  instantiation-true = from (search (value-rules, true-instantiation, instantiation-head-true, instantiation-head-local, instances-true, instances-local) depth 8)
+  instantiation-true = from (search (value-rules, true-instantiation, instantiation-head-true, instances-true) depth 8)
 
   abbrev pub PartTrue : Part → Type 0
   PartTrue (device x) = DeviceTrue x
@@ -842,7 +847,7 @@ module _ (s : ℕ) (t : List ℕ) where
 
   endpoint-true : (e : Endpoint) → Read endpoint e → EndpointTrue e
   unfolding endpoint
-  endpoint-true = from (search (value-rules, true-endpoint, endpoint-head-true, endpoint-head-local, parts-true, parts-local) depth 8)
+  endpoint-true = from (search (value-rules, true-endpoint, endpoint-head-true, parts-true) depth 8)
 
   -- items
   abbrev pub ItemTrue : Item → Type 0
