@@ -1,12 +1,13 @@
 -- Every record of what is read fits: each value its bits, each word 64 bits, and it has as many words as its kind.
 use Prim.Native.Nat.{ℕ, zero, suc, _+_, _-_, _*_, _^_, _/_, _%_, _≤_, _<_}
-use mathlib.Core.Path.{_≡_, refl, sym, _∙_, ap}
+use mathlib.Core.Path.{_≡_, refl, _∙_, ap}
 use mathlib.Core.Bool.{Bool, true, false}
 use mathlib.Core.Option.{Option, none, some}
 use mathlib.Core.List.{List, [], _∷_, _++_, map}
 use native.Mathlib.Omega.{arith}
 use lib.Dec.{lit<, lit≤}
 use lib.ListN.{length, take, drop, getD}
+use lib.Seq.{drop-at}
 use Rattle.lexing.specs.reply.{ok}
 use Rattle.lexing.specs.words.{Word, word, offsetOf, bytesOf}
 use Rattle.lexing.specs.integers.{Signed, signed, largest}
@@ -14,16 +15,16 @@ use Rattle.lexing.specs.blanks.{Doc, no-doc, doc-at}
 use Rattle.lexing.specs.strings.{span}
 use Rattle.lexing.specs.word_sets.{bit}
 use Rattle.lexing.specs.answers.{Rest}
-use Rattle.items.specs.entries.{present, Entry, Choice}
+use Rattle.items.specs.entries.{Entry, Choice}
 use Rattle.items.specs.structs.{StructField, StructType, regular, request, response, shared, Struct}
 use Rattle.items.specs.members.{or-else, Event, Command, Attribute}
 use Rattle.items.specs.clusters.{Member, revision, bitmap, enum, struct, attribute, command, event, Cluster}
 use Rattle.items.specs.endpoints.{Default, number, signed-number, truth, text, Instance, attribute-instance, command-instance, event-instance, Part, device, binding, instantiation, Endpoint}
 use Rattle.items.specs.items.{Item, cluster-item, endpoint-item, enum-item, bitmap-item, struct-item, blank-item, item}
-use Rattle.items.specs.records.{Extent, absent, at, Bits, bits, Further, value, spanned, Record, word-extent, optional-extent, doc-extent, doc-bit, flag, plain, documented, entry-record, choice-records, field-record, struct-number, response-of, struct-records, attribute-records, command-record, event-records, each, last-revision, member-records, cluster-records, default-number, twos-complement, default-word, instance-record, part-records, endpoint-records, further-of-kind, item-records}
-use Rattle.items.specs.layout.{packed, width, from-top, offset, size, Layout, layout-20, further-word, record-words, words-of-kind, catalogue-words, text-limit}
-use Rattle.items.proofs.Truth.{All, Maybe, InRange, WordTrue, SpanTrue, DocTrue, NumberTrue, EntryTrue, true-entry, ChoiceTrue, true-choice, FieldTrue, true-field, StructFieldTrue, true-struct-field, StructTrue, true-struct, EventTrue, true-event, CommandTrue, true-command, PrivilegesTrue, true-privileges, AttributeTrue, true-attribute, MemberTrue, ClusterTrue, true-cluster, DeviceTrue, true-device, DefaultTrue, AttributeInstanceTrue, true-attribute-instance, InstanceTrue, InstantiationTrue, true-instantiation, PartTrue, EndpointTrue, true-endpoint, ItemTrue, item-true}
-use Rattle.items.proofs.Packing.{Fit, packed-less, top-back, bits-of, value-of, values-back, from-top-less}
+use Rattle.items.specs.records.{Extent, absent, at, Bits, bits, Further, value, spanned, Record, word-extent, optional-extent, doc-extent, doc-bit, flag, plain, documented, entry-record, choice-records, field-record, struct-number, struct-records, attribute-records, command-record, event-records, each, last-revision, member-records, cluster-records, default-number, twos-complement, default-word, instance-record, part-records, endpoint-records, further-of-kind, item-records}
+use Rattle.items.specs.layout.{packed, width, from-top, offset, size, Layout, layout-20, further-word, record-words, words-of-kind, from-big-endian, words-bytes, catalogue-words, text-limit}
+use Rattle.items.proofs.Truth.{All, Maybe, InRange, WordTrue, DocTrue, EntryTrue, true-entry, ChoiceTrue, true-choice, true-field, StructFieldTrue, true-struct-field, StructTrue, true-struct, EventTrue, true-event, CommandTrue, true-command, true-privileges, AttributeTrue, true-attribute, MemberTrue, ClusterTrue, true-cluster, true-device, DefaultTrue, true-attribute-instance, InstanceTrue, true-instantiation, PartTrue, EndpointTrue, true-endpoint, ItemTrue, item-true}
+use Rattle.items.proofs.Packing.{Fit, packed-less, top-back, bits-of, value-of, values-back, from-top-less, word-back, word-bytes-at}
 
 -- lists
 pub all-append : {A : Type 0} (Q : A → Type 0) (l k : List A) → All Q l → All Q k → All Q (l ++ k)
@@ -38,6 +39,11 @@ pub all-each : {A B : Type 0} (Q : A → Type 0) (R : B → Type 0) (f : A → L
 unfolding each
 all-each Q R f v [] h = tt
 all-each Q R f v (a ∷ l) h = all-append R (f a) (each f l) (v a (h .0)) (all-each Q R f v l (h .1))
+
+pub all-at : {A : Type 0} (Q : A → Type 0) (d : A) (l : List A) (i : ℕ) → All Q l → i < length l → Q (getD l i d)
+all-at Q d [] i h k = absurd (omega arith)
+all-at Q d (a ∷ l) zero h k = h .0
+all-at Q d (a ∷ l) (suc i) h k = all-at Q d l i (h .1) (omega arith)
 
 -- before offset n
 abbrev pub ExtentIn : ℕ → Extent → Type 0
@@ -289,6 +295,10 @@ pub catalogue-fits : {L : Layout} {n : ℕ} → LayoutFits L n → (l : List Rec
 unfolding catalogue-words
 catalogue-fits {L} {n} f l h = all-each (RecordFits n) Word64 (record-words L) (words-fit f) l h
 
+-- words that fit come back from their bytes
+pub words-back : (l : List ℕ) → All Word64 l → (i : ℕ) → i < length l → from-big-endian (take 8 (drop (8 * i) (words-bytes l))) ≡ getD l i 0
+words-back l h i k = ap from-big-endian (word-bytes-at l i k) ∙ word-back 8 (getD l i 0) (all-at Word64 0 l i h k)
+
 -- as many words as its kind has
 length-map : {A B : Type 0} (f : A → B) (l : List A) → length (map f l) ≡ length l
 length-map f [] = refl
@@ -308,6 +318,15 @@ first-word r = packed 0 (first-bits r)
 pub words-split : (r : Record) → record-words layout-20 r ≡ first-word r ∷ map (further-word layout-20) (r .further)
 unfolding record-words layout-20 first-word first-bits
 words-split r = refl
+
+-- a catalogue's first word, and its words behind the first record
+pub catalogue-first : (r : Record) (l : List Record) → getD (catalogue-words layout-20 (r ∷ l)) 0 0 ≡ first-word r
+unfolding catalogue-words each record-words layout-20 first-word first-bits
+catalogue-first r l = refl
+
+pub catalogue-next : {n : ℕ} (r : Record) (l : List Record) → RecordFits n r → drop (words-of-kind (r .kind)) (catalogue-words layout-20 (r ∷ l)) ≡ catalogue-words layout-20 l
+unfolding catalogue-words each
+catalogue-next r l h = drop-at (record-words layout-20 r) (each (record-words layout-20) l) (words-of-kind (r .kind)) (words-count r h)
 
 module _ {n : ℕ} (limit : n ≤ text-limit) where
   module _ (r : Record) (h : RecordFits n r) where

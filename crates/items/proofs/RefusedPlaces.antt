@@ -7,7 +7,7 @@ use mathlib.Core.List.{List, [], _∷_}
 use native.Mathlib.Omega.{arith}
 use lib.Dec.{leb, eqb, lit≤}
 use lib.ListN.{length}
-use Rattle.lexing.specs.bytes.{ascii, quote, backslash, slash, star, plus, minus, isLetter, isDigit, isHex, isSpace, inLine}
+use Rattle.lexing.specs.bytes.{quote, backslash, slash, star, plus, minus, isLetter, isDigit, isHex, isSpace, inLine}
 use Rattle.lexing.specs.reply.{Reply, ok, fail, stop, Parser, ret, _>>=_, _>>_, opt, further, _or_, prepend, manyWithin, many0, iterWithin, iter, keep, position, failAt, stopAt, catch, pick}
 use Rattle.lexing.specs.words.{Word, offsetOf, parse-id, keyword, any-keyword, tag}
 use Rattle.lexing.specs.integers.{u64-max, fitting, hex-integer, decimal-integer, positive-integer, largest, in-range, after-sign, signed-integer}
@@ -21,10 +21,10 @@ use Rattle.lexing.proofs.Locality.{LocalInside, Consumes, chain-position, chain
 use Rattle.lexing.proofs.TokenLocality.{whitespace0-chain, whitespace1-chain, one-blank-chain, set-step-chain}
 use Rattle.items.specs.entries.{enclosed, where-missing, braces, api-maturity, constant-annotation, blank-annotation, annotations-in-brackets, constant-annotations-list, constant-entry, blank-entry, constant-entries, constant-entries-list, shared-before, choice-head, choice-after-doc-maturity, parse-enum-after-doc-maturity, parse-bitmap-after-doc-maturity}
 use Rattle.items.specs.structs.{max-length, list-marker, parse-field, parse-struct-field, closed-field, fields-run, struct-fields, response-code, struct-kind, struct-type-of, struct-head, parse-struct-after-doc-maturity}
-use Rattle.items.specs.members.{access-privilege, event-priority, access-to, event-qualities, event-head, parse-event-after-doc-maturity, command-head, command-types, parse-command-after-doc-maturity, Access, access-entry, comma, separated-list0, access-list, Privileges, granted-by, default-privileges, listed, attribute-access, parse-attribute-after-doc-maturity}
+use Rattle.items.specs.members.{access-privilege, event-priority, access-to, event-qualities, event-head, parse-event-after-doc-maturity, command-head, command-types, parse-command-after-doc-maturity, Access, access-entry, comma, separated-list0, access-list, Privileges, granted-by, listed, attribute-access, parse-attribute-after-doc-maturity}
 use Rattle.items.specs.clusters.{mapped, parse-revision, member-tries, parse-cluster-member, cluster-members, side, cluster-head, cluster-after-doc-maturity, parse-cluster}
 use Rattle.items.specs.endpoints.{Tried, Deep, intercept, deep-step, deeper, deep-run, deep-place, deep-braces, name-behind, device-version, device-type, value-tries, default-attribute-value, attribute-handling-type, attribute-instantiation, named-after, instance-tries, instantiation-head, cluster-instantiation, part-tries, endpoint-head, endpoint}
-use Rattle.items.specs.items.{Item, with-doc-maturity, item}
+use Rattle.items.specs.items.{with-doc-maturity, item}
 use Rattle.items.proofs.Locality.{mapped-inside, api-maturity-local, constant-annotation-local, blank-entry-inside, closed-field-inside, access-list-inside, deep-run-inside, instance-tries-inside, instance-tries-consumes, part-tries-inside, part-tries-consumes}
 use Rattle.items.proofs.Truth.{All, rest-on, onward-rules, Read, FailsAt, Gives, gives-fail, gives-catch, gives-bind, gives-then, gives-mapped, gives-iter, AccessTrue, true-access, accesses-listed}
 

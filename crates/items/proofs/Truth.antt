@@ -1,6 +1,6 @@
 -- What is read stands in the text: every name is the text's bytes at its offset, every span lies inside, every number fits its bits.
 -- A part t of the text begins at offset s; a declaration is read somewhere in it. For a whole text s is 0.
-use Prim.Native.Nat.{ℕ, zero, suc, _+_, _-_, _*_, _^_, _≤_, _<_, max}
+use Prim.Native.Nat.{ℕ, zero, suc, _+_, _-_, _*_, _^_, _≤_, _<_}
 use mathlib.Core.Path.{_≡_, refl, sym, _∙_, ap, subst}
 use mathlib.Core.Bool.{Bool, true, false, _&&_, _||_}
 use mathlib.Core.Option.{Option, none, some}
@@ -9,7 +9,7 @@ use native.Mathlib.Omega.{arith}
 use native.Mathlib.Nat.{pow-suc}
 use lib.Dec.{leb, eqb, lit<}
 use lib.ListN.{length, take, drop}
-use Rattle.lexing.specs.reply.{Reply, ok, fail, stop, Parser, ret, _>>=_, _>>_, opt, further, _or_, prepend, manyWithin, many0, iterWithin, iter, position, failAt, stopAt, catch, pick}
+use Rattle.lexing.specs.reply.{Reply, ok, fail, stop, Parser, ret, _>>=_, _>>_, opt, further, _or_, prepend, manyWithin, many0, iterWithin, iter, failAt, stopAt, catch, pick}
 use Rattle.lexing.specs.bytes.{ascii, quote, backslash, plus, minus, isLetter, isDigit, isWord, isHex, takeWhile, dropWhile}
 use Rattle.lexing.specs.words.{Word, word, offsetOf, bytesOf, parse-id, keyword, any-keyword}
 use Rattle.lexing.specs.integers.{u64-max, fitting, hex-integer, decimal-integer, positive-integer, Signed, signed, largest, in-range, after-sign, signed-integer}
@@ -875,3 +875,10 @@ module _ (s : ℕ) (t : List ℕ) where
   -- every item that is read from the part
   pub item-true : {b c : ℕ} {u r : List ℕ} {i : Item} → Rest s t b u → item b u ≡ ok i c r → ItemTrue i
   item-true {b} {c} {u} {r} {i} h e = item-gives .holds i (record { base = b; rest = u; stands = h; next = c; left = r; reads = e })
+
+  -- the names by which types are hoisted
+  pub choice-name : {c : Choice} → ChoiceTrue c → WordTrue (c .name)
+  choice-name (true-choice d m n b e) = n
+
+  pub struct-name : {x : Struct} → StructTrue x → WordTrue (x .name)
+  struct-name (true-struct d m y q n f) = n
