@@ -8,7 +8,8 @@ use mathlib.Core.List.{List, [], _∷_, _++_}
 use native.Mathlib.Omega.{arith}
 use native.Mathlib.Nat.{pow-suc}
 use lib.Dec.{leb, eqb, lit<}
-use lib.ListN.{length, take, drop}
+use lib.ListN.{length, take, drop, length-append, length-drop}
+use lib.Seq.{drop-append-add, drop-append-le, take-append-le}
 use Rattle.lexing.specs.reply.{Reply, ok, fail, stop, Parser, ret, _>>=_, _>>_, opt, further, _or_, prepend, manyWithin, many0, iterWithin, iter, failAt, stopAt, catch, pick}
 use Rattle.lexing.specs.bytes.{ascii, quote, backslash, plus, minus, isLetter, isDigit, isWord, isHex, takeWhile, dropWhile}
 use Rattle.lexing.specs.words.{Word, word, offsetOf, bytesOf, parse-id, keyword, any-keyword}
@@ -882,3 +883,19 @@ module _ (s : ℕ) (t : List ℕ) where
 
   pub struct-name : {x : Struct} → StructTrue x → WordTrue (x .name)
   struct-name (true-struct d m y q n f) = n
+
+-- a name of a part is a name of the text around the part
+pub word-around : (s : ℕ) (front part back : List ℕ) {w : Word} → WordTrue (s + length front) part w → WordTrue s (front ++ (part ++ back)) w
+word-around s front part back {w} h =
+    let i : ℕ = offsetOf w - (s + length front) in
+    let z : offsetOf w - s ≡ length front + i = omega (arith, h .after) in
+    let l : i ≤ length part = omega (arith, h .after, h .inside) in
+    let k : length (bytesOf w) ≤ length (drop i part) = omega (arith, h .after, h .inside, length-drop i part) in
+    record {
+      after = omega (arith, h .after);
+      inside = omega (arith, h .inside, length-append front (part ++ back), length-append part back);
+      same =
+          ap (λ j. take (length (bytesOf w)) (drop j (front ++ (part ++ back)))) z
+          ∙ (ap (take (length (bytesOf w))) (drop-append-add front (part ++ back) i ∙ drop-append-le i part back l)
+          ∙ (take-append-le (length (bytesOf w)) (drop i part) back k ∙ h .same));
+    }
