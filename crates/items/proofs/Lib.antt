@@ -17,7 +17,8 @@ pub mod Headed
 pub mod WordBetween
 pub mod RecordWords
 pub mod SetSizes
--- what is read stands in the text; where it is refused
+-- a parser that succeeds ends inside its text; what is read stands in the text; where it is refused
+pub mod Onward
 pub mod Truth
 pub mod RefusedPlaces
 -- what was packed comes back; a word comes back from its bytes

@@ -114,28 +114,28 @@ unfolding documented
 documented-fits k p m d f e x y l hk hp hm hd hf hw he hx hy hl hc =
     record { kind-fits = hk; place-fits = hp; maturity-fits = hm; doc-fits = doc-bit-fits d; flags-fit = hf; flags-width = hw; name-inside = he; first-fits = hx; second-fits = hy; further-fit = (hd, hl); further-count = hc }
 
-module _ (s : ℕ) (t : List ℕ) where
+module _ (s : ℕ) (t : List ℕ) (end : ℕ) where
   abbrev Fits : Record → Type 0
-  Fits r = RecordFits (s + length t) r
+  Fits r = RecordFits end r
 
   abbrev Inside : Extent → Type 0
-  Inside e = ExtentIn (s + length t) e
+  Inside e = ExtentIn end e
 
-  word-in : (w : Word) → WordTrue s t w → Inside (word-extent w)
+  word-in : (w : Word) → WordTrue s t end w → Inside (word-extent w)
   unfolding word-extent offsetOf bytesOf
   word-in (word o w) h = h .inside
 
-  optional-in : (o : Option Word) → Maybe (WordTrue s t) o → Inside (optional-extent o)
+  optional-in : (o : Option Word) → Maybe (WordTrue s t end) o → Inside (optional-extent o)
   unfolding optional-extent
   optional-in none h = tt
   optional-in (some w) h = word-in w h
 
-  doc-in : (d : Doc) → DocTrue s t d → Inside (doc-extent d)
+  doc-in : (d : Doc) → DocTrue s t end d → Inside (doc-extent d)
   unfolding doc-extent
   doc-in no-doc h = tt
   doc-in (doc-at o n) h = h .1
 
-  default-in : (o : Option Default) → Maybe (DefaultTrue s t) o → FurtherIn (s + length t) (default-word o)
+  default-in : (o : Option Default) → Maybe (DefaultTrue s t end) o → FurtherIn end (default-word o)
   unfolding default-word
   default-in none h = lit< tt
   default-in (some (number n)) h = h
@@ -143,61 +143,61 @@ module _ (s : ℕ) (t : List ℕ) where
   default-in (some (truth z)) h = let k = bit-fits z in omega (arith, k)
   default-in (some (text (span o n))) h = h .1
 
-  entry-fits : (e : Entry) → EntryTrue s t e → Fits (entry-record e)
+  entry-fits : (e : Entry) → EntryTrue s t end e → Fits (entry-record e)
   unfolding entry-record width further-of-kind
   entry-fits e (true-entry m n c) = plain-fits _ _ _ _ _ (lit< tt) m tt (lit≤ tt) (word-in (e .name) n) (c, tt) refl
 
-  choice-fits : (k : ℕ) → k < 2 ^ 8 → 2 ≡ further-of-kind k → (p : ℕ) → p < 2 ^ 2 → (c : Choice) → ChoiceTrue s t c → All Fits (choice-records k p c)
+  choice-fits : (k : ℕ) → k < 2 ^ 8 → 2 ≡ further-of-kind k → (p : ℕ) → p < 2 ^ 2 → (c : Choice) → ChoiceTrue s t end c → All Fits (choice-records k p c)
   unfolding choice-records width flag
   choice-fits k hk hc p hp c (true-choice d m n b e) =
-      (documented-fits _ _ _ _ _ _ _ _ _ hk hp m (doc-in (c .doc) d) (bit-fits _, tt) (lit≤ tt) (word-in (c .name) n) (lit< tt) (lit< tt) (word-in (c .base) b, tt) hc, all-map (EntryTrue s t) Fits entry-record entry-fits (c .entries) e)
+      (documented-fits _ _ _ _ _ _ _ _ _ hk hp m (doc-in (c .doc) d) (bit-fits _, tt) (lit≤ tt) (word-in (c .name) n) (lit< tt) (lit< tt) (word-in (c .base) b, tt) hc, all-map (EntryTrue s t end) Fits entry-record entry-fits (c .entries) e)
 
-  field-fits : (f : StructField) → StructFieldTrue s t f → Fits (field-record f)
+  field-fits : (f : StructField) → StructFieldTrue s t end f → Fits (field-record f)
   unfolding field-record width flag further-of-kind
   field-fits f (true-struct-field m q (true-field y x n c)) =
       plain-fits _ _ _ _ _ (lit< tt) m (bit-fits _, (bit-fits _, (q, tt))) (lit≤ tt) (word-in (f .field .name) n) (word-in (f .field .data-type) y, (c, (maximum-fits (f .field .maximum) x, tt))) refl
 
-  fields-fit : (l : List StructField) → All (StructFieldTrue s t) l → All Fits (map field-record l)
-  fields-fit l h = all-map (StructFieldTrue s t) Fits field-record field-fits l h
+  fields-fit : (l : List StructField) → All (StructFieldTrue s t end) l → All Fits (map field-record l)
+  fields-fit l h = all-map (StructFieldTrue s t end) Fits field-record field-fits l h
 
-  struct-fits : (p : ℕ) → p < 2 ^ 2 → (x : Struct) → StructTrue s t x → All Fits (struct-records p x)
+  struct-fits : (p : ℕ) → p < 2 ^ 2 → (x : Struct) → StructTrue s t end x → All Fits (struct-records p x)
   unfolding struct-records width further-of-kind
   struct-fits p hp x (true-struct d m y q n f) =
       (documented-fits _ _ _ _ _ _ _ _ _ (lit< tt) hp m (doc-in (x .doc) d) (struct-number-fits _, (q, tt)) (lit≤ tt) (word-in (x .name) n) (lit< tt) (lit< tt) (y, tt) refl, fields-fit (x .fields) f)
 
-  attribute-fits : (a : Attribute) → AttributeTrue s t a → All Fits (attribute-records a)
+  attribute-fits : (a : Attribute) → AttributeTrue s t end a → All Fits (attribute-records a)
   unfolding attribute-records width further-of-kind
   attribute-fits a (true-attribute d m q (true-privileges r w) f) =
       (documented-fits _ _ _ _ _ _ _ _ _ (lit< tt) (lit< tt) m (doc-in (a .doc) d) (q, tt) (lit≤ tt) tt r w tt refl, (field-fits (a .field) f, tt))
 
-  command-fits : (c : Command) → CommandTrue s t c → Fits (command-record c)
+  command-fits : (c : Command) → CommandTrue s t end c → Fits (command-record c)
   unfolding command-record width flag further-of-kind
   command-fits c (true-command d m q a n i o z) =
       documented-fits _ _ _ _ _ _ _ _ _ (lit< tt) (lit< tt) m (doc-in (c .doc) d) (q, (bit-fits _, tt)) (lit≤ tt) (word-in (c .name) n) a (lit< tt) (optional-in (c .input) i, (word-in (c .output) o, (z, tt))) refl
 
-  event-fits : (e : Event) → EventTrue s t e → All Fits (event-records e)
+  event-fits : (e : Event) → EventTrue s t end e → All Fits (event-records e)
   unfolding event-records width further-of-kind
   event-fits e (true-event d m q y a n c f) =
       (documented-fits _ _ _ _ _ _ _ _ _ (lit< tt) (lit< tt) m (doc-in (e .doc) d) (y, (q, tt)) (lit≤ tt) (word-in (e .name) n) a (lit< tt) (c, tt) refl, fields-fit (e .fields) f)
 
-  instance-fits : (i : Instance) → InstanceTrue s t i → Fits (instance-record i)
+  instance-fits : (i : Instance) → InstanceTrue s t end i → Fits (instance-record i)
   unfolding instance-record width further-of-kind
   instance-fits (attribute-instance a) (true-attribute-instance y n o) = plain-fits _ _ _ _ _ (lit< tt) (lit< tt) (y, (default-number-fits _, tt)) (lit≤ tt) (word-in (a .name) n) (default-in (a .default) o, tt) refl
   instance-fits (command-instance n) h = plain-fits _ _ _ _ _ (lit< tt) (lit< tt) tt (lit≤ tt) (word-in n h) tt refl
   instance-fits (event-instance n) h = plain-fits _ _ _ _ _ (lit< tt) (lit< tt) tt (lit≤ tt) (word-in n h) tt refl
 
-  part-fits : (p : Part) → PartTrue s t p → All Fits (part-records p)
+  part-fits : (p : Part) → PartTrue s t end p → All Fits (part-records p)
   unfolding part-records width further-of-kind
   part-fits (device x) (true-device n c v) = (plain-fits _ _ _ _ _ (lit< tt) (lit< tt) tt (lit≤ tt) (word-in (x .name) n) (c, (v, tt)) refl, tt)
   part-fits (binding n) h = (plain-fits _ _ _ _ _ (lit< tt) (lit< tt) tt (lit≤ tt) (word-in n h) tt refl, tt)
   part-fits (instantiation i) (true-instantiation n l) =
-      (plain-fits _ _ _ _ _ (lit< tt) (lit< tt) tt (lit≤ tt) (word-in (i .name) n) tt refl, all-map (InstanceTrue s t) Fits instance-record instance-fits (i .instances) l)
+      (plain-fits _ _ _ _ _ (lit< tt) (lit< tt) tt (lit≤ tt) (word-in (i .name) n) tt refl, all-map (InstanceTrue s t end) Fits instance-record instance-fits (i .instances) l)
 
-  endpoint-fits : (e : Endpoint) → EndpointTrue s t e → All Fits (endpoint-records e)
+  endpoint-fits : (e : Endpoint) → EndpointTrue s t end e → All Fits (endpoint-records e)
   unfolding endpoint-records width further-of-kind
-  endpoint-fits e (true-endpoint n l) = (plain-fits _ _ _ _ _ (lit< tt) (lit< tt) tt (lit≤ tt) tt (n, tt) refl, all-each (PartTrue s t) Fits part-records part-fits (e .parts) l)
+  endpoint-fits e (true-endpoint n l) = (plain-fits _ _ _ _ _ (lit< tt) (lit< tt) tt (lit≤ tt) tt (n, tt) refl, all-each (PartTrue s t end) Fits part-records part-fits (e .parts) l)
 
-  revision-fits : (z : ℕ) (l : List Member) → z < 2 ^ 64 → All (MemberTrue s t) l → last-revision z l < 2 ^ 64
+  revision-fits : (z : ℕ) (l : List Member) → z < 2 ^ 64 → All (MemberTrue s t end) l → last-revision z l < 2 ^ 64
   unfolding last-revision
   revision-fits z [] hz h = hz
   revision-fits z (revision n ∷ l) hz h = revision-fits n l (h .0) (h .1)
@@ -209,7 +209,7 @@ module _ (s : ℕ) (t : List ℕ) where
   revision-fits z (event e ∷ l) hz h = revision-fits z l hz (h .1)
 
   module _ (place : Member → ℕ) (small : (m : Member) → place m < 2 ^ 2) where
-    member-fits : (m : Member) → MemberTrue s t m → All Fits (member-records place m)
+    member-fits : (m : Member) → MemberTrue s t end m → All Fits (member-records place m)
     unfolding member-records further-of-kind
     member-fits (revision n) h = tt
     member-fits (bitmap c) h = choice-fits 3 (lit< tt) refl _ (small _) c h
@@ -219,12 +219,12 @@ module _ (s : ℕ) (t : List ℕ) where
     member-fits (command c) h = (command-fits c h, tt)
     member-fits (event e) h = event-fits e h
 
-    cluster-fits : (c : Cluster) → ClusterTrue s t c → All Fits (cluster-records place c)
+    cluster-fits : (c : Cluster) → ClusterTrue s t end c → All Fits (cluster-records place c)
     unfolding cluster-records width further-of-kind
     cluster-fits c (true-cluster d m n z l) =
-        (documented-fits _ _ _ _ _ _ _ _ _ (lit< tt) (lit< tt) m (doc-in (c .doc) d) tt (lit≤ tt) (word-in (c .name) n) (lit< tt) (lit< tt) (z, (revision-fits 0 (c .members) (lit< tt) l, tt)) refl, all-each (MemberTrue s t) Fits (member-records place) member-fits (c .members) l)
+        (documented-fits _ _ _ _ _ _ _ _ _ (lit< tt) (lit< tt) m (doc-in (c .doc) d) tt (lit≤ tt) (word-in (c .name) n) (lit< tt) (lit< tt) (z, (revision-fits 0 (c .members) (lit< tt) l, tt)) refl, all-each (MemberTrue s t end) Fits (member-records place) member-fits (c .members) l)
 
-    pub item-fits : (top : ℕ) → top < 2 ^ 2 → (i : Item) → ItemTrue s t i → All Fits (item-records top place i)
+    pub item-fits : (top : ℕ) → top < 2 ^ 2 → (i : Item) → ItemTrue s t end i → All Fits (item-records top place i)
     unfolding item-records further-of-kind
     item-fits top h (cluster-item c) k = cluster-fits c k
     item-fits top h (endpoint-item e) k = endpoint-fits e k
@@ -234,11 +234,11 @@ module _ (s : ℕ) (t : List ℕ) where
     item-fits top h blank-item k = tt
 
   -- every item that is read from the part
-  pub read-fits : {b c : ℕ} {u r : List ℕ} {i : Item} → Rest s t b u → item b u ≡ ok i c r → (top : ℕ) → top < 2 ^ 2 → (place : Member → ℕ) → ((m : Member) → place m < 2 ^ 2) → All Fits (item-records top place i)
-  read-fits {i = i} h e top k place small = item-fits place small top k i (item-true s t h e)
+  pub read-fits : {b c : ℕ} {u r : List ℕ} {i : Item} → Rest s t b u → item b u ≡ ok i c r → c ≤ end → (top : ℕ) → top < 2 ^ 2 → (place : Member → ℕ) → ((m : Member) → place m < 2 ^ 2) → All Fits (item-records top place i)
+  read-fits {i = i} h e f top k place small = item-fits place small top k i (item-true s t end h e f)
 
   -- a name's extent in the text
-  pub name-bytes : (w : Word) → WordTrue s t w → take (size (word-extent w)) (drop (offset (word-extent w) - s) t) ≡ bytesOf w
+  pub name-bytes : (w : Word) → WordTrue s t end w → take (size (word-extent w)) (drop (offset (word-extent w) - s) t) ≡ bytesOf w
   unfolding word-extent size offset offsetOf bytesOf
   name-bytes (word o w) h = h .same
 

@@ -17,7 +17,7 @@ use Rattle.lexing.specs.word_sets.{next-word, set-step, keywords-set, set-of, s
 use Rattle.lexing.specs.answers.{Rest}
 use Rattle.lexing.proofs.Onward.{Ends, Onward, advances-onward, parse-id-advances, tag-advances, group-advances}
 use Rattle.lexing.proofs.Slicing.{walks}
-use Rattle.lexing.proofs.Locality.{LocalInside, Consumes, chain-position, chain-then, chain-opt, chain-local, chain-inside}
+use Rattle.lexing.proofs.Locality.{OnChain, LocalInside, Consumes, chain-position, chain-iter, chain-then, chain-opt, chain-local, chain-inside}
 use Rattle.lexing.proofs.TokenLocality.{whitespace0-chain, whitespace1-chain, one-blank-chain, set-step-chain}
 use Rattle.items.specs.entries.{enclosed, where-missing, braces, api-maturity, constant-annotation, blank-annotation, annotations-in-brackets, constant-annotations-list, constant-entry, blank-entry, constant-entries, constant-entries-list, shared-before, choice-head, choice-after-doc-maturity, parse-enum-after-doc-maturity, parse-bitmap-after-doc-maturity}
 use Rattle.items.specs.structs.{max-length, list-marker, parse-field, parse-struct-field, closed-field, fields-run, struct-fields, response-code, struct-kind, struct-type-of, struct-head, parse-struct-after-doc-maturity}
@@ -26,12 +26,16 @@ use Rattle.items.specs.clusters.{mapped, parse-revision, member-tries, p
 use Rattle.items.specs.endpoints.{Tried, Deep, intercept, deep-step, deeper, deep-run, deep-place, deep-braces, name-behind, device-version, device-type, value-tries, default-attribute-value, attribute-handling-type, attribute-instantiation, named-after, instance-tries, instantiation-head, cluster-instantiation, part-tries, endpoint-head, endpoint}
 use Rattle.items.specs.items.{with-doc-maturity, item}
 use Rattle.items.proofs.Locality.{mapped-inside, api-maturity-local, constant-annotation-local, blank-entry-inside, closed-field-inside, access-list-inside, deep-run-inside, instance-tries-inside, instance-tries-consumes, part-tries-inside, part-tries-consumes}
-use Rattle.items.proofs.Truth.{All, rest-on, onward-rules, Read, FailsAt, Gives, gives-fail, gives-catch, gives-bind, gives-then, gives-mapped, gives-iter, AccessTrue, true-access, accesses-listed}
+use Rattle.items.proofs.Onward.{rest-on}
+use Rattle.items.proofs.Truth.{All, onward-rules, Read, FailsAt, Gives, gives-fail, gives-catch, gives-bind, gives-then, gives-mapped, gives-iter, AccessTrue, true-access, accesses-listed}
 
 module _ (s : ℕ) (t : List ℕ) where
+  abbrev end : ℕ
+  end = s + length t
+
   pub record InPart (p : ℕ) : Type 0 where
     pub after : s ≤ p
-    pub before : p ≤ s + length t
+    pub before : p ≤ end
 
   abbrev pub RefusedIn : {A : Type 0} → Reply A → Type 0
   RefusedIn (ok a c r) = Unit {0}
@@ -109,7 +113,7 @@ module _ (s : ℕ) (t : List ℕ) where
     many-within {m} w v (suc n) b u h = go (m b u) refl (w .onward b u) (v .places b u h) (many-within w v n)
       where
         go : (x : Reply A) → m b u ≡ x → Ends b u x → RefusedIn x → ((b : ℕ) (u : List ℕ) → Rest s t b u → RefusedIn (manyWithin n m b u)) → RefusedIn (manyWithin (suc n) m b u)
-        go (ok a c r) e p i ih = rw (e, manyWithin) (prepend-in a (manyWithin n m c r) (ih c r (rest-on h (p .0) (p .1))))
+        go (ok a c r) e p i ih = rw (e, manyWithin) (prepend-in a (manyWithin n m c r) (ih c r (rest-on a h p)))
         go (fail q) e p i ih = rw (e, manyWithin) tt
         go (stop k q) e p i ih = rw (e, manyWithin) i
 
@@ -117,14 +121,14 @@ module _ (s : ℕ) (t : List ℕ) where
     unfolding many0
     placed-many0 w v = record { places = λ b u h. many-within w v (suc (length u)) b u h }
 
-  module _ {S : Type 0} (Q : S → Type 0) (f : S → Parser S) (g : ℕ → S → S) (w : (x : S) → Onward (f x)) (v : (x : S) → Q x → Placed (f x)) (k : (x y : S) → Read s t (f x) y → Q x → Q y) where
+  module _ {S : Type 0} (Q : S → Type 0) (f : S → Parser S) (g : ℕ → S → S) (w : (x : S) → Onward (f x)) (v : (x : S) → Q x → Placed (f x)) (k : (x y : S) → Read s t end (f x) y → Q x → Q y) where
     iter-within : (n : ℕ) (x : S) (b : ℕ) (u : List ℕ) → Q x → Rest s t b u → RefusedIn (iterWithin n f g x b u)
     unfolding iterWithin
     iter-within zero x b u q h = tt
     iter-within (suc n) x b u q h = go (f x b u) refl (w x .onward b u) (v x q .places b u h) (iter-within n)
       where
         go : (y : Reply S) → f x b u ≡ y → Ends b u y → RefusedIn y → ((x : S) (b : ℕ) (u : List ℕ) → Q x → Rest s t b u → RefusedIn (iterWithin n f g x b u)) → RefusedIn (iterWithin (suc n) f g x b u)
-        go (ok a c r) e p i ih = rw (e, iterWithin) (ih a c r (k x a (record { base = b; rest = u; stands = h; next = c; left = r; reads = e }) q) (rest-on h (p .0) (p .1)))
+        go (ok a c r) e p i ih = let z = rest-on a h p in rw (e, iterWithin) (ih a c r (k x a (record { base = b; rest = u; stands = h; next = c; left = r; reads = e; before = omega (arith, z .size) }) q) z)
         go (fail j) e p i ih = rw (e, iterWithin) tt
         go (stop l j) e p i ih = rw (e, iterWithin) i
 
@@ -133,12 +137,12 @@ module _ (s : ℕ) (t : List ℕ) where
     placed-iter x q = record { places = λ b u h. iter-within (suc (length u)) x b u q h }
 
   module _ {A B : Type 0} {m : Parser A} where
-    pub placed-bind : {k : A → Parser B} → Onward m → Placed m → ((a : A) → Read s t m a → Placed (k a)) → Placed (m >>= k)
+    pub placed-bind : {k : A → Parser B} → Onward m → Placed m → ((a : A) → Read s t end m a → Placed (k a)) → Placed (m >>= k)
     unfolding _>>=_
     placed-bind {k} w v l = record { places = λ b u h. go b u h (m b u) refl (w .onward b u) (v .places b u h) }
       where
         go : (b : ℕ) (u : List ℕ) → Rest s t b u → (x : Reply A) → m b u ≡ x → Ends b u x → RefusedIn x → RefusedIn ((m >>= k) b u)
-        go b u h (ok a c r) e p i = rw (e, _>>=_) (l a (record { base = b; rest = u; stands = h; next = c; left = r; reads = e }) .places c r (rest-on h (p .0) (p .1)))
+        go b u h (ok a c r) e p i = let z = rest-on a h p in rw (e, _>>=_) (l a (record { base = b; rest = u; stands = h; next = c; left = r; reads = e; before = omega (arith, z .size) }) .places c r z)
         go b u h (fail q) e p i = rw (e, _>>=_) i
         go b u h (stop n q) e p i = rw (e, _>>=_) i
 
@@ -161,7 +165,7 @@ module _ (s : ℕ) (t : List ℕ) where
   unfolding position
   placed-position = record { places = λ b u h. tt }
 
-  position-in : (p : ℕ) → Read s t position p → InPart p
+  position-in : (p : ℕ) → Read s t end position p → InPart p
   unfolding position
   position-in p h = let e : ok (h .base) (h .base) (h .rest) ≡ ok p (h .next) (h .left) = h .reads in let z : h .base ≡ p = cc in rw (← z) (here (h .base) (h .rest) (h .stands))
 
@@ -381,7 +385,7 @@ module _ (s : ℕ) (t : List ℕ) where
   set-in n = placed-made _ (placed-iter Any (set-step (set-of n)) keep (λ ws. walks (set-step-chain (set-of n) ws)) (λ ws q. placed-made _ (next-word-in (set-of n) ws)) (λ x y h q. tt) [] tt)
 
   -- what stands between braces: g is the place of a missing }
-  enclosed-in : {A : Type 0} {m : Parser A} (g : A → ℕ → ℕ) → Onward m → Placed m → ((a : A) → Read s t m a → (p : ℕ) → InPart p → InPart (g a p)) → Placed (enclosed m g)
+  enclosed-in : {A : Type 0} {m : Parser A} (g : A → ℕ → ℕ) → Onward m → Placed m → ((a : A) → Read s t end m a → (p : ℕ) → InPart p → InPart (g a p)) → Placed (enclosed m g)
   unfolding enclosed
   enclosed-in g w v k =
       placed-then (advances-onward (tag-advances 123)) (placed-tag 123) (placed-bind w v λ a h. placed-last a (placed-catch (placed-then (walks whitespace0-chain) blank-in (placed-tag 125)) λ p i. placed-fail (g a p) (k a h p i)))
@@ -489,17 +493,17 @@ module _ (s : ℕ) (t : List ℕ) where
   unfolding access-list separated-list0
   access-list-in = search (placed-rules, access-entry-in, comma-in) depth 24
 
-  granted-in : (p : Privileges) (l : List Access) → All (AccessTrue s t) l → Placed (granted-by p l)
+  granted-in : (p : Privileges) (l : List Access) → All (AccessTrue s t end) l → Placed (granted-by p l)
   unfolding granted-by stopAt
   granted-in p [] h = placed-ret p
   granted-in p (a ∷ l) h = placed-pick _ (granted-in _ l (h .1)) (placed-pick _ (granted-in _ l (h .1)) (record { places = λ b u i. (stands (h .0), lit≤ tt, lit≤ tt) }))
     where
-      stands : AccessTrue s t a → InPart (offsetOf (a .operation))
+      stands : AccessTrue s t end a → InPart (offsetOf (a .operation))
       stands (true-access w g) = record { after = w .after; before = omega (arith, w .inside) }
 
   attribute-access-in : Placed attribute-access
   unfolding attribute-access
-  attribute-access-in = placed-bind (walks (chain-opt (chain-inside access-list-inside))) (placed-opt access-list-in) λ o h. granted-in _ (listed o) (accesses-listed s t o h)
+  attribute-access-in = placed-bind (walks (chain-opt (chain-inside access-list-inside))) (placed-opt access-list-in) λ o h. granted-in _ (listed o) (accesses-listed s t end o h)
 
   attribute-in : (d : Doc) (m : ℕ) → Placed (parse-attribute-after-doc-maturity d m)
   unfolding parse-attribute-after-doc-maturity
@@ -521,42 +525,45 @@ module _ (s : ℕ) (t : List ℕ) where
   -- endpoints: tries that keep the furthest place
   record TriesIn {A : Type 0} (m : Parser (Tried A)) : Type 0 where
     refused : Placed m
-    kept : Gives s t (λ x. InPart (x .furthest)) m
+    kept : Gives s t end (λ x. InPart (x .furthest)) m
 
   tries-end : {A : Type 0} (q : ℕ) → InPart q → TriesIn (failAt {A = Tried A} q)
-  tries-end q h = record { refused = placed-fail q h; kept = gives-fail s t q }
+  tries-end q h = record { refused = placed-fail q h; kept = gives-fail s t end q }
 
   tries-next : {A : Type 0} {m : Parser A} {k : ℕ → Parser (Tried A)} (q : ℕ) → InPart q → Placed m → ((q : ℕ) → InPart q → TriesIn (k q)) → TriesIn (intercept q m k)
   unfolding intercept
   tries-next q h v w =
       record {
         refused = placed-catch (placed-mapped _ v) (λ p i. w _ (furthest q p h i) .refused);
-        kept = gives-catch s t (gives-mapped s t _ (λ a r. h)) (λ p f. w _ (furthest q p h (fails-in (placed-mapped _ v) f)) .kept);
+        kept = gives-catch s t end (gives-mapped s t end _ (λ a r. h)) (λ p f. w _ (furthest q p h (fails-in (placed-mapped _ v) f)) .kept);
       }
 
   module _ {A : Type 0} (f : ℕ → Parser (Tried A)) (i : (q : ℕ) → LocalInside (f q)) (c : (q : ℕ) → Consumes (f q)) (w : (q : ℕ) → InPart q → TriesIn (f q)) where
     abbrev DeepIn : Deep A → Type 0
     DeepIn x = InPart (x .deepest)
 
-    step-on : (x : Deep A) → Onward (deep-step f x)
+    step-chain : (x : Deep A) → OnChain (deep-step f x)
     unfolding deep-step
-    step-on x = walks (chain-then whitespace0-chain (chain-inside (mapped-inside _ (i _))))
+    step-chain x = chain-then whitespace0-chain (chain-inside (mapped-inside _ (i _)))
+
+    step-on : (x : Deep A) → Onward (deep-step f x)
+    step-on x = walks (step-chain x)
 
     step-in : (x : Deep A) → DeepIn x → Placed (deep-step f x)
     unfolding deep-step
     step-in x h = placed-then (walks whitespace0-chain) blank-in (placed-mapped _ (w _ h .refused))
 
-    step-kept : (x : Deep A) → DeepIn x → Gives s t DeepIn (deep-step f x)
+    step-kept : (x : Deep A) → DeepIn x → Gives s t end DeepIn (deep-step f x)
     unfolding deep-step
-    step-kept x h = gives-then s t (walks whitespace0-chain) (gives-mapped s t _ (w _ h .kept .holds))
+    step-kept x h = gives-then s t end (walks whitespace0-chain) (gives-mapped s t end _ (w _ h .kept .holds))
 
     run-in : Placed (deep-run f)
     unfolding deep-run
     run-in = placed-bind (walks chain-position) placed-position λ b h. placed-iter DeepIn (deep-step f) deeper step-on step-in (λ x y r k. step-kept x k .holds y r) _ (position-in b h)
 
-    run-kept : Gives s t DeepIn (deep-run f)
+    run-kept : Gives s t end DeepIn (deep-run f)
     unfolding deep-run deeper
-    run-kept = gives-bind s t (walks chain-position) λ b h. gives-iter s t DeepIn (deep-step f) deeper step-on step-kept (λ p x r k. furthest p (x .deepest) (fails-in (step-in x k) r) k) _ (position-in b h)
+    run-kept = gives-bind s t end (walks chain-position) (λ b. walks (chain-iter deeper step-chain _)) λ b h. gives-iter s t end DeepIn (deep-step f) deeper step-on step-kept (λ p x r k. furthest p (x .deepest) (fails-in (step-in x k) r) k) _ (position-in b h)
 
     deep-braces-in : Placed (deep-braces f)
     unfolding deep-braces deep-place

@@ -1,5 +1,5 @@
 -- What is read stands in the text: every name is the text's bytes at its offset, every span lies inside, every number fits its bits.
--- A part t of the text begins at offset s; a declaration is read somewhere in it. For a whole text s is 0.
+-- A part t of the text begins at offset s; a declaration is read somewhere in it and ends at an offset `end` or before. For a whole text s is 0.
 use Prim.Native.Nat.{ℕ, zero, suc, _+_, _-_, _*_, _^_, _≤_, _<_}
 use mathlib.Core.Path.{_≡_, refl, sym, _∙_, ap, subst}
 use mathlib.Core.Bool.{Bool, true, false, _&&_, _||_}
@@ -8,7 +8,7 @@ use mathlib.Core.List.{List, [], _∷_, _++_}
 use native.Mathlib.Omega.{arith}
 use native.Mathlib.Nat.{pow-suc}
 use lib.Dec.{leb, eqb, lit<}
-use lib.ListN.{length, take, drop, length-append, length-drop}
+use lib.ListN.{length, take, drop, length-drop}
 use lib.Seq.{drop-append-add, drop-append-le, take-append-le}
 use Rattle.lexing.specs.reply.{Reply, ok, fail, stop, Parser, ret, _>>=_, _>>_, opt, further, _or_, prepend, manyWithin, many0, iterWithin, iter, failAt, stopAt, catch, pick}
 use Rattle.lexing.specs.bytes.{ascii, quote, backslash, plus, minus, isLetter, isDigit, isWord, isHex, takeWhile, dropWhile}
@@ -21,11 +21,10 @@ use Rattle.lexing.specs.answers.{Rest, docOf, BlankTo}
 use Rattle.lexing.specs.declared.blanks.DocSpan.{DocSpan}
 use Rattle.lexing.specs.declared.blanks.DocSpan.the-variants.{Absent, At}
 use Rattle.lexing.proofs.Tests.{le-of}
-use Rattle.lexing.proofs.Runs.{Suf, suf-length, run-length}
 use Rattle.lexing.proofs.Onward.{Ends, Onward, advances-onward, parse-id-advances, tag-advances, integer-advances, signed-advances, string-advances}
-use Rattle.lexing.proofs.Slicing.{suf-drop, rebase, rest-self, walks}
+use Rattle.lexing.proofs.Slicing.{rest-self, walks}
 use Rattle.lexing.proofs.DocPlace.{DocIn, doc-in}
-use Rattle.lexing.proofs.Locality.{OnChain, LocalInside, Consumes, chain-then, chain-opt, chain-many0, chain-position, chain-local, chain-inside}
+use Rattle.lexing.proofs.Locality.{OnChain, LocalInside, Consumes, chain-then, chain-opt, chain-many0, chain-iter, chain-position, chain-local, chain-inside}
 use Rattle.lexing.proofs.TokenLocality.{parse-id-chain, keyword-chain, any-keyword-chain, whitespace0-chain, whitespace1-chain, keywords-set-chain, set-flags-chain}
 use Rattle.items.specs.entries.{enclosed, where-missing, braces, api-maturity, Entry, constant-entry, blank-entry, constant-entries, constant-entries-list, Choice, ChoiceHead, choice-head, choice-after-doc-maturity, parse-enum-after-doc-maturity, parse-bitmap-after-doc-maturity}
 use Rattle.items.specs.structs.{Field, max-length, parse-field, StructField, parse-struct-field, closed-field, fields-run, struct-fields, StructType, Struct, response-code, struct-kind, struct-type-of, StructHead, struct-head, parse-struct-after-doc-maturity}
@@ -34,12 +33,13 @@ use Rattle.items.specs.clusters.{Member, revision, bitmap, enum, struct,
 use Rattle.items.specs.endpoints.{Tried, Deep, intercept, deep-step, deeper, deep-run, deep-place, deep-braces, name-behind, DeviceType, device-version, device-type, Default, number, signed-number, truth, text, value-tries, default-attribute-value, attribute-handling-type, AttributeInstance, attribute-instantiation, named-after, Instance, attribute-instance, command-instance, event-instance, instance-tries, Instantiation, instantiation-head, cluster-instantiation, Part, device, binding, instantiation, part-tries, Endpoint, endpoint-head, endpoint}
 use Rattle.items.specs.items.{Item, cluster-item, endpoint-item, enum-item, bitmap-item, struct-item, blank-item, with-doc-maturity, item}
 use Rattle.items.specs.records.{response-of}
-use Rattle.items.proofs.Locality.{braces-chain, mapped-inside, api-maturity-local, constant-annotations-list-inside, blank-entry-inside, constant-entries-list-local, shared-before-local, choice-head-local, max-length-local, list-marker-local, parse-field-inside, parse-struct-field-inside, closed-field-inside, struct-fields-local, struct-type-of-local, struct-head-local, access-privilege-local, event-priority-local, access-to-inside, event-qualities-inside, event-head-inside, command-head-inside, command-types-inside, access-entry-inside, access-entry-consumes, comma-local, separated-list0-inside, access-list-inside, attribute-access-inside, parse-cluster-member-inside, side-local, cluster-head-local, deep-run-inside, name-behind-local, device-version-local, default-attribute-value-local, attribute-handling-type-local, instance-tries-inside, instance-tries-consumes, instantiation-head-local, instances-local, part-tries-inside, part-tries-consumes, endpoint-head-local, parts-local}
+use Rattle.items.proofs.Onward.{ends-up, rest-on, onward-ret, onward-fail, onward-stop, onward-pick, onward-catch, onward-many, onward-iter, onward-bind, onward-then}
+use Rattle.items.proofs.Locality.{braces-chain, mapped-inside, api-maturity-local, constant-annotations-list-inside, blank-entry-inside, constant-entries-list-local, shared-before-local, choice-head-local, choice-after-doc-maturity-local, max-length-local, list-marker-local, parse-field-inside, parse-struct-field-inside, closed-field-inside, struct-fields-local, struct-type-of-local, struct-head-local, parse-struct-local, access-privilege-local, event-priority-local, access-to-inside, event-qualities-inside, event-head-inside, command-head-inside, command-types-inside, access-entry-inside, access-entry-consumes, comma-local, separated-list0-inside, access-list-inside, attribute-access-inside, member-tries-inside, parse-cluster-member-inside, side-local, cluster-head-local, deep-run-inside, name-behind-local, device-version-local, value-tries-local, default-attribute-value-local, attribute-handling-type-local, instance-tries-inside, instance-tries-consumes, instantiation-head-local, instances-local, part-tries-inside, part-tries-consumes, endpoint-head-local, parts-local}
 
 -- what a step leaves behind it
-pub ruleset token-onward = (walks, advances-onward, parse-id-advances, tag-advances, integer-advances, signed-advances, string-advances, keyword-chain, any-keyword-chain, whitespace0-chain, whitespace1-chain, set-flags-chain, parse-id-chain, chain-position, chain-opt, chain-local, chain-inside, chain-then, chain-many0, braces-chain)
+pub ruleset token-onward = (onward-ret, onward-fail, onward-bind, onward-then, onward-pick, walks, advances-onward, parse-id-advances, tag-advances, integer-advances, signed-advances, string-advances, keyword-chain, any-keyword-chain, whitespace0-chain, whitespace1-chain, set-flags-chain, parse-id-chain, chain-position, chain-opt, chain-local, chain-inside, chain-then, chain-many0, braces-chain)
 
-pub ruleset onward-rules = (token-onward, api-maturity-local, constant-annotations-list-inside, constant-entries-list-local, shared-before-local, choice-head-local, max-length-local, list-marker-local, parse-field-inside, parse-struct-field-inside, struct-fields-local, struct-type-of-local, struct-head-local, access-privilege-local, event-priority-local, access-to-inside, event-qualities-inside, event-head-inside, command-head-inside, command-types-inside, comma-local, access-entry-inside, access-entry-consumes, separated-list0-inside, access-list-inside, attribute-access-inside, parse-cluster-member-inside, side-local, cluster-head-local, name-behind-local, device-version-local, default-attribute-value-local, attribute-handling-type-local, instantiation-head-local, instances-local, endpoint-head-local, parts-local)
+pub ruleset onward-rules = (token-onward, member-tries-inside, value-tries-local, api-maturity-local, constant-annotations-list-inside, constant-entries-list-local, shared-before-local, choice-head-local, max-length-local, list-marker-local, parse-field-inside, parse-struct-field-inside, struct-fields-local, struct-type-of-local, struct-head-local, access-privilege-local, event-priority-local, access-to-inside, event-qualities-inside, event-head-inside, command-head-inside, command-types-inside, comma-local, access-entry-inside, access-entry-consumes, separated-list0-inside, access-list-inside, attribute-access-inside, member-tries-inside, parse-cluster-member-inside, side-local, cluster-head-local, name-behind-local, device-version-local, default-attribute-value-local, attribute-handling-type-local, instantiation-head-local, instances-local, endpoint-head-local, parts-local)
 
 -- every element, and an optional one
 abbrev pub All : {A : Type 0} → (A → Type 0) → List A → Type 0
@@ -55,13 +55,6 @@ fail-no e = let z : _≡_ {A = ℕ} 0 1 = cc in absurd (omega arith)
 
 stop-no : {A X : Type 0} {n p : ℕ} {a : A} {c : ℕ} {r : List ℕ} → stop n p ≡ ok a c r → X
 stop-no e = let z : _≡_ {A = ℕ} 0 1 = cc in absurd (omega arith)
-
-pub rest-on : {s b c : ℕ} {t u r : List ℕ} → Rest s t b u → Suf r u → c + length r ≡ b + length u → Rest s t c r
-rest-on {s} {b} {c} {t} {u} {r} h p e =
-    let l = suf-length p in
-    let z : length u - length r ≡ c - b = omega (arith, l) in
-    let up : b ≤ c = omega (arith, l) in
-    record { from = omega (arith, h .from, up); same = (rw z at (suf-drop p)) ∙ (ap (drop (c - b)) (h .same) ∙ rebase s b c t (h .from) up); size = e ∙ h .size }
 
 further-ok : {A : Type 0} (p : ℕ) (x : Reply A) {a : A} {c : ℕ} {r : List ℕ} → further p x ≡ ok a c r → x ≡ ok a c r
 unfolding further
@@ -178,8 +171,15 @@ doc-wider : (b c s e : ℕ) (d : Doc) → s ≤ b → c ≤ e → DocIn b c d �
 doc-wider b c s e no-doc h k i = tt
 doc-wider b c s e (doc-at o n) h k i = (omega (arith, i .0), omega (arith, i .1))
 
-module _ (s : ℕ) (t : List ℕ) where
-  -- a value that a parser reads somewhere in the part
+-- the place where a parser fails somewhere in the part
+pub record FailsAt (s : ℕ) (t : List ℕ) {A : Type 0} (m : Parser A) (p : ℕ) : Type 0 where
+  pub base : ℕ
+  pub rest : List ℕ
+  pub stands : Rest s t base rest
+  pub refuses : m base rest ≡ fail p
+
+module _ (s : ℕ) (t : List ℕ) (end : ℕ) where
+  -- a value that a parser reads somewhere in the part, up to end
   pub record Read {A : Type 0} (m : Parser A) (a : A) : Type 0 where
     pub base : ℕ
     pub rest : List ℕ
@@ -187,16 +187,10 @@ module _ (s : ℕ) (t : List ℕ) where
     pub next : ℕ
     pub left : List ℕ
     pub reads : m base rest ≡ ok a next left
-
-  -- the place where a parser fails somewhere in the part
-  pub record FailsAt {A : Type 0} (m : Parser A) (p : ℕ) : Type 0 where
-    pub base : ℕ
-    pub rest : List ℕ
-    pub stands : Rest s t base rest
-    pub refuses : m base rest ≡ fail p
+    pub before : next ≤ end
 
   seen : {A B : Type 0} {m : Parser A} {k : Parser B} {a : A} {d : B} (h : Read k d) → m (h .base) (h .rest) ≡ ok a (h .next) (h .left) → Read m a
-  seen h e = record { base = h .base; rest = h .rest; stands = h .stands; next = h .next; left = h .left; reads = e }
+  seen h q = record { base = h .base; rest = h .rest; stands = h .stands; next = h .next; left = h .left; reads = q; before = h .before }
 
   -- R holds of every such value
   pub record Gives {A : Type 0} (R : A → Type 0) (m : Parser A) : Type 0 where
@@ -220,7 +214,7 @@ module _ (s : ℕ) (t : List ℕ) where
     gives-pick true v w = v
     gives-pick false v w = w
 
-    pub gives-catch : {m : Parser A} {k : ℕ → Parser A} → Gives R m → ((p : ℕ) → FailsAt m p → Gives R (k p)) → Gives R (catch m k)
+    pub gives-catch : {m : Parser A} {k : ℕ → Parser A} → Gives R m → ((p : ℕ) → FailsAt s t m p → Gives R (k p)) → Gives R (catch m k)
     unfolding catch
     gives-catch {m} {k} v w = record { holds = λ d h. go d h (m (h .base) (h .rest)) refl }
       where
@@ -251,21 +245,36 @@ module _ (s : ℕ) (t : List ℕ) where
         go (some a) h (fail p) e = let z : ok none (h .base) (h .rest) ≡ ok (some a) (h .next) (h .left) = rw (e, opt) at (h .reads) in let y : _≡_ {A = ℕ} 0 1 = cc in absurd (omega arith)
         go (some a) h (stop n p) e = stop-no (rw (e, opt) at (h .reads))
 
+  -- what a step reads, and the steps behind it, which end no earlier
+  first-read : {A B : Type 0} {m : Parser A} {x : Parser B} {a : A} {d : B} {c : ℕ} {r : List ℕ} (h : Read x d) → m (h .base) (h .rest) ≡ ok a c r → c ≤ h .next → Read m a
+  first-read {c = c} {r} h q i = record { base = h .base; rest = h .rest; stands = h .stands; next = c; left = r; reads = q; before = omega (arith, i, h .before) }
+
+  next-read : {A B : Type 0} {k x : Parser B} {d : B} (c : ℕ) (r : List ℕ) (a : A) (h : Read x d) → Ends (h .base) (h .rest) (ok a c r) → k c r ≡ ok d (h .next) (h .left) → Read k d
+  next-read c r a h p q = record { base = c; rest = r; stands = rest-on a (h .stands) p; next = h .next; left = h .left; reads = q; before = h .before }
+
+  goes-up : {A : Type 0} {k : Parser A} {d : A} {c n : ℕ} {r l : List ℕ} → Onward k → k c r ≡ ok d n l → c ≤ n
+  goes-up {d = d} {c} {r = r} w q = ends-up d (rw q at (w .onward c r))
+
   module _ {A B : Type 0} {R : B → Type 0} {m : Parser A} where
-    pub gives-bind : {k : A → Parser B} → Onward m → ((a : A) → Read m a → Gives R (k a)) → Gives R (m >>= k)
+    pub gives-bind : {k : A → Parser B} → Onward m → ((a : A) → Onward (k a)) → ((a : A) → Read m a → Gives R (k a)) → Gives R (m >>= k)
     unfolding _>>=_
-    gives-bind {k} w v = record { holds = λ d h. go d h (m (h .base) (h .rest)) refl (w .onward (h .base) (h .rest)) }
+    gives-bind {k} w o v = record { holds = λ d h. go d h (m (h .base) (h .rest)) refl (w .onward (h .base) (h .rest)) }
       where
         go : (d : B) (h : Read (m >>= k) d) (x : Reply A) → m (h .base) (h .rest) ≡ x → Ends (h .base) (h .rest) x → R d
-        go d h (ok a c r) e p =
-            v a (record { base = h .base; rest = h .rest; stands = h .stands; next = c; left = r; reads = e }) .holds d
-            (record { base = c; rest = r; stands = rest-on (h .stands) (p .0) (p .1); next = h .next; left = h .left; reads = rw (e, _>>=_) at (h .reads) })
-        go d h (fail q) e p = fail-no (rw (e, _>>=_) at (h .reads))
-        go d h (stop n q) e p = stop-no (rw (e, _>>=_) at (h .reads))
+        go d h (ok a c r) q p =
+            let i : k a c r ≡ ok d (h .next) (h .left) = rw (q, _>>=_) at (h .reads) in
+            v a (first-read h q (goes-up (o a) i)) .holds d (next-read c r a h p i)
+        go d h (fail j) q p = fail-no (rw (q, _>>=_) at (h .reads))
+        go d h (stop n j) q p = stop-no (rw (q, _>>=_) at (h .reads))
 
     pub gives-then : {k : Parser B} → Onward m → Gives R k → Gives R (m >> k)
-    unfolding _>>_
-    gives-then w v = gives-bind w (λ a h. v)
+    unfolding _>>_ _>>=_
+    gives-then {k} w v = record { holds = λ d h. go d h (m (h .base) (h .rest)) refl (w .onward (h .base) (h .rest)) }
+      where
+        go : (d : B) (h : Read (m >> k) d) (x : Reply A) → m (h .base) (h .rest) ≡ x → Ends (h .base) (h .rest) x → R d
+        go d h (ok a c r) q p = v .holds d (next-read c r a h p (rw (q, _>>_, _>>=_) at (h .reads)))
+        go d h (fail j) q p = fail-no (rw (q, _>>_, _>>=_) at (h .reads))
+        go d h (stop n j) q p = stop-no (rw (q, _>>_, _>>=_) at (h .reads))
 
   prepend-ok : {A : Type 0} (d : A) (x : Reply (List A)) {l : List A} {c : ℕ} {r : List ℕ} → prepend d x ≡ ok l c r → (k : List A) × ((d ∷ k ≡ l) × (x ≡ ok k c r))
   unfolding prepend
@@ -280,10 +289,9 @@ module _ (s : ℕ) (t : List ℕ) where
     many-within (suc n) l h = go (m (h .base) (h .rest)) refl (w .onward (h .base) (h .rest)) (many-within n)
       where
         go : (x : Reply A) → m (h .base) (h .rest) ≡ x → Ends (h .base) (h .rest) x → ((l : List A) → Read (manyWithin n m) l → All Q l) → All Q l
-        go (ok a c r) e p ih =
-            let q = prepend-ok a (manyWithin n m c r) (rw (e, manyWithin) at (h .reads)) in
-            subst (All Q) (q .1 .0)
-            (v .holds a (record { base = h .base; rest = h .rest; stands = h .stands; next = c; left = r; reads = e }), ih (q .0) (record { base = c; rest = r; stands = rest-on (h .stands) (p .0) (p .1); next = h .next; left = h .left; reads = q .1 .1 }))
+        go (ok a c r) q p ih =
+            let i = prepend-ok a (manyWithin n m c r) (rw (q, manyWithin) at (h .reads)) in
+            subst (All Q) (i .1 .0) (v .holds a (first-read h q (goes-up (onward-many w n) (i .1 .1))), ih (i .0) (record { base = c; rest = r; stands = rest-on a (h .stands) p; next = h .next; left = h .left; reads = i .1 .1; before = h .before }))
         go (fail i) e p ih = let y : ok [] (h .base) (h .rest) ≡ ok l (h .next) (h .left) = rw (e, manyWithin) at (h .reads) in let z : [] ≡ l = cc in subst (All Q) z tt
         go (stop k i) e p ih = stop-no (rw (e, manyWithin) at (h .reads))
 
@@ -291,16 +299,16 @@ module _ (s : ℕ) (t : List ℕ) where
   unfolding many0
   gives-many0 {Q = Q} {m} w v = record { holds = λ l h. many-within Q m w v (suc (length (h .rest))) l (seen h (h .reads)) }
 
-  module _ {S : Type 0} (Q : S → Type 0) (f : S → Parser S) (g : ℕ → S → S) (w : (x : S) → Onward (f x)) (v : (x : S) → Q x → Gives Q (f x)) (k : (p : ℕ) (x : S) → FailsAt (f x) p → Q x → Q (g p x)) where
+  module _ {S : Type 0} (Q : S → Type 0) (f : S → Parser S) (g : ℕ → S → S) (w : (x : S) → Onward (f x)) (v : (x : S) → Q x → Gives Q (f x)) (k : (p : ℕ) (x : S) → FailsAt s t (f x) p → Q x → Q (g p x)) where
     iter-within : (n : ℕ) (x y : S) → Q x → Read (iterWithin n f g x) y → Q y
     unfolding iterWithin
     iter-within zero x y q h = let e : ok x (h .base) (h .rest) ≡ ok y (h .next) (h .left) = h .reads in let z : x ≡ y = cc in subst Q z q
     iter-within (suc n) x y q h = go (f x (h .base) (h .rest)) refl (w x .onward (h .base) (h .rest)) (iter-within n)
       where
         go : (z : Reply S) → f x (h .base) (h .rest) ≡ z → Ends (h .base) (h .rest) z → ((x y : S) → Q x → Read (iterWithin n f g x) y → Q y) → Q y
-        go (ok a c r) e p ih =
-            ih a y (v x q .holds a (record { base = h .base; rest = h .rest; stands = h .stands; next = c; left = r; reads = e }))
-            (record { base = c; rest = r; stands = rest-on (h .stands) (p .0) (p .1); next = h .next; left = h .left; reads = rw (e, iterWithin) at (h .reads) })
+        go (ok a c r) j p ih =
+            let i : iterWithin n f g a c r ≡ ok y (h .next) (h .left) = rw (j, iterWithin) at (h .reads) in
+            ih a y (v x q .holds a (first-read h j (goes-up (onward-iter g w n a) i))) (next-read c r a h p i)
         go (fail i) e p ih = let d : ok (g i x) (h .base) (h .rest) ≡ ok y (h .next) (h .left) = rw (e, iterWithin) at (h .reads) in let z : g i x ≡ y = cc in subst Q z (k i x (record { base = h .base; rest = h .rest; stands = h .stands; refuses = e }) q)
         go (stop j i) e p ih = stop-no (rw (e, iterWithin) at (h .reads))
 
@@ -311,40 +319,41 @@ module _ (s : ℕ) (t : List ℕ) where
   -- the tokens
   pub record WordTrue (w : Word) : Type 0 where
     pub after : s ≤ offsetOf w
-    pub inside : offsetOf w + length (bytesOf w) ≤ s + length t
+    pub inside : offsetOf w + length (bytesOf w) ≤ end
     pub same : take (length (bytesOf w)) (drop (offsetOf w - s) t) ≡ bytesOf w
 
   abbrev pub SpanTrue : Span → Type 0
-  SpanTrue (span o n) = (s ≤ o) × (o + n ≤ s + length t)
+  SpanTrue (span o n) = (s ≤ o) × (o + n ≤ end)
 
   abbrev pub DocTrue : Doc → Type 0
-  DocTrue d = DocIn s (s + length t) d
+  DocTrue d = DocIn s end d
 
-  word-at : (b : ℕ) (u : List ℕ) → Rest s t b u → (w : Word) (c : ℕ) (r : List ℕ) → parse-id b u ≡ ok w c r → WordTrue w
+  word-at : (b : ℕ) (u : List ℕ) → Rest s t b u → (w : Word) (c : ℕ) (r : List ℕ) → parse-id b u ≡ ok w c r → c ≤ end → WordTrue w
   unfolding parse-id offsetOf bytesOf
-  word-at b [] q w c r e = fail-no e
-  word-at b (x ∷ u) q w c r e = go (isLetter x) refl
+  word-at b [] q w c r e f = fail-no e
+  word-at b (x ∷ u) q w c r e f = go (isLetter x) refl
     where
       go : (z : Bool) → isLetter x ≡ z → WordTrue w
       go true z =
           let y : ok (word b (x ∷ takeWhile isWord u)) (b + suc (length (takeWhile isWord u))) (dropWhile isWord u) ≡ ok w c r = rw (z, parse-id) at e in
           let k : word b (x ∷ takeWhile isWord u) ≡ w = cc in
-          subst WordTrue k (record { after = q .from; inside = omega (arith, q .size, run-length isWord u); same = rw (← q .same) (ap (λ l. x ∷ l) (take-run isWord u)) })
+          let l : b + suc (length (takeWhile isWord u)) ≡ c = cc in
+          subst WordTrue k (record { after = q .from; inside = omega (arith, f, l); same = rw (← q .same) (ap (λ l. x ∷ l) (take-run isWord u)) })
       go false z = fail-no (rw (z, parse-id) at e)
 
   pub word-true : {w : Word} → Read parse-id w → WordTrue w
-  word-true {w} h = word-at (h .base) (h .rest) (h .stands) w (h .next) (h .left) (h .reads)
+  word-true {w} h = word-at (h .base) (h .rest) (h .stands) w (h .next) (h .left) (h .reads) (h .before)
 
-  doc-at-true : (b : ℕ) (u : List ℕ) → Rest s t b u → (d : Doc) (c : ℕ) (r : List ℕ) → whitespace0 b u ≡ ok d c r → DocTrue d
-  doc-at-true b u q d c r e =
+  doc-at-true : (b : ℕ) (u : List ℕ) → Rest s t b u → (d : Doc) (c : ℕ) (r : List ℕ) → whitespace0 b u ≡ ok d c r → c ≤ end → DocTrue d
+  doc-at-true b u q d c r e f =
       let p : Ends b u (ok d c r) = rw e at (walks whitespace0-chain .onward b u) in
-      let k = rest-on (rest-self b u) (p .0) (p .1) in
+      let k = rest-on d (rest-self b u) p in
       let z : ok (docOf (doc-span d)) c (drop (c - b) u) ≡ whitespace0 b u = rw (doc-same d, ← k .same) (sym e) in
       let h : BlankTo (record { doc = doc-span d; next = c }) b u = record { reads = z; up = k .from; inside = omega (arith, k .size) } in
-      doc-wider b c s (s + length t) d (q .from) (omega (arith, k .size, q .size)) (rw (doc-same d) at (doc-in h))
+      doc-wider b c s end d (q .from) f (rw (doc-same d) at (doc-in h))
 
   pub doc-true : {d : Doc} → Read whitespace0 d → DocTrue d
-  doc-true {d} h = doc-at-true (h .base) (h .rest) (h .stands) d (h .next) (h .left) (h .reads)
+  doc-true {d} h = doc-at-true (h .base) (h .rest) (h .stands) d (h .next) (h .left) (h .reads) (h .before)
 
   pub integer-true : {n : ℕ} → Read positive-integer n → n < 2 ^ 64
   unfolding positive-integer
@@ -356,22 +365,19 @@ module _ (s : ℕ) (t : List ℕ) where
 
   pub flags-true : (n : ℕ) → Gives (λ f. f < 2 ^ length (set-of n)) (set-flags n)
   unfolding set-flags
-  flags-true n = gives-bind (walks (keywords-set-chain (set-of n))) λ ws h. gives-ret _ (flags-less (set-of n) ws)
+  flags-true n = gives-bind (walks (keywords-set-chain (set-of n))) (λ ws. onward-ret _) λ ws h. gives-ret _ (flags-less (set-of n) ws)
 
-  string-at : (f : ℕ → Escape) (b : ℕ) (u : List ℕ) → Rest s t b u → (x : Span) (c : ℕ) (r : List ℕ) → string-with f b u ≡ ok x c r → SpanTrue x
+  string-at : (f : ℕ → Escape) (b : ℕ) (u : List ℕ) → Rest s t b u → (x : Span) (c : ℕ) (r : List ℕ) → string-with f b u ≡ ok x c r → c ≤ end → SpanTrue x
   unfolding string-with span-from
-  string-at f b [] q x c r e = fail-no e
-  string-at f b (y ∷ u) q x c r e = go (eqb y quote) refl
+  string-at f b [] q x c r e g = fail-no e
+  string-at f b (y ∷ u) q x c r e g = go (eqb y quote) refl
     where
-      end : c ≤ s + length t
-      end = let p : Ends b (y ∷ u) (ok x c r) = rw e at (advances-onward (string-advances f) .onward b (y ∷ u)) in omega (arith, p .1, q .size)
-
       of : (z : Reply ℕ) → string-rest f false (suc b) u ≡ z → span-from (suc b) z ≡ ok x c r → SpanTrue x
       of (ok i d v) k h =
           let j : span (suc b) (i - suc b) ≡ x = cc in
           let l : d ≡ c = cc in
           let p = string-end f false (suc b) u k in
-          subst SpanTrue j (omega (arith, q .from), omega (arith, end, p .0, p .1))
+          subst SpanTrue j (omega (arith, q .from), omega (arith, g, l, p .0, p .1))
       of (fail p) k h = fail-no h
       of (stop n p) k h = stop-no h
 
@@ -380,7 +386,7 @@ module _ (s : ℕ) (t : List ℕ) where
       go false z = fail-no (rw (z, string-with) at e)
 
   pub string-true : {x : Span} (f : ℕ → Escape) → Read (string-with f) x → SpanTrue x
-  string-true {x} f h = string-at f (h .base) (h .rest) (h .stands) x (h .next) (h .left) (h .reads)
+  string-true {x} f h = string-at f (h .base) (h .rest) (h .stands) x (h .next) (h .left) (h .reads) (h .before)
 
   -- the combinators of the grammar
   module _ {A B : Type 0} {R : B → Type 0} {m : Parser A} where
@@ -392,7 +398,7 @@ module _ (s : ℕ) (t : List ℕ) where
         go d h (ok a c r) e =
             let y : ok (f a) c r ≡ ok d (h .next) (h .left) = rw (e, mapped, _>>=_) at (h .reads) in
             let z : f a ≡ d = cc in
-            subst R z (v a (record { base = h .base; rest = h .rest; stands = h .stands; next = c; left = r; reads = e }))
+            let l : c ≡ h .next = cc in subst R z (v a (first-read h e (omega (arith, l))))
         go d h (fail p) e = fail-no (rw (e, mapped, _>>=_) at (h .reads))
         go d h (stop n p) e = stop-no (rw (e, mapped, _>>=_) at (h .reads))
 
@@ -415,7 +421,7 @@ module _ (s : ℕ) (t : List ℕ) where
 
   enclosed-true : {A : Type 0} {R : A → Type 0} {m : Parser A} (g : A → ℕ → ℕ) → Onward m → ((a : A) → Read m a → R a) → (a : A) → Read (enclosed m g) a → R a
   unfolding enclosed
-  enclosed-true g w v = from (gives-then (advances-onward (tag-advances 123)) (gives-bind w λ a h. gives-last _ a (v a h)))
+  enclosed-true g w v = from (gives-then (advances-onward (tag-advances 123)) (gives-bind w (λ a. onward-then (onward-catch (onward-then (walks whitespace0-chain) (advances-onward (tag-advances 125))) λ p. onward-fail (g a p)) (onward-ret a)) λ a h. gives-last _ a (v a h)))
 
   -- declarations between braces
   list-true : {A : Type 0} {R : A → Type 0} {m : Parser A} → OnChain m → ((a : A) → Read m a → R a) → (l : List A) → Read (braces (many0 m)) l → All R l
@@ -463,7 +469,7 @@ module _ (s : ℕ) (t : List ℕ) where
 
   entry-true : (e : Entry) → Read constant-entry e → EntryTrue e
   unfolding constant-entry
-  entry-true = from (search (value-rules, true-entry) depth 30)
+  entry-true = from (search (value-rules, true-entry) depth 30 fits 5000)
 
   entries-true : (l : List Entry) → Read constant-entries-list l → All EntryTrue l
   unfolding constant-entries-list constant-entries blank-entry
@@ -536,23 +542,23 @@ module _ (s : ℕ) (t : List ℕ) where
   unfolding access-to
   gives-access k = search (value-rules, privilege-true) depth 24
 
-  read-access-true : (o : Option ℕ) → Read (opt (access-to (ascii "read"))) o → Maybe PrivilegeTrue o
-  read-access-true = from (gives-opt (gives-access (ascii "read")))
-
-  invoke-access-true : (o : Option ℕ) → Read (opt invoke-access) o → Maybe PrivilegeTrue o
-  invoke-access-true = from (gives-opt (gives-then (walks whitespace0-chain) (gives-access (ascii "invoke"))))
-
-  or-else-true : (z : ℕ) (o : Option ℕ) → z < 2 ^ 2 → Maybe PrivilegeTrue o → or-else z o < 2 ^ 2
+  or-else-true : (z : ℕ) → z < 2 ^ 2 → (o : Option ℕ) → Maybe PrivilegeTrue o → or-else z o < 2 ^ 2
   unfolding or-else
-  or-else-true z none h k = h
-  or-else-true z (some n) h k = k
+  or-else-true z h none k = h
+  or-else-true z h (some n) k = k
+
+  read-access-true : (o : Option ℕ) → Read (opt (access-to (ascii "read"))) o → or-else 0 o < 2 ^ 2
+  read-access-true o h = or-else-true 0 (lit< tt) o (gives-opt (gives-access (ascii "read")) .holds o h)
+
+  invoke-access-true : (o : Option ℕ) → Read (opt invoke-access) o → or-else 1 o < 2 ^ 2
+  invoke-access-true o h = or-else-true 1 (lit< tt) o (gives-opt (gives-then (walks whitespace0-chain) (gives-access (ascii "invoke"))) .holds o h)
 
   data EventQualitiesTrue (q : EventQualities) : Type 0 where
     true-event-qualities : q .sensitive < 2 ^ 1 → q .rank < 2 ^ 2 → q .privilege < 2 ^ 2 → EventQualitiesTrue q
 
   event-qualities-true : (q : EventQualities) → Read event-qualities q → EventQualitiesTrue q
   unfolding event-qualities
-  event-qualities-true = from (search (value-rules, true-event-qualities, flags-2, priority-true, or-else-true, read-access-true) depth 24)
+  event-qualities-true = from (search (value-rules, true-event-qualities, flags-2, priority-true, read-access-true) depth 24)
 
   data EventHeadTrue (h : EventHead) : Type 0 where
     true-event-head : h .sensitive < 2 ^ 1 → h .rank < 2 ^ 2 → h .privilege < 2 ^ 2 → WordTrue (h .id) → h .number < 2 ^ 64 → EventHeadTrue h
@@ -575,7 +581,7 @@ module _ (s : ℕ) (t : List ℕ) where
 
   command-head-true : (h : CommandHead) → Read command-head h → CommandHeadTrue h
   unfolding command-head
-  command-head-true = from (search (value-rules, true-command-head, flags-3, or-else-true, invoke-access-true) depth 24)
+  command-head-true = from (search (value-rules, true-command-head, flags-3, invoke-access-true) depth 24)
 
   data CommandTypesTrue (h : CommandTypes) : Type 0 where
     true-command-types : Maybe WordTrue (h .from) → WordTrue (h .to) → CommandTypesTrue h
@@ -593,7 +599,7 @@ module _ (s : ℕ) (t : List ℕ) where
 
   gives-keyword : (k : List ℕ) → Gives WordTrue (keyword k)
   unfolding keyword
-  gives-keyword k = search value-rules depth 8
+  gives-keyword k = search value-rules depth 12
 
   gives-any-keyword : (ks : List (List ℕ)) → Gives WordTrue (any-keyword ks)
   unfolding any-keyword
@@ -613,7 +619,7 @@ module _ (s : ℕ) (t : List ℕ) where
   separated-true : {A : Type 0} {R : A → Type 0} {p : Parser (Unit {0})} {m : Parser A} → OnChain p → OnChain m → Gives R m → (l : List A) → Read (separated-list0 p m) l → All R l
   unfolding separated-list0
   separated-true w v g =
-      from (gives-catch (gives-bind (walks v) λ a h. gives-bind (walks (chain-many0 (chain-then w v))) λ l k. gives-ret (a ∷ l) (g .holds a h, gives-many0 (walks (chain-then w v)) (gives-then (walks w) g) .holds l k)) (λ p i. gives-ret [] tt))
+      from (gives-catch (gives-bind (walks v) (λ a. onward-bind (walks (chain-many0 (chain-then w v))) λ l. onward-ret _) λ a h. gives-bind (walks (chain-many0 (chain-then w v))) (λ l. onward-ret _) λ l k. gives-ret (a ∷ l) (g .holds a h, gives-many0 (walks (chain-then w v)) (gives-then (walks w) g) .holds l k)) (λ p i. gives-ret [] tt))
 
   accesses-true : (l : List Access) → Read (separated-list0 comma access-entry) l → All AccessTrue l
   accesses-true = separated-true (chain-local comma-local) (chain-inside access-entry-inside) gives-access-entry
@@ -639,12 +645,17 @@ module _ (s : ℕ) (t : List ℕ) where
       g : a .granted < 2 ^ 2
       g = granted-less (h .0)
 
+  onward-granted : (p : Privileges) (l : List Access) → Onward (granted-by p l)
+  unfolding granted-by
+  onward-granted p [] = onward-ret p
+  onward-granted p (a ∷ l) = onward-pick _ (onward-granted _ l) (onward-pick _ (onward-granted _ l) (onward-stop _ _))
+
   pub accesses-listed : (o : Option (List Access)) → Read (opt access-list) o → All AccessTrue (listed o)
   accesses-listed o h = listed-true o (gives-opt gives-access-list .holds o h)
 
   privileges-true : (p : Privileges) → Read attribute-access p → PrivilegesTrue p
   unfolding attribute-access default-privileges
-  privileges-true = from (gives-bind (walks (chain-opt (chain-inside access-list-inside))) λ o h. gives-granted _ (listed o) (true-privileges (lit< tt) (lit< tt)) (accesses-listed o h))
+  privileges-true = from (gives-bind (walks (chain-opt (chain-inside access-list-inside))) (λ o. onward-granted _ (listed o)) λ o h. gives-granted _ (listed o) (true-privileges (lit< tt) (lit< tt)) (accesses-listed o h))
 
   pub data AttributeTrue (a : Attribute) : Type 0 where
     true-attribute : DocTrue (a .doc) → a .maturity < 2 ^ 2 → a .flags < 2 ^ 4 → PrivilegesTrue (a .privileges) → StructFieldTrue (a .field) → AttributeTrue a
@@ -795,11 +806,11 @@ module _ (s : ℕ) (t : List ℕ) where
       step : (x : Deep A) → All R (x .read) → Gives (λ (y : Deep A). All R (y .read)) (deep-step f x)
       step x k = gives-then (walks whitespace0-chain) (gives-mapped _ λ y i. all-more R (x .read) (y .found) k (v _ .holds y i))
 
-      step-on : (x : Deep A) → Onward (deep-step f x)
-      step-on x = walks (chain-then whitespace0-chain (chain-inside (mapped-inside _ (t _))))
+      step-chain : (x : Deep A) → OnChain (deep-step f x)
+      step-chain x = chain-then whitespace0-chain (chain-inside (mapped-inside _ (t _)))
 
       run : (y : Deep A) → Read (deep-run f) y → All R (y .read)
-      run = from (gives-bind (walks chain-position) λ b h. gives-iter (λ (y : Deep A). All R (y .read)) (deep-step f) deeper step-on step (λ p x i k. k) _ tt)
+      run = from (gives-bind (walks chain-position) (λ b. walks (chain-iter deeper step-chain _)) λ b h. gives-iter (λ (y : Deep A). All R (y .read)) (deep-step f) deeper (λ x. walks (step-chain x)) step (λ p x i k. k) _ tt)
 
   gives-instance : (q : ℕ) → Gives (λ x. InstanceTrue (x .found)) (instance-tries q)
   unfolding instance-tries
@@ -859,23 +870,33 @@ module _ (s : ℕ) (t : List ℕ) where
   ItemTrue (struct-item x) = StructTrue x
   ItemTrue blank-item = Unit {0}
 
-  behind-doc : {A : Type 0} {R : A → Type 0} {f : Doc → ℕ → Parser A} → ((d : Doc) (m : ℕ) → DocTrue d → m < 2 ^ 2 → (a : A) → Read (f d m) a → R a) → (a : A) → Read (with-doc-maturity f) a → R a
+  behind-doc : {A : Type 0} {R : A → Type 0} {f : Doc → ℕ → Parser A} → ((d : Doc) (m : ℕ) → Onward (f d m)) → ((d : Doc) (m : ℕ) → DocTrue d → m < 2 ^ 2 → (a : A) → Read (f d m) a → R a) → (a : A) → Read (with-doc-maturity f) a → R a
   unfolding with-doc-maturity
-  behind-doc v =
-      from (gives-bind (walks whitespace0-chain) λ d h. gives-then (walks whitespace0-chain) (gives-bind (walks (chain-local api-maturity-local)) λ m k. gives-then (walks whitespace0-chain) (given (v d m (doc-true h) (maturity-true m k)))))
+  behind-doc w v =
+      from
+      (gives-bind blank (λ d. onward-then blank (onward-bind maturity λ m. onward-then blank (w d m))) λ d h.
+      gives-then blank
+      (gives-bind maturity (λ m. onward-then blank (w d m)) λ m k.
+      gives-then blank (given (v d m (doc-true h) (maturity-true m k)))))
+    where
+      blank : Onward whitespace0
+      blank = walks whitespace0-chain
+
+      maturity : Onward api-maturity
+      maturity = walks (chain-local api-maturity-local)
 
   item-gives : Gives ItemTrue item
   unfolding item parse-enum-after-doc-maturity parse-bitmap-after-doc-maturity
   item-gives =
       gives-or (gives-mapped _ cluster-true)
       (gives-or (gives-mapped _ endpoint-true)
-      (gives-or (gives-mapped _ (behind-doc λ d m h k. choice-true d m h k (ascii "enum")))
-      (gives-or (gives-mapped _ (behind-doc λ d m h k. choice-true d m h k (ascii "bitmap")))
-      (gives-or (gives-mapped _ (behind-doc struct-true)) (gives-last _ blank-item tt)))))
+      (gives-or (gives-mapped _ (behind-doc (λ d m. walks (chain-local (choice-after-doc-maturity-local _ d m))) λ d m h k. choice-true d m h k (ascii "enum")))
+      (gives-or (gives-mapped _ (behind-doc (λ d m. walks (chain-local (choice-after-doc-maturity-local _ d m))) λ d m h k. choice-true d m h k (ascii "bitmap")))
+      (gives-or (gives-mapped _ (behind-doc (λ d m. walks (chain-local (parse-struct-local d m))) struct-true)) (gives-last _ blank-item tt)))))
 
   -- every item that is read from the part
-  pub item-true : {b c : ℕ} {u r : List ℕ} {i : Item} → Rest s t b u → item b u ≡ ok i c r → ItemTrue i
-  item-true {b} {c} {u} {r} {i} h e = item-gives .holds i (record { base = b; rest = u; stands = h; next = c; left = r; reads = e })
+  pub item-true : {b c : ℕ} {u r : List ℕ} {i : Item} → Rest s t b u → item b u ≡ ok i c r → c ≤ end → ItemTrue i
+  item-true {b} {c} {u} {r} {i} h e k = item-gives .holds i (record { base = b; rest = u; stands = h; next = c; left = r; reads = e; before = k })
 
   -- the names by which types are hoisted
   pub choice-name : {c : Choice} → ChoiceTrue c → WordTrue (c .name)
@@ -885,15 +906,15 @@ module _ (s : ℕ) (t : List ℕ) where
   struct-name (true-struct d m y q n f) = n
 
 -- a name of a part is a name of the text around the part
-pub word-around : (s : ℕ) (front part back : List ℕ) {w : Word} → WordTrue (s + length front) part w → WordTrue s (front ++ (part ++ back)) w
-word-around s front part back {w} h =
+pub word-around : (s : ℕ) (front part back : List ℕ) (end : ℕ) → end ≤ s + length front + length part → {w : Word} → WordTrue (s + length front) part end w → WordTrue s (front ++ (part ++ back)) end w
+word-around s front part back end f {w} h =
     let i : ℕ = offsetOf w - (s + length front) in
     let z : offsetOf w - s ≡ length front + i = omega (arith, h .after) in
     let l : i ≤ length part = omega (arith, h .after, h .inside) in
     let k : length (bytesOf w) ≤ length (drop i part) = omega (arith, h .after, h .inside, length-drop i part) in
     record {
       after = omega (arith, h .after);
-      inside = omega (arith, h .inside, length-append front (part ++ back), length-append part back);
+      inside = h .inside;
       same =
           ap (λ j. take (length (bytesOf w)) (drop j (front ++ (part ++ back)))) z
           ∙ (ap (take (length (bytesOf w))) (drop-append-add front (part ++ back) i ∙ drop-append-le i part back l)
