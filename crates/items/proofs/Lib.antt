@@ -23,4 +23,12 @@ pub mod Headed
 pub mod WordBetween
 pub mod RecordWords
 pub mod SetSizes
+-- a parser that succeeds ends inside its text; what is read stands in the text; where it is refused
+pub mod Onward
+pub mod Truth
+pub mod RefusedPlaces
+-- what was packed comes back; a word comes back from its bytes
+pub mod Packing
+-- every record of what is read fits its words
+pub mod RecordsFit
 pub mod KnownAnswers

@@ -1,32 +1,12 @@
 -- Two steps of a sequence that the code takes as one.
 use mathlib.Core.Path.{_≡_, refl, _∙_}
 use mathlib.Core.List.{List}
-use Prim.Native.Nat.{ℕ, _+_, _-_}
-use lib.ListN.{length, drop}
+use Prim.Native.Nat.{ℕ, _-_}
+use lib.ListN.{drop}
 use Rattle.lexing.specs.reply.{Reply, ok, fail, stop, Parser, _>>=_, _>>_}
 use Rattle.lexing.specs.answers.{Rest, lostReply}
 use Rattle.lexing.specs.declared.answers.Lost.{Lost}
-use Rattle.lexing.proofs.Runs.{Suf, suf-trans}
-use Rattle.lexing.proofs.Onward.{Ends, Onward}
 use Rattle.lexing.proofs.Slicing.{Took, go, lose}
-
-pub onward-bind : {A B : Type 0} {m : Parser A} {k : A → Parser B} → Onward m → ((a : A) → Onward (k a)) → Onward (m >>= k)
-unfolding _>>=_
-onward-bind {A} {B} {m} {k} w v = record { onward = λ b u. go b u (m b u) refl (w .onward b u) }
-  where
-    further : (b c : ℕ) (u r : List ℕ) → Suf r u → c + length r ≡ b + length u → (y : Reply B) → Ends c r y → Ends b u y
-    further b c u r s e (ok a c' r') p = (suf-trans (p .0) s, p .1 ∙ e)
-    further b c u r s e (fail q) p = tt
-    further b c u r s e (stop n q) p = tt
-
-    go : (b : ℕ) (u : List ℕ) (x : Reply A) → m b u ≡ x → Ends b u x → Ends b u ((m >>= k) b u)
-    go b u (ok a c r) e p = rw (e, _>>=_) (further b c u r (p .0) (p .1) (k a c r) (v a .onward c r))
-    go b u (fail q) e p = rw (e, _>>=_) tt
-    go b u (stop n q) e p = rw (e, _>>=_) tt
-
-pub onward-then : {A B : Type 0} {m : Parser A} {p : Parser B} → Onward m → Onward p → Onward (m >> p)
-unfolding _>>_
-onward-then w v = onward-bind w λ a. v
 
 assoc-at : {A B C : Type 0} (p : Parser B) (k : B → Parser C) (x : Reply A) (n : ℕ) (v : List ℕ) → (((λ b u. x) >> p) >>= k) n v ≡ ((λ b u. x) >> (p >>= k)) n v
 unfolding _>>=_ _>>_

@@ -2,7 +2,7 @@
 use Prim.Native.Nat.{ℕ, zero, suc, _+_, _-_, _*_, _^_, _/_, _%_}
 use mathlib.Core.List.{List, [], _∷_, _++_, map}
 use lib.ListN.{length}
-use Rattle.items.specs.records.{Extent, absent, at, Bits, bits, Further, value, spanned, Record, each}
+use Rattle.items.specs.records.{Extent, absent, at, Bits, bits, Further, value, spanned, Record, further-of-kind, each}
 
 -- values one behind the other, most significant bit first; z stands above them
 unfoldable pub packed : ℕ → List Bits → ℕ
@@ -61,6 +61,11 @@ unfoldable pub big-endian : ℕ → ℕ → List ℕ
 big-endian zero w = []
 big-endian (suc n) w = big-endian n (w / 256) ++ (w % 256 ∷ [])
 
+-- the number that bytes stand for, the most significant first
+unfoldable pub from-big-endian : List ℕ → ℕ
+from-big-endian [] = 0
+from-big-endian (x ∷ l) = x * 256 ^ length l + from-big-endian l
+
 unfoldable pub words-bytes : List ℕ → List ℕ
 words-bytes l = each (big-endian 8) l
 
@@ -69,6 +74,10 @@ catalogue-words L l = each (record-words L) l
 
 unfoldable pub catalogue-bytes : Layout → List Record → List ℕ
 catalogue-bytes L l = words-bytes (catalogue-words L l)
+
+-- how many words a record of a kind takes: the first and the further ones
+unfoldable pub words-of-kind : ℕ → ℕ
+words-of-kind k = suc (further-of-kind k)
 
 -- how many words records take
 unfoldable pub word-count : List Record → ℕ

@@ -3,7 +3,7 @@ use Prim.Native.Nat.{ℕ, zero, suc, _+_, _-_, _^_}
 use mathlib.Core.Bool.{Bool, true, false}
 use mathlib.Core.Option.{Option, none, some}
 use mathlib.Core.List.{List, [], _∷_, _++_, map}
-use lib.ListN.{length}
+use lib.ListN.{length, getD}
 use Rattle.lexing.specs.words.{Word, word}
 use Rattle.lexing.specs.integers.{Signed, signed}
 use Rattle.lexing.specs.blanks.{Doc, no-doc, doc-at}
@@ -198,6 +198,10 @@ part-records (instantiation i) = plain 13 0 [] (word-extent (i .name)) [] ∷ ma
 
 unfoldable pub endpoint-records : Endpoint → List Record
 endpoint-records e = plain 10 0 [] absent (value (e .id) ∷ []) ∷ each part-records (e .parts)
+
+-- how many further words a record of a kind has, in the order of the kinds
+unfoldable pub further-of-kind : ℕ → ℕ
+further-of-kind k = getD (0 ∷ 3 ∷ 2 ∷ 2 ∷ 1 ∷ 2 ∷ 3 ∷ 1 ∷ 4 ∷ 2 ∷ 1 ∷ 2 ∷ 0 ∷ 0 ∷ 1 ∷ 0 ∷ 0 ∷ []) k 0
 
 -- an item's records; top is the place of a type at the top, place that of a type in a cluster
 unfoldable pub item-records : (top : ℕ) → (place : Member → ℕ) → Item → List Record

@@ -43,7 +43,7 @@ use Rattle.items.specs.declared.clusters.ClusterHeadParts.{ClusterHeadPa
 use Rattle.items.specs.declared.clusters.MembersWrote.{MembersWrote}
 use Rattle.items.proofs.Answers.{read-took}
 use Rattle.items.proofs.Keywords.{keyword-missing}
-use Rattle.items.proofs.Pairs.{onward-bind}
+use Rattle.items.proofs.Onward.{onward-bind}
 use Rattle.items.proofs.Headed.{Headed}
 use Rattle.items.proofs.Choice.{further-ok, ok-further}
 use Rattle.items.proofs.Tries.{maturity-words, bind-ok, then-ok, maturity-elsewhere}

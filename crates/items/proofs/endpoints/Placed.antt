@@ -27,7 +27,7 @@ use Rattle.items.specs.answers.{Room, Written}
 use Rattle.items.specs.answers.endpoints.{TryRoom, TryWritten}
 use Rattle.items.specs.inner.endpoints.{deep-close, deep-tail, deep-rest}
 use Rattle.items.specs.declared.writing.Wrote.{Wrote}
-use Rattle.items.proofs.Pairs.{onward-bind}
+use Rattle.items.proofs.Onward.{onward-bind}
 use Rattle.items.proofs.Mapped.{mapped-ok, mapped-not, value-as}
 use Rattle.items.proofs.Locality.{deep-step-consumes, deep-run-inside}
 use Rattle.items.proofs.RecordWords.{Elementwise, word-count-none, word-count-more, catalogue-bytes-none, catalogue-bytes-length, catalogue-bytes-more}

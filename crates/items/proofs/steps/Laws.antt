@@ -21,7 +21,7 @@ use Rattle.lexing.proofs.Slicing.{Took, took, walks, rest-self, blank-took, gap
 use Rattle.lexing.proofs.TokenLocality.{keyword-chain, whitespace0-chain, whitespace1-chain}
 use Rattle.items.specs.answers.{Skips, SkipsAt, BlankAt, NumberAt}
 use Rattle.items.proofs.Dropping.{behind, skip-behind, tag-skips, keyword-skips}
-use Rattle.items.proofs.Pairs.{onward-then}
+use Rattle.items.proofs.Onward.{onward-then}
 use Rattle.items.proofs.optional.Laws.{skip-took, skip-lost}
 
 blank-on : Onward whitespace0
