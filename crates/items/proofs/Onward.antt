@@ -4,7 +4,7 @@ use mathlib.Core.Path.{_≡_, refl, _∙_, ap}
 use mathlib.Core.Bool.{Bool, true, false}
 use mathlib.Core.List.{List}
 use native.Mathlib.Omega.{arith}
-use lib.ListN.{length, drop}
+use lib.ListN.{length, drop, length-drop}
 use Rattle.lexing.specs.reply.{Reply, ok, fail, stop, Parser, ret, _>>=_, _>>_, prepend, manyWithin, iterWithin, failAt, stopAt, catch, pick}
 use Rattle.lexing.specs.answers.{Rest}
 use Rattle.lexing.proofs.Runs.{same, suf-trans, suf-length}
@@ -20,6 +20,10 @@ rest-on {A} {s} {b} {c} {t} {u} {r} a h p =
     let z : length u - length r ≡ c - b = omega (arith, l, p .1) in
     let up = ends-up a p in
     record { from = omega (arith, h .from, up); same = (rw z at (suf-drop (p .0))) ∙ (ap (drop (c - b)) (h .same) ∙ rebase s b c t (h .from) up); size = p .1 ∙ h .size }
+
+-- of a whole text
+pub rest-whole : (t : List ℕ) (c : ℕ) → c ≤ length t → Rest 0 t c (drop c t)
+rest-whole t c h = let z : c - 0 ≡ c = omega arith in record { from = omega arith; same = rw z; size = omega (arith, length-drop c t) }
 
 ends-then : {A B : Type 0} (b c : ℕ) (u r : List ℕ) (a : A) → Ends b u (ok a c r) → (x : Reply B) → Ends c r x → Ends b u x
 ends-then b c u r a p (ok d e q) k = (suf-trans (k .0) (p .0), k .1 ∙ p .1)

@@ -242,6 +242,12 @@ module _ (s : ℕ) (t : List ℕ) (end : ℕ) where
   unfolding word-extent size offset offsetOf bytesOf
   name-bytes (word o w) h = h .same
 
+-- the same of a whole text
+pub name-whole : (t : List ℕ) (end : ℕ) (w : Word) → WordTrue 0 t end w → take (size (word-extent w)) (drop (offset (word-extent w)) t) ≡ bytesOf w
+name-whole t end w h =
+    let z : offset (word-extent w) - 0 ≡ offset (word-extent w) = omega arith in
+    rw z at (name-bytes 0 t end w h)
+
 -- a word: its values fit and fill 64 bits
 pub record WordFits (l : List Bits) : Type 0 where
   pub fit : Fit l

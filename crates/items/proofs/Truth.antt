@@ -36,7 +36,7 @@ use Rattle.items.specs.records.{response-of}
 use Rattle.items.proofs.Onward.{ends-up, rest-on, onward-ret, onward-fail, onward-stop, onward-pick, onward-catch, onward-many, onward-iter, onward-bind, onward-then}
 use Rattle.items.proofs.Locality.{braces-chain, mapped-inside, api-maturity-local, constant-annotations-list-inside, blank-entry-inside, constant-entries-list-local, shared-before-local, choice-head-local, choice-after-doc-maturity-local, max-length-local, list-marker-local, parse-field-inside, parse-struct-field-inside, closed-field-inside, struct-fields-local, struct-type-of-local, struct-head-local, parse-struct-local, access-privilege-local, event-priority-local, access-to-inside, event-qualities-inside, event-head-inside, command-head-inside, command-types-inside, access-entry-inside, access-entry-consumes, comma-local, separated-list0-inside, access-list-inside, attribute-access-inside, member-tries-inside, parse-cluster-member-inside, side-local, cluster-head-local, deep-run-inside, name-behind-local, device-version-local, value-tries-local, default-attribute-value-local, attribute-handling-type-local, instance-tries-inside, instance-tries-consumes, instantiation-head-local, instances-local, part-tries-inside, part-tries-consumes, endpoint-head-local, parts-local}
 
--- what a step leaves behind it
+-- where a step ends: the tokens' rules and the combinators', and the certificates of the productions
 pub ruleset token-onward = (onward-ret, onward-fail, onward-bind, onward-then, onward-pick, walks, advances-onward, parse-id-advances, tag-advances, integer-advances, signed-advances, string-advances, keyword-chain, any-keyword-chain, whitespace0-chain, whitespace1-chain, set-flags-chain, parse-id-chain, chain-position, chain-opt, chain-local, chain-inside, chain-then, chain-many0, braces-chain)
 
 pub ruleset onward-rules = (token-onward, member-tries-inside, value-tries-local, api-maturity-local, constant-annotations-list-inside, constant-entries-list-local, shared-before-local, choice-head-local, max-length-local, list-marker-local, parse-field-inside, parse-struct-field-inside, struct-fields-local, struct-type-of-local, struct-head-local, access-privilege-local, event-priority-local, access-to-inside, event-qualities-inside, event-head-inside, command-head-inside, command-types-inside, comma-local, access-entry-inside, access-entry-consumes, separated-list0-inside, access-list-inside, attribute-access-inside, member-tries-inside, parse-cluster-member-inside, side-local, cluster-head-local, name-behind-local, device-version-local, default-attribute-value-local, attribute-handling-type-local, instantiation-head-local, instances-local, endpoint-head-local, parts-local)
@@ -50,6 +50,7 @@ abbrev pub Maybe : {A : Type 0} → (A → Type 0) → Option A → Type 0
 Maybe Q none = Unit {0}
 Maybe Q (some a) = Q a
 
+-- only an ok reply holds a value
 fail-no : {A X : Type 0} {p : ℕ} {a : A} {c : ℕ} {r : List ℕ} → fail p ≡ ok a c r → X
 fail-no e = let z : _≡_ {A = ℕ} 0 1 = cc in absurd (omega arith)
 
@@ -130,6 +131,7 @@ signed-fits b (x ∷ u) {z} e = go (eqb x minus) refl (eqb x plus) refl
     go false k true i = after-sign-fits false b u (rw (k, i, signed-integer) at e)
     go false k false i = fail-no (rw (k, i, signed-integer) at e)
 
+-- flags of a set's size
 bit-less : (z : Bool) (p f : ℕ) → f < p → bit z * p + f < p * 2
 unfolding bit
 bit-less true p f h = omega arith
@@ -189,6 +191,7 @@ module _ (s : ℕ) (t : List ℕ) (end : ℕ) where
     pub reads : m base rest ≡ ok a next left
     pub before : next ≤ end
 
+  -- the same run, seen as another parser's
   seen : {A B : Type 0} {m : Parser A} {k : Parser B} {a : A} {d : B} (h : Read k d) → m (h .base) (h .rest) ≡ ok a (h .next) (h .left) → Read m a
   seen h q = record { base = h .base; rest = h .rest; stands = h .stands; next = h .next; left = h .left; reads = q; before = h .before }
 
