@@ -1,0 +1,4 @@
+-- Laws of the definitions of reading.
+
+-- known answers, closed by computing
+pub mod KnownAnswers

@@ -1,0 +1,3 @@
+-- The definitions that the contracts of matter_idl cite: what a reader must believe.
+pub mod hoisting
+pub mod reading

@@ -1,0 +1,1 @@
+// The reader of Matter IDL: a text becomes a catalogue of records.
