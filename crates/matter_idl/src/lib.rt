@@ -1,1 +1,2 @@
 // The reader of Matter IDL: a text becomes a catalogue of records.
+pub mod reading;
