@@ -3,11 +3,13 @@ ghost use Prim.Native.Nat.{_+_, _≤_};
 ghost use lib.ListN.{length};
 ghost use Rattle.items.specs.layout.{text-limit};
 ghost use Rattle.items.specs.records.{each};
-ghost use Rattle.items.specs.answers.{CountTo};
+ghost use Rattle.items.specs.answers.{CountTo, Room, Written};
 ghost use Rattle.items.specs.answers.items.{unhoisted-item};
 ghost use Rattle.matter_idl.specs.reading.{all-items};
 use items::counts::Count;
 use items::items::declaration;
+use items::items::write_declaration;
+use items::writing::Wrote;
 use lexing::blanks::whitespace0;
 use lexing::parts::rest_at;
 
@@ -31,5 +33,27 @@ pub fn count_items(part: &[u8], base: usize) -> Count
         };
         c = next;
         n += k;
+    }
+}
+
+// The second pass over all items of a part, whose records are written one behind the other.
+pub fn write_items(part: &[u8], base: usize, out: &mut [u8], at: usize) -> Wrote
+    requires { ⌜ base + length (now part) ≤ text-limit ⌝ }
+    requires { ⌜ Room (each unhoisted-item) all-items base (now part) at (length (now out)) ⌝ }
+    ensures { λ r. ⌜ Written (each unhoisted-item) all-items base (now (part .entry)) at r (now (out .entry)) (now (out .exit)) ⌝ }
+{
+    let end = base + part.len();
+    let mut c = base;
+    let mut to = at;
+    loop {
+        let w = whitespace0(rest_at(part, base, c), c);
+        let start = w.next;
+        if start == end {
+            return Wrote { next: start, to };
+        }
+        let doc = w.doc;
+        let wrote = write_declaration(rest_at(part, base, start), start, doc, out, to);
+        c = wrote.next;
+        to = wrote.to;
     }
 }
