@@ -2,3 +2,5 @@
 
 -- known answers, closed by computing
 pub mod KnownAnswers
+-- all items of a text, without the fuel of their definition
+pub mod AllItems

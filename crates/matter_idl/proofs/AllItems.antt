@@ -1,0 +1,189 @@
+-- All items of a text are `many0 item`, behind which the text has ended, or else the next item is lost.
+use mathlib.Core.Path.{_≡_, refl, sym, ap, _∙_, subst}
+use mathlib.Core.List.{List, [], _∷_}
+use Prim.Native.Nat.{ℕ, zero, suc, _+_, _-_, _≤_, _<_}
+use native.Mathlib.Omega.{arith}
+use lib.ListN.{length, drop, length-drop}
+use Rattle.lexing.specs.bytes.{ascii}
+use Rattle.lexing.specs.reply.{Reply, ok, fail, stop, Parser, ret, _>>=_, _>>_, position, prepend, many0, catch, iterWithin, iter, keep}
+use Rattle.lexing.specs.words.{parse-id, keyword}
+use Rattle.lexing.specs.blanks.{Doc, no-doc, line-comment, block-comment, multispace1, whitespace-group, one-blank, whitespace0, whitespace1}
+use Rattle.lexing.specs.answers.{lostReply, Rest}
+use Rattle.lexing.specs.answers.{BlankTo}
+use Rattle.lexing.specs.declared.blanks.DocSpan.the-variants.{Absent}
+use Rattle.lexing.specs.declared.answers.Lost.{Lost}
+use Rattle.lexing.specs.declared.answers.Lost.the-variants.{Fail, Stop}
+use Rattle.lexing.proofs.Slicing.{rest-self, begin, lose}
+use Rattle.lexing.proofs.blanks.Laws.{gap-none}
+use Rattle.lexing.proofs.FirstWord.{Frees}
+use Rattle.lexing.proofs.Repetition.{ManyAt, many0-more, many0-fail, many0-stop, many0-ends, manyEnd}
+use Rattle.items.specs.entries.{parse-enum-after-doc-maturity, parse-bitmap-after-doc-maturity}
+use Rattle.items.specs.inner.clusters.{struct-words}
+use Rattle.items.specs.inner.items.{cluster-words}
+use Rattle.items.specs.clusters.{mapped}
+use Rattle.items.specs.items.{Item, item, after-maturity, declaration}
+use Rattle.items.proofs.Choice.{or-both}
+use Rattle.items.proofs.Locality.{item-consumes}
+use Rattle.items.proofs.Tries.{maturity-words, bind-ok, then-ok, then-fail, mapped-fail, maturity-elsewhere, endpoint-elsewhere, cluster-elsewhere, choice-elsewhere, struct-elsewhere}
+use Rattle.items.proofs.items.Laws.{item-is}
+use Rattle.matter_idl.specs.reading.{unless-ended, itemsWithin, all-items}
+
+-- At the end of a text stands no word, no blank, and so no declaration and no item.
+no-keyword : (k : List ℕ) (b : ℕ) → keyword k b [] ≡ fail b
+unfolding keyword position parse-id _>>=_
+no-keyword k b = refl
+
+no-keywords : (ks : List (List ℕ)) (b : ℕ) → Frees b [] ks
+no-keywords [] b = tt
+no-keywords (k ∷ ks) b = (no-keyword k b, no-keywords ks b)
+
+no-blank : (b : ℕ) → whitespace0 b [] ≡ ok no-doc b []
+unfolding whitespace0 iter iterWithin one-blank whitespace-group catch line-comment block-comment multispace1 _>>=_ keep
+no-blank b = refl
+
+-- a run of no blanks
+pub clear-blank : {b : ℕ} {u : List ℕ} → whitespace0 b u ≡ ok no-doc b u → BlankTo (record { next = b; doc = Absent }) b u
+clear-blank {b} {u} e = let z : b - b ≡ 0 = omega arith in record { reads = rw z (sym e); up = omega arith; inside = omega arith }
+
+no-gap : (b : ℕ) → whitespace1 b [] ≡ fail b
+no-gap b = sym (gap-none b [] _ (clear-blank (no-blank b)) refl)
+
+behind-maturity : {A B : Type 0} (f : ℕ → Parser A) (g : A → B) (b : ℕ) → f 0 b [] ≡ fail b → mapped (after-maturity f) g b [] ≡ fail b
+unfolding after-maturity
+behind-maturity f g b e = mapped-fail _ _ (bind-ok _ _ (maturity-elsewhere b [] (no-keywords maturity-words b)) ∙ (then-ok _ _ (no-blank b) ∙ e))
+
+pub no-declaration : (d : Doc) (b : ℕ) → declaration d b [] ≡ fail b
+unfolding declaration parse-enum-after-doc-maturity parse-bitmap-after-doc-maturity
+no-declaration d b =
+    or-both _ _ (behind-maturity _ _ b (cluster-elsewhere b [] d 0 (no-keywords cluster-words b))) (
+    or-both _ _ (mapped-fail _ _ (endpoint-elsewhere b [] (no-blank b) (no-keyword _ b))) (
+    or-both _ _ (behind-maturity _ _ b (choice-elsewhere b [] d 0 _ (no-keyword _ b) (no-keyword _ b))) (
+    or-both _ _ (behind-maturity _ _ b (choice-elsewhere b [] d 0 _ (no-keyword _ b) (no-keyword _ b)))
+    (behind-maturity _ _ b (struct-elsewhere b [] d 0 (no-blank b) (no-keyword _ b) (no-keywords struct-words b)))
+    )))
+
+no-item : (b : ℕ) → item b [] ≡ fail b
+no-item b = item-is b [] (no-blank b) ∙ or-both _ _ (no-declaration no-doc b) (then-fail _ _ (no-gap b))
+
+-- an item that is lost
+unread : Reply Item → Reply (List Item)
+unread (ok i c r) = fail c
+unread (fail p) = fail p
+unread (stop n p) = stop n p
+
+finished : Reply (List Item) → Reply (List Item)
+finished (ok l c []) = ok l c []
+finished (ok l c (x ∷ v)) = unread (item c (x ∷ v))
+finished (fail p) = fail p
+finished (stop n p) = stop n p
+
+prepend-unread : (i : Item) (x : Reply Item) → prepend i (unread x) ≡ unread x
+unfolding prepend unread
+prepend-unread i (ok j c r) = refl
+prepend-unread i (fail p) = refl
+prepend-unread i (stop n p) = refl
+
+prepend-finished : (i : Item) (x : Reply (List Item)) → prepend i (finished x) ≡ finished (prepend i x)
+unfolding prepend finished
+prepend-finished i (ok l c []) = refl
+prepend-finished i (ok l c (x ∷ v)) = prepend-unread i (item c (x ∷ v))
+prepend-finished i (fail p) = refl
+prepend-finished i (stop n p) = refl
+
+-- a turn of the definition's loop
+prepends : (i : Item) (m : Parser (List Item)) (c : ℕ) (r : List ℕ) → (m >>= λ l. ret (i ∷ l)) c r ≡ prepend i (m c r)
+unfolding _>>=_ ret prepend
+prepends i m c r = go (m c r) refl
+  where
+    go : (x : Reply (List Item)) → m c r ≡ x → (m >>= λ l. ret (i ∷ l)) c r ≡ prepend i (m c r)
+    go (ok l e v) z = rw (z, _>>=_) refl
+    go (fail p) z = rw (z, _>>=_) refl
+    go (stop n p) z = rw (z, _>>=_) refl
+
+bind-lost : (k : Item → Parser (List Item)) (b : ℕ) (u : List ℕ) (l : Lost) → item b u ≡ lostReply l → (item >>= k) b u ≡ lostReply l
+bind-lost k b u l e = sym (begin (item >>= k) b u (lose item k l (rest-self b u) (sym e)))
+
+ended-within : (n b : ℕ) → itemsWithin n b [] ≡ finished (many0 item b [])
+unfolding itemsWithin unless-ended ret finished
+ended-within zero b = rw (many0-fail item item-consumes b [] b (no-item b)) refl
+ended-within (suc n) b = rw (many0-fail item item-consumes b [] b (no-item b)) refl
+
+module _ (n b x : ℕ) (v : List ℕ) where
+  turn : (i : Item) (c : ℕ) (r : List ℕ) → item b (x ∷ v) ≡ ok i c r → itemsWithin (suc n) b (x ∷ v) ≡ prepend i (itemsWithin n c r)
+  unfolding itemsWithin unless-ended
+  turn i c r e = bind-ok _ _ e ∙ prepends i (itemsWithin n) c r
+
+  lost-within : (l : Lost) → item b (x ∷ v) ≡ lostReply l → itemsWithin (suc n) b (x ∷ v) ≡ lostReply l
+  unfolding itemsWithin unless-ended
+  lost-within l e = bind-lost _ b (x ∷ v) l e
+
+shorter : (b : ℕ) (u : List ℕ) (i : Item) (c : ℕ) (r : List ℕ) → item b u ≡ ok i c r → length r < length u
+shorter b u i c r e = rw e at (item-consumes .consumes b u)
+
+failed : (b x : ℕ) (v : List ℕ) (p : ℕ) → item b (x ∷ v) ≡ fail p → finished (many0 item b (x ∷ v)) ≡ fail p
+unfolding finished unread
+failed b x v p e = ap finished (many0-fail item item-consumes b (x ∷ v) p e) ∙ ap unread e
+
+stopped : (b x : ℕ) (v : List ℕ) (n p : ℕ) → item b (x ∷ v) ≡ stop n p → finished (many0 item b (x ∷ v)) ≡ stop n p
+unfolding finished
+stopped b x v n p e = ap finished (many0-stop item item-consumes b (x ∷ v) n p e)
+
+all-within : (n b : ℕ) (u : List ℕ) → length u ≤ n → itemsWithin n b u ≡ finished (many0 item b u)
+all-within zero b u h = empty u h
+  where
+    empty : (u : List ℕ) → length u ≤ 0 → itemsWithin 0 b u ≡ finished (many0 item b u)
+    empty [] h = ended-within 0 b
+    empty (x ∷ v) h = absurd (omega arith)
+all-within (suc n) b u h = more u h (all-within n)
+  where
+    more : (u : List ℕ) → length u ≤ suc n → ((b : ℕ) (u : List ℕ) → length u ≤ n → itemsWithin n b u ≡ finished (many0 item b u)) → itemsWithin (suc n) b u ≡ finished (many0 item b u)
+    more [] h ih = ended-within (suc n) b
+    more (x ∷ v) h ih = go (item b (x ∷ v)) refl
+      where
+        go : (y : Reply Item) → item b (x ∷ v) ≡ y → itemsWithin (suc n) b (x ∷ v) ≡ finished (many0 item b (x ∷ v))
+        go (ok i c r) e = turn n b x v i c r e ∙ (ap (prepend i) (ih c r (omega (arith, shorter b (x ∷ v) i c r e))) ∙ (prepend-finished i (many0 item c r) ∙ ap finished (sym (many0-more item item-consumes b (x ∷ v) i c r e))))
+        go (fail p) e = lost-within n b x v (Fail p) e ∙ sym (failed b x v p e)
+        go (stop k p) e = lost-within n b x v (Stop k p) e ∙ sym (stopped b x v k p e)
+
+all-is : (b : ℕ) (u : List ℕ) → all-items b u ≡ finished (many0 item b u)
+unfolding all-items
+all-is b u = all-within (length u) b u (omega arith)
+
+-- what is accepted is the whole text
+never-read : (x : Reply Item) {l : List Item} {c : ℕ} {r : List ℕ} → ok l c r ≡ unread x → ⊥
+unfolding unread
+never-read (ok i d v) e = let z : _≡_ {A = ℕ} 0 1 = cc in omega arith
+never-read (fail p) e = let z : _≡_ {A = ℕ} 0 1 = cc in omega arith
+never-read (stop n p) e = let z : _≡_ {A = ℕ} 0 1 = cc in omega arith
+
+finished-ok : (x : Reply (List Item)) {l : List Item} {c : ℕ} {r : List ℕ} → ok l c r ≡ finished x → (ok l c r ≡ x) × (r ≡ [])
+unfolding finished
+finished-ok (ok k d []) e = (e, cc)
+finished-ok (ok k d (x ∷ v)) e = absurd (never-read (item d (x ∷ v)) e)
+finished-ok (fail p) e = let z : _≡_ {A = ℕ} 0 1 = cc in absurd (omega arith)
+finished-ok (stop n p) e = let z : _≡_ {A = ℕ} 0 1 = cc in absurd (omega arith)
+
+pub accepted-many : (b : ℕ) (u : List ℕ) {l : List Item} {c : ℕ} {r : List ℕ} → ok l c r ≡ all-items b u → (ok l c r ≡ many0 item b u) × (r ≡ [])
+accepted-many b u e = finished-ok (many0 item b u) (e ∙ all-is b u)
+
+-- A loop of the code that stands at c, where the text has ended or an item is lost.
+finished-end : (l : List Item) (c : ℕ) (r : List ℕ) → r ≡ [] → ok l c r ≡ finished (ok l c r)
+unfolding finished
+finished-end l c r e = rw e refl
+
+finished-lost : (l : List Item) (c : ℕ) (r : List ℕ) → 0 < length r → (x : Lost) → lostReply x ≡ item c r → lostReply x ≡ finished (manyEnd x l c r)
+unfolding finished unread
+finished-lost l c [] h x e = absurd (omega arith)
+finished-lost l c (y ∷ v) h (Fail p) e = ap unread e
+finished-lost l c (y ∷ v) h (Stop n p) e = refl
+
+module _ {b c : ℕ} {u r : List ℕ} {l : List Item} (i : ManyAt item b u c l) (q : Rest b u c r) where
+  pub all-ended : r ≡ [] → ok l c (drop (c - b) u) ≡ all-items b u
+  all-ended e =
+      let m = many0-ends item-consumes (Fail c) i q (sym (ap (item c) e ∙ no-item c)) in
+      finished-end l c (drop (c - b) u) (sym (q .same) ∙ e) ∙ sym (all-is b u ∙ ap finished m)
+
+  pub all-lost : 0 < length r → (x : Lost) → lostReply x ≡ item c r → lostReply x ≡ all-items b u
+  all-lost h x e =
+      let m = many0-ends item-consumes x i q e in
+      finished-lost l c (drop (c - b) u) (rw (q .same) at h) x (e ∙ ap (item c) (q .same)) ∙ sym (all-is b u ∙ ap finished m)
