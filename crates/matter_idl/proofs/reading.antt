@@ -1,2 +1,3 @@
 -- Laws of reading.
 pub mod Laws
+pub mod Judged

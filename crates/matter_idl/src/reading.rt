@@ -5,13 +5,25 @@ ghost use Rattle.items.specs.layout.{text-limit};
 ghost use Rattle.items.specs.records.{each};
 ghost use Rattle.items.specs.answers.{CountTo, Room, Written};
 ghost use Rattle.items.specs.answers.items.{unhoisted-item};
+ghost use mathlib.Core.Path.{_≡_};
 ghost use Rattle.matter_idl.specs.reading.{all-items};
+ghost use Rattle.matter_idl.specs.answers.reading.{refusedBy, VerdictTo};
 use items::counts::Count;
+use items::counts::count_lost;
 use items::items::declaration;
 use items::items::write_declaration;
 use items::writing::Wrote;
+use lexing::answers::Lost;
 use lexing::blanks::whitespace0;
 use lexing::parts::rest_at;
+use lexing::utf8::Utf8;
+use lexing::utf8::utf8_error;
+
+// What a text comes to: the words of its catalogue, or the number of a refusal and the value that goes with it.
+pub enum Verdict {
+    Accepted(usize),
+    Refused(usize, usize),
+}
 
 // The first pass over all items of a part: blanks and a declaration, until the part ends.
 pub fn count_items(part: &[u8], base: usize) -> Count
@@ -56,4 +68,31 @@ pub fn write_items(part: &[u8], base: usize, out: &mut [u8], at: usize) -> Wrote
         c = wrote.next;
         to = wrote.to;
     }
+}
+
+fn refused_by(l: Lost) -> Verdict
+    ensures { λ r. ⌜ r ≡ refusedBy l ⌝ }
+{
+    match l {
+        Lost::Fail(p) => Verdict::Refused(3, p),
+        Lost::Stop(n, p) => Verdict::Refused(n, p),
+    }
+}
+
+// The limit, UTF-8, then the first pass.
+pub fn verdict_on(text: &[u8]) -> Verdict
+    ensures { λ r. ⌜ VerdictTo r (now (text .entry)) ⌝ }
+{
+    if 1048575 < text.len() {
+        return Verdict::Refused(1, 1048575);
+    }
+    let u = utf8_error(text, 0);
+    if let Utf8::IllFormed(p) = u {
+        return Verdict::Refused(2, p);
+    }
+    let r = count_items(text, 0);
+    let Count::Words(n, _) = r else {
+        return refused_by(count_lost(r));
+    };
+    Verdict::Accepted(n)
 }

@@ -1,0 +1,2 @@
+-- What the code's answers say in terms of the definitions.
+pub mod reading
