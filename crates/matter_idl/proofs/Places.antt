@@ -1,9 +1,9 @@
 -- Hoisting changes the places of records and nothing else.
 use mathlib.Core.Path.{_≡_, refl, sym, ap, _∙_}
 use mathlib.Core.List.{List, [], _∷_, _++_, map, append-assoc, append-nil}
-use Prim.Native.Nat.{ℕ, _+_}
+use Prim.Native.Nat.{ℕ}
 use native.Mathlib.Omega.{arith}
-use lib.ListN.{length, length-append}
+use lib.ListN.{length-append}
 use Rattle.items.specs.entries.{Choice}
 use Rattle.items.specs.structs.{Struct}
 use Rattle.items.specs.clusters.{Cluster, Member, revision, bitmap, enum, struct, attribute, command, event}
