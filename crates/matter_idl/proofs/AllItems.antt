@@ -1,15 +1,13 @@
 -- All items of a text are `many0 item`, behind which the text has ended, or else the next item is lost.
-use mathlib.Core.Path.{_≡_, refl, sym, ap, _∙_, subst}
+use mathlib.Core.Path.{_≡_, refl, sym, ap, _∙_}
 use mathlib.Core.List.{List, [], _∷_}
-use Prim.Native.Nat.{ℕ, zero, suc, _+_, _-_, _≤_, _<_}
+use Prim.Native.Nat.{ℕ, zero, suc, _-_, _≤_, _<_}
 use native.Mathlib.Omega.{arith}
-use lib.ListN.{length, drop, length-drop}
-use Rattle.lexing.specs.bytes.{ascii}
-use Rattle.lexing.specs.reply.{Reply, ok, fail, stop, Parser, ret, _>>=_, _>>_, position, prepend, many0, catch, iterWithin, iter, keep}
+use lib.ListN.{length, drop}
+use Rattle.lexing.specs.reply.{Reply, ok, fail, stop, Parser, ret, _>>=_, position, prepend, many0, catch, iterWithin, iter, keep}
 use Rattle.lexing.specs.words.{parse-id, keyword}
 use Rattle.lexing.specs.blanks.{Doc, no-doc, line-comment, block-comment, multispace1, whitespace-group, one-blank, whitespace0, whitespace1}
-use Rattle.lexing.specs.answers.{lostReply, Rest}
-use Rattle.lexing.specs.answers.{BlankTo}
+use Rattle.lexing.specs.answers.{lostReply, Rest, BlankTo}
 use Rattle.lexing.specs.declared.blanks.DocSpan.the-variants.{Absent}
 use Rattle.lexing.specs.declared.answers.Lost.{Lost}
 use Rattle.lexing.specs.declared.answers.Lost.the-variants.{Fail, Stop}

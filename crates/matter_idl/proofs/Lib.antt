@@ -4,5 +4,5 @@
 pub mod KnownAnswers
 -- all items of a text, without the fuel of their definition
 pub mod AllItems
--- hoisting changes only places
+-- the places of records
 pub mod Places

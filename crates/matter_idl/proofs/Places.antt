@@ -1,17 +1,18 @@
 -- Hoisting changes the places of records and nothing else.
 use mathlib.Core.Path.{_≡_, refl, sym, ap, _∙_}
 use mathlib.Core.List.{List, [], _∷_, _++_, map, append-assoc, append-nil}
-use Prim.Native.Nat.{ℕ, _+_}
+use Prim.Native.Nat.{ℕ}
 use native.Mathlib.Omega.{arith}
-use lib.ListN.{length, length-append}
+use lib.ListN.{length-append}
 use Rattle.items.specs.entries.{Choice}
 use Rattle.items.specs.structs.{Struct}
-use Rattle.items.specs.clusters.{Member, revision, bitmap, enum, struct, attribute, command, event}
+use Rattle.items.specs.clusters.{Cluster, Member, revision, bitmap, enum, struct, attribute, command, event}
 use Rattle.items.specs.items.{Item, cluster-item, endpoint-item, enum-item, bitmap-item, struct-item, blank-item}
 use Rattle.items.specs.records.{Record, each, documented, choice-records, struct-records, attribute-records, command-record, event-records, member-records, cluster-records, item-records}
 use Rattle.items.specs.layout.{layout-20, record-words, catalogue-words, word-count}
+use Rattle.items.specs.answers.clusters.{unhoisted-records}
 use Rattle.items.specs.answers.items.{unhoisted-item}
-use Rattle.matter_idl.specs.hoisting.{Tables, mark, place-by, after-item, hoisted}
+use Rattle.matter_idl.specs.hoisting.{Tables, place-by, after-item, hoisted}
 
 -- a record at a place
 unfoldable pub with-place : ℕ → Record → Record
@@ -129,6 +130,11 @@ unfoldable pub marked : ℕ → List Record → List Record
 marked p [] = []
 marked p (r ∷ l) = with-place p r ∷ l
 
+pub record ClusterMarked (t : Tables) (c : Cluster) : Type 0 where
+  pub first : Record
+  pub unhoisted : unhoisted-records c ≡ first ∷ each (member-records (λ m. 0)) (c .members)
+  pub hoists : cluster-records (place-by t) c ≡ first ∷ each (λ m. marked (place-by t m) (member-records (λ x. 0) m)) (c .members)
+
 module _ (t : Tables) where
   pub member-marked : (m : Member) → member-records (place-by t) m ≡ marked (place-by t m) (member-records (λ x. 0) m)
   unfolding member-records choice-records struct-records attribute-records command-record event-records documented marked with-place place-by
@@ -145,14 +151,27 @@ module _ (t : Tables) where
   members-marked [] = refl
   members-marked (m ∷ l) = rw (member-marked m, members-marked l) refl
 
-  -- other items keep theirs
-  abbrev NoCluster : Item → Type 0
-  NoCluster (cluster-item c) = ⊥
-  NoCluster (endpoint-item e) = Unit {0}
-  NoCluster (enum-item c) = Unit {0}
-  NoCluster (bitmap-item c) = Unit {0}
-  NoCluster (struct-item s) = Unit {0}
-  NoCluster blank-item = Unit {0}
+  pub cluster-marked : (c : Cluster) → ClusterMarked t c
+  unfolding cluster-records
+  cluster-marked c = record { first = _; unhoisted = refl; hoists = rw (members-marked (c .members)) refl }
+
+-- all other items keep theirs
+abbrev pub NoCluster : Item → Type 0
+NoCluster (cluster-item c) = ⊥
+NoCluster (endpoint-item e) = Unit {0}
+NoCluster (enum-item c) = Unit {0}
+NoCluster (bitmap-item c) = Unit {0}
+NoCluster (struct-item s) = Unit {0}
+NoCluster blank-item = Unit {0}
+
+pub other-kept : (p : ℕ) (f g : Member → ℕ) (i : Item) → NoCluster i → item-records p f i ≡ item-records p g i
+unfolding item-records
+other-kept p f g (cluster-item c) h = absurd h
+other-kept p f g (endpoint-item e) h = refl
+other-kept p f g (enum-item c) h = refl
+other-kept p f g (bitmap-item c) h = refl
+other-kept p f g (struct-item s) h = refl
+other-kept p f g blank-item h = refl
 
 -- hoisting goes on with the tables behind the items before
 unfoldable pub after-items : Tables → List Item → Tables

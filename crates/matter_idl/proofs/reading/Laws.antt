@@ -5,7 +5,7 @@ use mathlib.Core.List.{List, [], _∷_, _++_}
 use Prim.Native.Nat.{ℕ, _+_, _-_, _*_, _≤_, _<_}
 use native.Mathlib.Omega.{arith}
 use native.Mathlib.Decide.{ℕ-discrete}
-use lib.ListN.{length, drop, length-drop}
+use lib.ListN.{length, drop}
 use Rattle.lexing.specs.reply.{Reply, ok, fail, stop, Parser, ret, _>>_, many0}
 use Rattle.lexing.specs.blanks.{whitespace0, whitespace1}
 use Rattle.lexing.specs.answers.{lostReply, Rest, docOf, BlankTo}
@@ -40,6 +40,10 @@ use Rattle.matter_idl.proofs.AllItems.{clear-blank, no-declaration, acc
 -- a rest of a rest
 rest-within : {b c s : ℕ} {u r v : List ℕ} → Rest b u c r → Rest b u s v → c ≤ s → Rest c r s v
 rest-within {b} {c} {s} {u} q q' h = record { from = h; same = q' .same ∙ sym (ap (drop (s - c)) (q .same) ∙ rebase b c s u (q .from) h); size = omega (arith, q .size, q' .size) }
+
+-- bytes are left before the end
+bytes-left : {b s : ℕ} {u v : List ℕ} → Rest b u s v → (s ≡ b + length u → ⊥) → 0 < length v
+bytes-left q e = omega (arith, q .from, q .size, e)
 
 nothing-left : (r : List ℕ) → length r ≡ 0 → r ≡ []
 nothing-left [] e = refl
@@ -94,12 +98,9 @@ module _ {b c n : ℕ} {u r : List ℕ} (i : CountingItems b u c n) (q : Rest b 
           clear : BlankTo (record { next = t .next; doc = Absent }) (t .next) v
           clear = clear-blank (rest-clear (blank-took q w) q')
 
-          some : 0 < length v
-          some = omega (arith, q' .from, q' .size, e)
-
           go : (l : Lost) → DeclarationCountTo (NoCount l) (t .next) v → lostReply l ≡ all-items b u
-          go (Fail p) g = all-lost (passed g .run) q' some (Fail p) (count-lost (Fail p) refl (t .next) v (item-lost clear (rest-self (t .next) v) g refl refl))
-          go (Stop k p) g = all-lost (i .run) q (omega (arith, some, q .size, q' .size, w .up)) (Stop k p) (count-lost (Stop k p) refl c r (stopped (ℕ-discrete (t .next) c)))
+          go (Fail p) g = all-lost (passed g .run) q' (bytes-left q' e) (Fail p) (count-lost (Fail p) refl (t .next) v (item-lost clear (rest-self (t .next) v) g refl refl))
+          go (Stop k p) g = all-lost (i .run) q (omega (arith, bytes-left q' e, q .size, q' .size, w .up)) (Stop k p) (count-lost (Stop k p) refl c r (stopped (ℕ-discrete (t .next) c)))
             where
               stopped : Dec (t .next ≡ c) → CountTo unhoisted-item item (NoCount (Stop k p)) c r
               stopped (yes y) = item-lost w within g y refl
@@ -156,14 +157,11 @@ module _ (b : ℕ) (u : List ℕ) (at : ℕ) (old : List ℕ) (room : Room (each
         pub placing-room : (t .next ≡ b + length u → ⊥) → Room unhoisted-item behind (t .next) v to (length new)
         placing-room e = find (item c r) refl
           where
-            some : 0 < length v
-            some = omega (arith, q' .from, q' .size, e)
-
             within : Rest c r (t .next) v
             within = rest-within q q' (w .up)
 
             lost : (l : Lost) → lostReply l ≡ item c r → ⊥
-            lost l y = no-room room l (all-lost (i .run) q (omega (arith, some, q .size, q' .size, w .up)) l y)
+            lost l y = no-room room l (all-lost (i .run) q (omega (arith, bytes-left q' e, q .size, q' .size, w .up)) l y)
 
             declared : (a : Item) (n : ℕ) (s : List ℕ) → ok a n s ≡ behind (t .next) v → Room unhoisted-item behind (t .next) v to (length new)
             declared a n s y =
@@ -177,7 +175,7 @@ module _ (b : ℕ) (u : List ℕ) (at : ℕ) (old : List ℕ) (room : Room (each
                 let k = rest-is item-walks c n r s a y in
                 let g : ok a n (drop (n - c) r) ≡ item c r = rw (← k) (sym y) in
                 let m = many0-step item-consumes (i .run) (took item-walks q g) .0 in
-                no-room room (Fail p) (all-lost (subst (λ (o : ℕ). ManyAt item b u o (i .seen ++ (a ∷ []))) z m) q' some (Fail p) (sym f))
+                no-room room (Fail p) (all-lost (subst (λ (o : ℕ). ManyAt item b u o (i .seen ++ (a ∷ []))) z m) q' (bytes-left q' e) (Fail p) (sym f))
 
             find : (x : Reply Item) → item c r ≡ x → Room unhoisted-item behind (t .next) v to (length new)
             find (ok a n s) y = go (item-cases c r (sym (w .reads)) (sym y))
