@@ -6,3 +6,4 @@ pub mod KnownAnswers
 pub mod AllItems
 -- the places of records
 pub mod Places
+pub mod Marking
