@@ -2,3 +2,4 @@
 pub mod hoisting
 pub mod reading
 pub mod interface
+pub mod inner

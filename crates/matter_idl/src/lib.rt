@@ -1,2 +1,3 @@
 // The reader of Matter IDL: a text becomes a catalogue of records.
+mod hoisting;
 pub mod interface;

@@ -1,0 +1,2 @@
+-- Laws of hoisting.
+pub mod Search
