@@ -1,2 +1,4 @@
 -- Laws of hoisting.
 pub mod Search
+pub mod Walk
+pub mod Laws

@@ -1,161 +1,123 @@
 use borrow.Author.Needs.{needs}
 use Rattle.matter_idl.proofs.hoisting.word_at.Statement.{statement}
 use Rattle.matter_idl.proofs.hoisting.word_at.Tie as tie
-use Rattle.matter_idl.proofs.hoisting.word_at.Reads as reads
-use Rattle.matter_idl.proofs.hoisting.word_at.Lts as lts
-use Rattle.matter_idl.proofs.hoisting.wide.Reads as wide-reads
+use native.Mathlib.Omega.{arith}
+use denote.Ref.{now}
+use Rattle.matter_idl.proofs.hoisting.Laws.{word-at-is}
 
--- src/hoisting.rt:34:10
 shared-slice-read-wide : tie.Need-shared-slice-read-wide
 shared-slice-read-wide c = search needs
 
--- src/hoisting.rt:34:5
 wide-requires : tie.Need-wide-requires
-wide-requires c κs = search needs
+wide-requires c κs = tt
 
--- src/hoisting.rt:34:5
 mul-result : tie.Need-mul-result
 mul-result c = search needs
 
--- src/hoisting.rt:35:22
 add-wide : tie.Need-add-wide
 add-wide c = search needs
 
--- src/hoisting.rt:35:16
 shared-slice-read-wide-2 : tie.Need-shared-slice-read-wide-2
 shared-slice-read-wide-2 c = search needs
 
--- src/hoisting.rt:35:11
 wide-requires-2 : tie.Need-wide-requires-2
-wide-requires-2 c κs = search needs
+wide-requires-2 c κs = tt
 
--- src/hoisting.rt:35:11
 mul-result-2 : tie.Need-mul-result-2
 mul-result-2 c = search needs
 
--- src/hoisting.rt:34:5
 add-result : tie.Need-add-result
 add-result c = search needs
 
--- src/hoisting.rt:36:22
 add-wide-2 : tie.Need-add-wide-2
 add-wide-2 c = search needs
 
--- src/hoisting.rt:36:16
 shared-slice-read-wide-3 : tie.Need-shared-slice-read-wide-3
 shared-slice-read-wide-3 c = search needs
 
--- src/hoisting.rt:36:11
 wide-requires-3 : tie.Need-wide-requires-3
-wide-requires-3 c κs = search needs
+wide-requires-3 c κs = tt
 
--- src/hoisting.rt:36:11
 mul-result-3 : tie.Need-mul-result-3
 mul-result-3 c = search needs
 
--- src/hoisting.rt:34:5
 add-result-2 : tie.Need-add-result-2
 add-result-2 c = search needs
 
--- src/hoisting.rt:37:22
 add-wide-3 : tie.Need-add-wide-3
 add-wide-3 c = search needs
 
--- src/hoisting.rt:37:16
 shared-slice-read-wide-4 : tie.Need-shared-slice-read-wide-4
 shared-slice-read-wide-4 c = search needs
 
--- src/hoisting.rt:37:11
 wide-requires-4 : tie.Need-wide-requires-4
-wide-requires-4 c κs = search needs
+wide-requires-4 c κs = tt
 
--- src/hoisting.rt:37:11
 mul-result-4 : tie.Need-mul-result-4
 mul-result-4 c = search needs
 
--- src/hoisting.rt:34:5
 add-result-3 : tie.Need-add-result-3
 add-result-3 c = search needs
 
--- src/hoisting.rt:38:22
 add-wide-4 : tie.Need-add-wide-4
 add-wide-4 c = search needs
 
--- src/hoisting.rt:38:16
 shared-slice-read-wide-5 : tie.Need-shared-slice-read-wide-5
 shared-slice-read-wide-5 c = search needs
 
--- src/hoisting.rt:38:11
 wide-requires-5 : tie.Need-wide-requires-5
-wide-requires-5 c κs = search needs
+wide-requires-5 c κs = tt
 
--- src/hoisting.rt:38:11
 mul-result-5 : tie.Need-mul-result-5
 mul-result-5 c = search needs
 
--- src/hoisting.rt:34:5
 add-result-4 : tie.Need-add-result-4
 add-result-4 c = search needs
 
--- src/hoisting.rt:39:22
 add-wide-5 : tie.Need-add-wide-5
 add-wide-5 c = search needs
 
--- src/hoisting.rt:39:16
 shared-slice-read-wide-6 : tie.Need-shared-slice-read-wide-6
 shared-slice-read-wide-6 c = search needs
 
--- src/hoisting.rt:39:11
 wide-requires-6 : tie.Need-wide-requires-6
-wide-requires-6 c κs = search needs
+wide-requires-6 c κs = tt
 
--- src/hoisting.rt:39:11
 mul-result-6 : tie.Need-mul-result-6
 mul-result-6 c = search needs
 
--- src/hoisting.rt:34:5
 add-result-5 : tie.Need-add-result-5
 add-result-5 c = search needs
 
--- src/hoisting.rt:40:22
 add-wide-6 : tie.Need-add-wide-6
 add-wide-6 c = search needs
 
--- src/hoisting.rt:40:16
 shared-slice-read-wide-7 : tie.Need-shared-slice-read-wide-7
 shared-slice-read-wide-7 c = search needs
 
--- src/hoisting.rt:40:11
 wide-requires-7 : tie.Need-wide-requires-7
-wide-requires-7 c κs = search needs
+wide-requires-7 c κs = tt
 
--- src/hoisting.rt:40:11
 mul-result-7 : tie.Need-mul-result-7
 mul-result-7 c = search needs
 
--- src/hoisting.rt:34:5
 add-result-6 : tie.Need-add-result-6
 add-result-6 c = search needs
 
--- src/hoisting.rt:41:22
 add-wide-7 : tie.Need-add-wide-7
 add-wide-7 c = search needs
 
--- src/hoisting.rt:41:16
 shared-slice-read-wide-8 : tie.Need-shared-slice-read-wide-8
 shared-slice-read-wide-8 c = search needs
 
--- src/hoisting.rt:41:11
 wide-requires-8 : tie.Need-wide-requires-8
-wide-requires-8 c κs = search needs
+wide-requires-8 c κs = tt
 
--- src/hoisting.rt:34:5
 add-result-7 : tie.Need-add-result-7
 add-result-7 c = search needs
 
--- src/hoisting.rt:30:1
 returns : tie.Need-returns
-returns c = ?
+returns c = omega (arith, word-at-is (now (c .before .before .before .before .before .before .before .before .before .before .before .before .before .before .before .before .before .args .bytes)) (c .before .before .before .before .before .before .before .before .before .before .before .before .before .before .before .before .before .args .at) (c .before .before .before .before .before .before .before .before .before .before .before .before .before .before .before .before .before .pre), c .before .before .before .before .before .before .before .before .before .before .before .before .before .before .wide .ensures .0, c .before .before .before .before .before .before .before .before .before .before .before .before .wide2 .ensures .0, c .before .before .before .before .before .before .before .before .before .before .wide3 .ensures .0, c .before .before .before .before .before .before .before .before .wide4 .ensures .0, c .before .before .before .before .before .before .wide5 .ensures .0, c .before .before .before .before .wide6 .ensures .0, c .before .before .wide7 .ensures .0, c .wide8 .ensures .0)
 
 pub word-at-spec : {M : Type 1} → statement M
 word-at-spec =

@@ -1,28 +1,28 @@
 use borrow.Author.Needs.{needs}
 use Rattle.matter_idl.proofs.hoisting.words_of.Statement.{statement}
 use Rattle.matter_idl.proofs.hoisting.words_of.Tie as tie
-use Rattle.matter_idl.proofs.hoisting.words_of.Reads as reads
-use Rattle.matter_idl.proofs.hoisting.words_of.Lts as lts
+use native.Mathlib.Omega.{arith}
+use Rattle.items.specs.records.{further-of-kind}
+use Rattle.items.specs.layout.{words-of-kind}
+use Rattle.matter_idl.proofs.hoisting.Laws.{further-small, words-past}
 
--- src/hoisting.rt:17:20
 element-copy-out-result : tie.Need-element-copy-out-result
 element-copy-out-result c = search needs
 
--- src/hoisting.rt:17:20
 cast-result : tie.Need-cast-result
-cast-result c = search needs
+unfolding further-of-kind
+cast-result c = omega (arith, further-small (c .before .before .before .args .kind))
 
--- src/hoisting.rt:17:16
 add-result : tie.Need-add-result
-add-result c = search needs
+unfolding further-of-kind
+add-result c = omega (arith, further-small (c .before .before .before .args .kind))
 
--- src/hoisting.rt:17:9
 returns : tie.Need-returns
-returns c = ?
+unfolding words-of-kind further-of-kind
+returns c = omega arith
 
--- src/hoisting.rt:12:1
 returns-2 : tie.Need-returns-2
-returns-2 c = ?
+returns-2 c = words-past (c .if1 .left)
 
 pub words-of-spec : {M : Type 1} → statement M
 words-of-spec =
