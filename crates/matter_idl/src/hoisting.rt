@@ -1,12 +1,10 @@
 // Hoisting over the catalogue: the table of ids is a search of the records before.
 ghost use mathlib.Core.Path.{_≡_};
-ghost use mathlib.Core.List.{_++_};
 ghost use Prim.Native.Nat.{_+_, _/_, _%_, _^_, _≤_, _<_};
 ghost use lib.ListN.{length, take, drop};
 ghost use Rattle.lexing.specs.word_sets.{same-bytes};
-ghost use Rattle.items.specs.records.{at};
 ghost use Rattle.items.specs.layout.{from-big-endian, words-of-kind, text-limit};
-ghost use Rattle.matter_idl.specs.inner.hoisting.{bytes-at, found, word-hits, Catalogue};
+ghost use Rattle.matter_idl.specs.inner.hoisting.{word-hits, Catalogue, HeldTo};
 
 // How many words a record of a kind takes.
 fn words_of(kind: usize) -> usize
@@ -81,7 +79,7 @@ fn is_held(text: &[u8], out: &[u8], end: usize, kind: u64, name: usize, size: us
     requires { ⌜ length (now text) ≤ text-limit ⌝ }
     requires { ⌜ Catalogue (length (now text)) (now out) end ⌝ }
     requires { ⌜ name + size ≤ length (now text) ⌝ }
-    ensures { λ r. ⌜ (c : Catalogue (length (now (text .entry))) (now (out .entry)) end) → r ≡ found (now (text .entry)) kind (bytes-at (now (text .entry)) (at name size)) (c .records) ⌝ }
+    ensures { λ r. ⌜ HeldTo r (now (text .entry)) (now (out .entry)) end kind name size ⌝ }
 {
     let mut at = 0;
     while at < end {

@@ -180,3 +180,7 @@ module _ (t : List ℕ) (k : ℕ) (i : List ℕ) {out : List ℕ} {end : ℕ} wh
           unfolding found
           held-more o m q d y z =
               rw (z, words-are) (record { front = _; left = stands .rest; walk = walk-next (stands .walk); same = stands .holds ∙ ap (λ x. x || found t k i (stands .rest)) (told o m q d ∙ y) })
+
+-- the loop: whichever records stand there
+abbrev pub Searching : (t out : List ℕ) → (end k o n p : ℕ) → Type 0
+Searching t out end k o n p = (c : Catalogue (length t) out end) → HeldAt t k (bytes-at t (at o n)) c p

@@ -34,3 +34,7 @@ pub record Catalogue (n : ℕ) (out : List ℕ) (end : ℕ) : Type 0 where
   pub tail : List ℕ
   pub bytes : out ≡ catalogue-bytes layout-20 records ++ tail
   pub ends : end ≡ 8 * word-count records
+
+-- whether the records before end hold the id of n bytes at offset o
+abbrev pub HeldTo : Bool → List ℕ → List ℕ → ℕ → ℕ → ℕ → ℕ → Type 0
+HeldTo r t out end k o n = (c : Catalogue (length t) out end) → r ≡ found t k (bytes-at t (at o n)) (c .records)
