@@ -7,7 +7,7 @@ use lib.Dec.{eqb}
 use lib.ListN.{length, take, drop}
 use Rattle.lexing.specs.word_sets.{same-bytes}
 use Rattle.items.specs.records.{Extent, at, Record}
-use Rattle.items.specs.layout.{offset, size, layout-20, catalogue-bytes, word-count}
+use Rattle.items.specs.layout.{from-top, offset, size, layout-20, catalogue-bytes, word-count}
 use Rattle.items.proofs.Truth.{All}
 use Rattle.items.proofs.RecordsFit.{RecordFits}
 
@@ -38,3 +38,34 @@ pub record Catalogue (n : ℕ) (out : List ℕ) (end : ℕ) : Type 0 where
 -- whether the records before end hold the id of n bytes at offset o
 abbrev pub HeldTo : Bool → List ℕ → List ℕ → ℕ → ℕ → ℕ → ℕ → Type 0
 HeldTo r t out end k o n = (c : Catalogue (length t) out end) → r ≡ found t k (bytes-at t (at o n)) (c .records)
+
+-- a shared type by its kind and its seven flags
+unfoldable pub flags-shared : ℕ → ℕ → Bool
+flags-shared k f = elim (eqb k 5) [ true ↦ eqb (f / 2 ^ 5) 3 | false ↦ (eqb k 2 || eqb k 3) && eqb (f / 2 ^ 6) 1 ]
+
+-- a shared type in a cluster that has no mark yet
+unfoldable pub is-unmarked : ℕ → ℕ → ℕ → Bool
+is-unmarked k p f = eqb p 0 && flags-shared k f
+
+-- its mark, by the records before its cluster
+unfoldable pub mark-after : List ℕ → List Record → ℕ → Extent → ℕ
+mark-after t before k e = elim (found t k (bytes-at t e) before) [ true ↦ 2 | false ↦ 1 ]
+
+unfoldable pub new-place : List ℕ → List Record → Record → ℕ
+new-place t before r = elim (is-unmarked (r .kind) (r .place) (from-top 7 (r .flags))) [ true ↦ mark-after t before (r .kind) (r .name) | false ↦ r .place ]
+
+unfoldable pub with-place : ℕ → Record → Record
+with-place p r = record {
+  kind = r .kind;
+  place = p;
+  maturity = r .maturity;
+  doc-present = r .doc-present;
+  flags = r .flags;
+  name = r .name;
+  first-privilege = r .first-privilege;
+  second-privilege = r .second-privilege;
+  further = r .further;
+}
+
+unfoldable pub marked : List ℕ → List Record → Record → Record
+marked t before r = with-place (new-place t before r) r
