@@ -3,3 +3,4 @@ pub mod hoisting
 pub mod reading
 pub mod interface
 pub mod answers
+pub mod inner

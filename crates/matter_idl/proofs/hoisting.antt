@@ -1,0 +1,5 @@
+-- Laws of hoisting.
+pub mod Search
+pub mod Walk
+pub mod Marks
+pub mod Laws

@@ -1,0 +1,186 @@
+-- Laws of the functions of hoisting.
+use Prim.Native.Nat.{ℕ, zero, suc, _+_, _-_, _*_, _^_, _/_, _%_, _≤_, _<_}
+use mathlib.Core.Path.{_≡_, refl, sym, _∙_, ap}
+use mathlib.Core.Bool.{Bool, true, false, _&&_, _||_}
+use mathlib.Core.List.{List, [], _∷_, _++_}
+use native.Mathlib.Omega.{arith}
+use native.Mathlib.Numerals.{towards-suc}
+use native.Mathlib.Nat.{add-zero}
+use lib.Dec.{eqb, leb}
+use lib.ListN.{length, take, drop, getD, length-drop, List·getD-eq-default}
+use lib.Seq.{drop-cons, length-take-le}
+use borrow.Author.Tests.{leb-true, eq-eqb, ne-eqb}
+use Rattle.lexing.specs.word_sets.{same-bytes}
+use Rattle.items.specs.records.{at, Record, further-of-kind}
+use Rattle.items.specs.layout.{offset, size, from-big-endian, layout-20, words-of-kind, catalogue-bytes, word-count, text-limit}
+use Rattle.items.proofs.Truth.{All}
+use Rattle.items.proofs.RecordWords.{catalogue-bytes-none, word-count-none}
+use Rattle.items.proofs.RecordsFit.{RecordFits}
+use Rattle.matter_idl.specs.inner.hoisting.{bytes-at, hits, found, word-hits, Catalogue}
+use Rattle.matter_idl.proofs.hoisting.Walk.{Walk, FirstOf, kind-of, place-of, offset-of, size-of, name-in, walk-fits, walk-first, walk-next, words-some, Standing, walk-stands, walk-over}
+
+-- a record has at most four further words
+abbrev below : ℕ → List ℕ → Bool
+below n [] = true
+below n (x ∷ l) = leb x n && below n l
+
+both : (a b : Bool) → (a && b) ≡ true → (a ≡ true) × (b ≡ true)
+both true b h = (refl, h)
+both false b h = let z : _≡_ {A = ℕ} 0 1 = cc in absurd (omega arith)
+
+at-most : (n : ℕ) (l : List ℕ) → below n l ≡ true → (k : ℕ) → getD l k 0 ≤ n
+at-most n [] h k = omega arith
+at-most n (x ∷ l) h zero = leb-true x n (both (leb x n) (below n l) h .0)
+at-most n (x ∷ l) h (suc k) = at-most n l (both (leb x n) (below n l) h .1) k
+
+abbrev table : List ℕ
+table = 0 ∷ 3 ∷ 2 ∷ 2 ∷ 1 ∷ 2 ∷ 3 ∷ 1 ∷ 4 ∷ 2 ∷ 1 ∷ 2 ∷ 0 ∷ 0 ∷ 1 ∷ 0 ∷ 0 ∷ []
+
+pub further-small : (k : ℕ) → further-of-kind k ≤ 4
+unfolding further-of-kind
+further-small k = at-most 4 table refl k
+
+pub words-past : {k : ℕ} → 17 ≤ k → 1 ≡ words-of-kind k
+unfolding words-of-kind further-of-kind
+words-past h = sym (ap suc (List·getD-eq-default table 0 h))
+
+-- the bytes of a word
+abbrev elements : ℕ → List ℕ → ℕ → List ℕ
+elements zero l i = []
+elements (suc n) l i = getD l i 0 ∷ elements n l (suc i)
+
+elements-are : (n : ℕ) (l : List ℕ) (i : ℕ) → i + n ≤ length l → take n (drop i l) ≡ elements n l i
+elements-are zero l i h = refl
+elements-are (suc n) l i h = ap (take (suc n)) (drop-cons l i 0 (omega arith)) ∙ ap (λ x. getD l i 0 ∷ x) (elements-are n l (suc i) (omega arith))
+
+pub word-at-is : (l : List ℕ) (i : ℕ) → i + 8 ≤ length l
+    → getD l i 0 * 72057594037927936 + getD l (i + 1) 0 * 281474976710656 + getD l (i + 2) 0 * 1099511627776 + getD l (i + 3) 0 * 4294967296 + getD l (i + 4) 0 * 16777216 + getD l (i + 5) 0 * 65536 + getD l (i + 6) 0 * 256 + getD l (i + 7) 0
+    ≡ from-big-endian (take 8 (drop i l))
+unfolding from-big-endian
+word-at-is l i h = rw (elements-are 8 l i h) (simp towards-suc (omega arith))
+
+-- two parts of a text, the first i bytes of which are the same
+pub record SameAt (t : List ℕ) (a b n i : ℕ) : Type 0 where
+  pub inside : i ≤ n
+  pub left : same-bytes (take n (drop a t)) (take n (drop b t)) ≡ same-bytes (take (n - i) (drop (a + i) t)) (take (n - i) (drop (b + i) t))
+
+module _ (t : List ℕ) (a b n : ℕ) where
+  pub same-start : SameAt t a b n 0
+  same-start = record { inside = omega arith; left = let z : n - 0 ≡ n = omega arith in rw (z, add-zero a, add-zero b) refl }
+
+  module _ {i : ℕ} (s : SameAt t a b n i) where
+    pub same-end : n ≤ i → true ≡ same-bytes (take n (drop a t)) (take n (drop b t))
+    unfolding same-bytes
+    same-end h = let z : n - i ≡ 0 = omega (arith, s .inside) in sym (s .left ∙ rw z refl)
+
+    module _ (h : i < n) (ha : a + n ≤ length t) (hb : b + n ≤ length t) where
+      next : same-bytes (take n (drop a t)) (take n (drop b t)) ≡ (eqb (getD t (a + i) 0) (getD t (b + i) 0) && same-bytes (take (n - suc i) (drop (a + suc i) t)) (take (n - suc i) (drop (b + suc i) t)))
+      unfolding same-bytes
+      next =
+          let z : n - i ≡ suc (n - suc i) = omega arith in
+          let x : a + suc i ≡ suc (a + i) = omega arith in
+          let y : b + suc i ≡ suc (b + i) = omega arith in
+          s .left ∙ rw (z, drop-cons t (a + i) 0 (omega arith), drop-cons t (b + i) 0 (omega arith), x, y) refl
+
+      pub same-differs : (getD t (a + i) 0 ≡ getD t (b + i) 0 → ⊥) → false ≡ same-bytes (take n (drop a t)) (take n (drop b t))
+      same-differs d = sym (next ∙ ap (λ z. z && same-bytes (take (n - suc i) (drop (a + suc i) t)) (take (n - suc i) (drop (b + suc i) t))) (ne-eqb _ _ d))
+
+      pub same-more : getD t (a + i) 0 ≡ getD t (b + i) 0 → SameAt t a b n (i + 1)
+      same-more e =
+          let z : i + 1 ≡ suc i = omega arith in
+          rw z (record { inside = h; left = next ∙ ap (λ z. z && same-bytes (take (n - suc i) (drop (a + suc i) t)) (take (n - suc i) (drop (b + suc i) t))) (eq-eqb _ _ e) })
+
+-- parts of other lengths are not the same
+pub lengths-differ : (u v : List ℕ) → (length u ≡ length v → ⊥) → false ≡ same-bytes u v
+unfolding same-bytes
+lengths-differ [] [] h = absurd (h refl)
+lengths-differ [] (y ∷ v) h = refl
+lengths-differ (x ∷ u) [] h = refl
+lengths-differ (x ∷ u) (y ∷ v) h = go (eqb x y) (lengths-differ u v λ e. h (ap suc e))
+  where
+    go : (z : Bool) → false ≡ same-bytes u v → false ≡ (z && same-bytes u v)
+    go true e = e
+    go false e = refl
+
+part-length : (t : List ℕ) (o n : ℕ) → o + n ≤ length t → length (take n (drop o t)) ≡ n
+part-length t o n h = length-take-le n (drop o t) (omega (arith, length-drop o t))
+
+-- the tests of a first word, in the code's order
+and-nil : (a : Bool) → false ≡ (a && false)
+and-nil true = refl
+and-nil false = refl
+
+module _ (t : List ℕ) (k o n w : ℕ) where
+  pub hits-no-place : (w / 2 ^ 54 % 2 ^ 2 ≡ 1 → ⊥) → false ≡ word-hits t k o n w
+  unfolding word-hits
+  hits-no-place d = rw (ne-eqb _ _ d) refl
+
+  pub hits-no-kind : (w / 2 ^ 56 ≡ k → ⊥) → false ≡ word-hits t k o n w
+  unfolding word-hits
+  hits-no-kind d = rw (ne-eqb _ _ d) (and-nil (eqb (w / 2 ^ 54 % 2 ^ 2) 1))
+
+  module _ (h : w / 2 ^ 24 % 2 ^ 20 + w / 2 ^ 4 % 2 ^ 20 ≤ length t) (i : o + n ≤ length t) where
+    pub hits-no-size : (w / 2 ^ 4 % 2 ^ 20 ≡ n → ⊥) → false ≡ word-hits t k o n w
+    unfolding word-hits bytes-at offset size
+    hits-no-size d =
+        let z = lengths-differ (take n (drop o t)) (take (w / 2 ^ 4 % 2 ^ 20) (drop (w / 2 ^ 24 % 2 ^ 20) t)) (λ e. d (sym (sym (part-length t o n i) ∙ e ∙ part-length t _ _ h))) in
+        rw (← z) (and-nil (eqb (w / 2 ^ 54 % 2 ^ 2) 1) ∙ ap (λ x. eqb (w / 2 ^ 54 % 2 ^ 2) 1 && x) (and-nil (eqb (w / 2 ^ 56) k)))
+
+  pub hits-same : w / 2 ^ 54 % 2 ^ 2 ≡ 1 → w / 2 ^ 56 ≡ k → w / 2 ^ 4 % 2 ^ 20 ≡ n → {r : Bool} → r ≡ same-bytes (take n (drop o t)) (take n (drop (w / 2 ^ 24 % 2 ^ 20) t)) → r ≡ word-hits t k o n w
+  unfolding word-hits bytes-at offset size
+  hits-same p q z e = rw (eq-eqb _ _ p, eq-eqb _ _ q, z) e
+
+-- the test of a word is that of its record
+pub first-hits : (t : List ℕ) (k o m : ℕ) → length t ≤ text-limit → {w : ℕ} (f : FirstOf (length t) w) → word-hits t k o m w ≡ hits t k (bytes-at t (at o m)) (f .of)
+unfolding word-hits hits bytes-at offset size
+first-hits t k o m limit {w} f = rw (place-of limit f, kind-of limit f, offset-of limit f, size-of limit f) refl
+
+-- the search: no record before p hits
+module _ (t : List ℕ) (k : ℕ) (i : List ℕ) {out : List ℕ} {end : ℕ} where
+  pub record HeldAt (c : Catalogue (length t) out end) (p : ℕ) : Type 0 where
+    pub front : List ℕ
+    pub left : List Record
+    pub walk : Walk (length t) front left (c .tail) out p end
+    pub same : found t k i (c .records) ≡ found t k i left
+
+  module _ (c : Catalogue (length t) out end) where
+    pub held-start : HeldAt c 0
+    held-start = record { front = []; left = c .records; walk = record { bytes = c .bytes; start = refl; ends = omega (arith, c .ends); fit = c .fit }; same = refl }
+
+    module _ {p : ℕ} (h : HeldAt c p) where
+      pub held-end : end ≤ p → false ≡ found t k i (c .records)
+      unfolding found
+      held-end e = sym (h .same ∙ ap (found t k i) (walk-over (h .left) (h .walk) e))
+
+      module _ (e : p < end) where
+        stands : Standing (λ l. found t k i (c .records) ≡ found t k i l) (length t) (h .front) (c .tail) out p end
+        stands = walk-stands _ (h .left) (h .walk) e (h .same)
+
+        pub held-room : p + 8 ≤ length out
+        held-room = let s = stands in omega (arith, walk-fits (s .walk) .0, walk-fits (s .walk) .1, words-some (s .this .kind))
+
+        module _ (limit : length t ≤ text-limit) {w : ℕ} (g : w ≡ from-big-endian (take 8 (drop p out))) where
+          pub held-first : FirstOf (length t) w
+          held-first = walk-first (stands .walk) limit g
+
+          words-are : words-of-kind (w / 2 ^ 56) ≡ words-of-kind (stands .this .kind)
+          words-are = ap words-of-kind (kind-of limit (walk-first (stands .walk) limit g))
+
+          pub held-inside : {n : ℕ} → n ≡ words-of-kind (w / 2 ^ 56) → (p < p + 8 * n) × (p + 8 * n ≤ end)
+          held-inside z = (omega (arith, z, words-some (w / 2 ^ 56)), omega (arith, z, words-are, walk-fits (stands .walk) .0))
+
+          told : (o m : ℕ) → i ≡ bytes-at t (at o m) → {b : Bool} → b ≡ word-hits t k o m w → hits t k i (stands .this) ≡ b
+          told o m q d = sym (d ∙ (first-hits t k o m limit (walk-first (stands .walk) limit g) ∙ ap (λ x. hits t k x (stands .this)) (sym q)))
+
+          pub held-yes : (o m : ℕ) → i ≡ bytes-at t (at o m) → {b : Bool} → b ≡ word-hits t k o m w → b ≡ true → true ≡ found t k i (c .records)
+          unfolding found
+          held-yes o m q d y = sym (stands .holds ∙ ap (λ x. x || found t k i (stands .rest)) (told o m q d ∙ y))
+
+          pub held-more : (o m : ℕ) → i ≡ bytes-at t (at o m) → {b : Bool} → b ≡ word-hits t k o m w → b ≡ false → {n : ℕ} → n ≡ words-of-kind (w / 2 ^ 56) → HeldAt c (p + 8 * n)
+          unfolding found
+          held-more o m q d y z =
+              rw (z, words-are) (record { front = _; left = stands .rest; walk = walk-next (stands .walk); same = stands .holds ∙ ap (λ x. x || found t k i (stands .rest)) (told o m q d ∙ y) })
+
+-- the loop: whichever records stand there
+abbrev pub Searching : (t out : List ℕ) → (end k o n p : ℕ) → Type 0
+Searching t out end k o n p = (c : Catalogue (length t) out end) → HeldAt t k (bytes-at t (at o n)) c p

@@ -1,0 +1,2 @@
+-- What private functions promise. No public contract rests on it.
+pub mod hoisting

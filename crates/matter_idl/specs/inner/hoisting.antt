@@ -1,0 +1,71 @@
+-- Hoisting by a search of the records before: what it finds, and what it does to a record.
+use Prim.Native.Nat.{ℕ, _+_, _*_, _^_, _/_, _%_}
+use mathlib.Core.Path.{_≡_}
+use mathlib.Core.Bool.{Bool, true, false, _&&_, _||_}
+use mathlib.Core.List.{List, [], _∷_, _++_}
+use lib.Dec.{eqb}
+use lib.ListN.{length, take, drop}
+use Rattle.lexing.specs.word_sets.{same-bytes}
+use Rattle.items.specs.records.{Extent, at, Record}
+use Rattle.items.specs.layout.{from-top, offset, size, layout-20, catalogue-bytes, word-count}
+use Rattle.items.proofs.Truth.{All}
+use Rattle.items.proofs.RecordsFit.{RecordFits}
+
+-- the bytes of a name in the text
+unfoldable pub bytes-at : List ℕ → Extent → List ℕ
+bytes-at t e = take (size e) (drop (offset e) t)
+
+-- a global type of kind k with the id i
+unfoldable pub hits : List ℕ → ℕ → List ℕ → Record → Bool
+hits t k i r = eqb (r .place) 1 && (eqb (r .kind) k && same-bytes i (bytes-at t (r .name)))
+
+unfoldable pub found : List ℕ → ℕ → List ℕ → List Record → Bool
+found t k i [] = false
+found t k i (r ∷ l) = hits t k i r || found t k i l
+
+-- the same of a record's first word w, for the id of n bytes at offset o
+unfoldable pub word-hits : List ℕ → ℕ → ℕ → ℕ → ℕ → Bool
+word-hits t k o n w = eqb (w / 2 ^ 54 % 2 ^ 2) 1 && (eqb (w / 2 ^ 56) k && same-bytes (bytes-at t (at o n)) (bytes-at t (at (w / 2 ^ 24 % 2 ^ 20) (w / 2 ^ 4 % 2 ^ 20))))
+
+-- records of a text of n bytes at the front of a buffer, up to end
+pub record Catalogue (n : ℕ) (out : List ℕ) (end : ℕ) : Type 0 where
+  pub records : List Record
+  pub fit : All (RecordFits n) records
+  pub tail : List ℕ
+  pub bytes : out ≡ catalogue-bytes layout-20 records ++ tail
+  pub ends : end ≡ 8 * word-count records
+
+-- whether the records before end hold the id of n bytes at offset o
+abbrev pub HeldTo : Bool → List ℕ → List ℕ → ℕ → ℕ → ℕ → ℕ → Type 0
+HeldTo r t out end k o n = (c : Catalogue (length t) out end) → r ≡ found t k (bytes-at t (at o n)) (c .records)
+
+-- a shared type by its kind and its seven flags
+unfoldable pub flags-shared : ℕ → ℕ → Bool
+flags-shared k f = elim (eqb k 5) [ true ↦ eqb (f / 2 ^ 5) 3 | false ↦ (eqb k 2 || eqb k 3) && eqb (f / 2 ^ 6) 1 ]
+
+-- a shared type in a cluster that has no mark yet
+unfoldable pub is-unmarked : ℕ → ℕ → ℕ → Bool
+is-unmarked k p f = eqb p 0 && flags-shared k f
+
+-- its mark, by the records before its cluster
+unfoldable pub mark-after : List ℕ → List Record → ℕ → Extent → ℕ
+mark-after t before k e = elim (found t k (bytes-at t e) before) [ true ↦ 2 | false ↦ 1 ]
+
+unfoldable pub new-place : List ℕ → List Record → Record → ℕ
+new-place t before r = elim (is-unmarked (r .kind) (r .place) (from-top 7 (r .flags))) [ true ↦ mark-after t before (r .kind) (r .name) | false ↦ r .place ]
+
+unfoldable pub with-place : ℕ → Record → Record
+with-place p r = record {
+  kind = r .kind;
+  place = p;
+  maturity = r .maturity;
+  doc-present = r .doc-present;
+  flags = r .flags;
+  name = r .name;
+  first-privilege = r .first-privilege;
+  second-privilege = r .second-privilege;
+  further = r .further;
+}
+
+unfoldable pub marked : List ℕ → List Record → Record → Record
+marked t before r = with-place (new-place t before r) r

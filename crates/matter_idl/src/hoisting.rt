@@ -1,0 +1,93 @@
+// Hoisting over the catalogue: the table of ids is a search of the records before.
+ghost use mathlib.Core.Path.{_≡_};
+ghost use Prim.Native.Nat.{_+_, _/_, _%_, _^_, _≤_, _<_};
+ghost use lib.ListN.{length, take, drop};
+ghost use Rattle.lexing.specs.word_sets.{same-bytes};
+ghost use Rattle.items.specs.layout.{from-big-endian, words-of-kind, text-limit};
+ghost use Rattle.matter_idl.specs.inner.hoisting.{word-hits, Catalogue, HeldTo};
+
+// How many words a record of a kind takes.
+fn words_of(kind: usize) -> usize
+    ensures { λ r. ⌜ r ≡ words-of-kind kind ⌝ }
+{
+    let further = b"\x00\x03\x02\x02\x01\x02\x03\x01\x04\x02\x01\x02\x00\x00\x01\x00\x00";
+    if kind < further.len() {
+        return 1 + further[kind] as usize;
+    }
+    1
+}
+
+fn wide(x: u8) -> u64
+    ensures { λ r. ⌜ r ≡ x ⌝ }
+    ensures { λ r. ⌜ r < 256 ⌝ }
+{
+    x as u64
+}
+
+// Eight bytes as a word, the most significant first.
+fn word_at(bytes: &[u8], at: usize) -> u64
+    requires { ⌜ at + 8 ≤ length (now bytes) ⌝ }
+    ensures { λ r. ⌜ r ≡ from-big-endian (take 8 (drop at (now (bytes .entry)))) ⌝ }
+{
+    wide(bytes[at]) * 0x100_0000_0000_0000
+        + wide(bytes[at + 1]) * 0x1_0000_0000_0000
+        + wide(bytes[at + 2]) * 0x100_0000_0000
+        + wide(bytes[at + 3]) * 0x1_0000_0000
+        + wide(bytes[at + 4]) * 0x100_0000
+        + wide(bytes[at + 5]) * 0x1_0000
+        + wide(bytes[at + 6]) * 0x100
+        + wide(bytes[at + 7])
+}
+
+// Whether the text has the same bytes at two offsets; the comparison ends at the first difference.
+fn same_bytes(text: &[u8], a: usize, b: usize, size: usize) -> bool
+    requires { ⌜ a + size ≤ length (now text) ⌝ }
+    requires { ⌜ b + size ≤ length (now text) ⌝ }
+    ensures { λ r. ⌜ r ≡ same-bytes (take size (drop a (now (text .entry)))) (take size (drop b (now (text .entry)))) ⌝ }
+{
+    let mut i = 0;
+    while i < size {
+        if text[a + i] != text[b + i] {
+            return false;
+        }
+        i += 1;
+    }
+    true
+}
+
+// Whether a record's first word is that of a global type of a kind, with the id at an offset of the text.
+fn is_global(text: &[u8], w: u64, kind: u64, name: usize, size: usize) -> bool
+    requires { ⌜ w / 2 ^ 24 % 2 ^ 20 + w / 2 ^ 4 % 2 ^ 20 ≤ length (now text) ⌝ }
+    requires { ⌜ name + size ≤ length (now text) ⌝ }
+    ensures { λ r. ⌜ r ≡ word-hits (now (text .entry)) kind name size w ⌝ }
+{
+    if w / 0x40_0000_0000_0000 % 4 != 1 {
+        return false;
+    }
+    if w / 0x100_0000_0000_0000 != kind {
+        return false;
+    }
+    if w / 16 % 0x10_0000 != size as u64 {
+        return false;
+    }
+    let other = (w / 0x100_0000 % 0x10_0000) as usize;
+    same_bytes(text, name, other, size)
+}
+
+// Whether a record before an end is that of a global type of a kind, with the id at an offset of the text.
+fn is_held(text: &[u8], out: &[u8], end: usize, kind: u64, name: usize, size: usize) -> bool
+    requires { ⌜ length (now text) ≤ text-limit ⌝ }
+    requires { ⌜ Catalogue (length (now text)) (now out) end ⌝ }
+    requires { ⌜ name + size ≤ length (now text) ⌝ }
+    ensures { λ r. ⌜ HeldTo r (now (text .entry)) (now (out .entry)) end kind name size ⌝ }
+{
+    let mut at = 0;
+    while at < end {
+        let w = word_at(out, at);
+        if is_global(text, w, kind, name, size) {
+            return true;
+        }
+        at += 8 * words_of((w / 0x100_0000_0000_0000) as usize);
+    }
+    false
+}
