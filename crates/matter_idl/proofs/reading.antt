@@ -1,3 +1,4 @@
 -- Laws of reading.
 pub mod Laws
 pub mod Judged
+pub mod Marked

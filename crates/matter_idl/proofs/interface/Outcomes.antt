@@ -27,7 +27,7 @@ use Rattle.matter_idl.proofs.Places.{hoisted-words}
 abbrev pub read-20 : List ℕ → ℕ → Outcome
 read-20 u n = reading layout-20 u n
 
-put-front : (xs l : List ℕ) → put 0 xs l ≡ xs ++ drop (length xs) l
+pub put-front : (xs l : List ℕ) → put 0 xs l ≡ xs ++ drop (length xs) l
 unfolding put
 put-front xs l = let z : 0 + length xs ≡ length xs = omega arith in rw z refl
 
