@@ -18,7 +18,7 @@ use Rattle.items.proofs.RecordWords.{big-endian-length, catalogue-bytes-append,
 use Rattle.items.proofs.RecordsFit.{RecordFits, first-bits, first-word, item-fits, all-append}
 use Rattle.matter_idl.specs.hoisting.{Tables, no-ids, held, mark, place-by, after-item, hoisted}
 use Rattle.matter_idl.specs.inner.hoisting.{bytes-at, found, is-unmarked, mark-after, new-place, with-place, marked, Catalogue, Marking, MarkedTo, Unhoisted, HoistedTo}
-use Rattle.matter_idl.proofs.hoisting.Walk.{Walk, FirstOf, first-less, kind-of, place-of, flags-of, offset-of, size-of, word-count-one, further-bytes, record-bytes, walk-fits, walk-bytes, walk-first, walk-behind, words-some, Standing, walk-stands, walk-over}
+use Rattle.matter_idl.proofs.hoisting.Walk.{Walk, FirstOf, first-less, kind-of, place-of, flags-of, offset-of, size-of, word-count-one, further-bytes, record-bytes, walk-length, walk-fits, walk-word, walk-bytes, walk-first, walk-behind, words-some, Standing, walk-stands, walk-over}
 use Rattle.matter_idl.proofs.hoisting.Marks.{marking}
 use Rattle.matter_idl.proofs.hoisting.Laws.{unmarked-place}
 
@@ -51,6 +51,15 @@ marked-kept t b r e = ap (λ (z : Bool). with-place (elim z [ true ↦ mark-afte
 marked-set : (t : List ℕ) (b : List Record) (r : Record) {q : ℕ} → is-unmarked (r .kind) (r .place) (from-top 7 (r .flags)) ≡ true → mark-after t b (r .kind) (r .name) ≡ q → marked t b r ≡ with-place q r
 unfolding marked new-place
 marked-set t b r e f = ap (λ (z : Bool). with-place (elim z [ true ↦ mark-after t b (r .kind) (r .name) | false ↦ r .place ]) r) e ∙ ap (λ (q : ℕ). with-place q r) f
+
+-- it has as many words, and all but the first are the same
+marked-words : {n : ℕ} (t : List ℕ) (b : List Record) (r : Record) → RecordFits n r → word-count (marked t b r ∷ []) ≡ words-of-kind (r .kind)
+unfolding marked with-place
+marked-words t b r h = word-count-one (marked t b r) (marked-fits t b r h)
+
+marked-bytes : (t : List ℕ) (b : List Record) (r : Record) → catalogue-bytes layout-20 (marked t b r ∷ []) ≡ big-endian 8 (first-word (marked t b r)) ++ further-bytes r
+unfolding marked with-place further-bytes
+marked-bytes t b r = record-bytes (marked t b r)
 
 -- bytes over as many others
 put-over : (p : ℕ) (front xs ys tail : List ℕ) → length front ≡ p → length xs ≡ length ys → put p xs (front ++ (ys ++ tail)) ≡ front ++ (xs ++ tail)
@@ -121,7 +130,7 @@ hoisted-fits text n t [] h = tt
 hoisted-fits text n t (i ∷ l) h = all-append (RecordFits n) (item-records 1 (place-by t) i) _ (item-fits 0 text n (place-by t) (place-below t) 1 (lit< tt) i (h .0)) (hoisted-fits text n (after-item t i) l (h .1))
 
 -- an item: the records seen are marked, and those that are left are as they were written
-module _ (t : List ℕ) (limit : length t ≤ text-limit) {old : List ℕ} {start end : ℕ} where
+module _ (t : List ℕ) {old : List ℕ} {start end : ℕ} where
   pub record MarkingAt (u : Unhoisted t old start end) (out : List ℕ) (p : ℕ) : Type 0 where
     pub seen : List Record
     pub left : List Record
@@ -147,6 +156,9 @@ module _ (t : List ℕ) (limit : length t ≤ text-limit) {old : List ℕ} {star
         }
 
     module _ {out : List ℕ} {p : ℕ} (h : MarkingAt u out p) where
+      pub marking-same : length out ≡ length old
+      marking-same = walk-length (h .walk) ∙ sym (walk-length (marking-start .walk))
+
       pub marking-end : end ≤ p → out ≡ catalogue-bytes layout-20 (hoisted no-ids (u .before ++ (u .item ∷ []))) ++ u .tail
       marking-end e =
           let z : h .left ≡ [] = walk-over (h .left) (h .walk) e in
@@ -162,7 +174,7 @@ module _ (t : List ℕ) (limit : length t ≤ text-limit) {old : List ℕ} {star
         pub marking-room : p + 8 ≤ length out
         marking-room = let s = stands in omega (arith, walk-fits (s .walk) .0, walk-fits (s .walk) .1, words-some (s .this .kind))
 
-        before-it : Catalogue (length t) out start
+        abbrev before-it : Catalogue (length t) out start
         before-it =
             record {
               records = H;
@@ -171,3 +183,48 @@ module _ (t : List ℕ) (limit : length t ≤ text-limit) {old : List ℕ} {star
               bytes = stands .walk .bytes ∙ (ap (λ x. x ++ (catalogue-bytes layout-20 (stands .this ∷ stands .rest) ++ u .tail)) (catalogue-bytes-append layout-20 H (map (marked t H) (h .seen))) ∙ append-assoc (catalogue-bytes layout-20 H) _ _);
               ends = u .starts;
             }
+
+        module _ (limit : length t ≤ text-limit) {w : ℕ} (g : w ≡ from-big-endian (take 8 (drop p out))) where
+          is : w ≡ first-word (stands .this)
+          is = g ∙ walk-word (stands .walk) limit
+
+          abbrev at-it : Marking t out start p w
+          at-it =
+              record {
+                before = before-it;
+                this = stands .this;
+                fits = stands .walk .fit .0;
+                is = is;
+                front = catalogue-bytes layout-20 (H ++ map (marked t H) (h .seen));
+                tail = further-bytes (stands .this) ++ (catalogue-bytes layout-20 (stands .rest) ++ u .tail);
+                bytes = rw is (walk-bytes (stands .walk));
+                place = stands .walk .start;
+              }
+
+          pub marking-at : Marking t out start p w
+          marking-at = at-it
+
+          words-are : words-of-kind (w / 2 ^ 56) ≡ words-of-kind (stands .this .kind)
+          words-are = ap words-of-kind (kind-of limit (walk-first (stands .walk) limit g))
+
+          pub marking-inside : {n : ℕ} → n ≡ words-of-kind (w / 2 ^ 56) → (p < p + 8 * n) × (p + 8 * n ≤ end)
+          marking-inside z = (omega (arith, z, words-some (w / 2 ^ 56)), omega (arith, z, words-are, walk-fits (stands .walk) .0))
+
+          pub marking-more : {new : List ℕ} {n : ℕ} → MarkedTo new t out start p w → n ≡ words-of-kind (w / 2 ^ 56) → MarkingAt u new (p + 8 * n)
+          marking-more {new} k z =
+              let r = stands .this in
+              let m : Record = marked t H r in
+              let b : new ≡ catalogue-bytes layout-20 (H ++ map (marked t H) (h .seen)) ++ (catalogue-bytes layout-20 (m ∷ []) ++ (catalogue-bytes layout-20 (stands .rest) ++ u .tail)) =
+              k at-it ∙ ap (λ x. catalogue-bytes layout-20 (H ++ map (marked t H) (h .seen)) ++ x) (sym (append-assoc (big-endian 8 (first-word m)) (further-bytes r) _) ∙ ap (λ x. x ++ (catalogue-bytes layout-20 (stands .rest) ++ u .tail)) (sym (marked-bytes t H r))) in
+              let f : catalogue-bytes layout-20 (H ++ map (marked t H) (h .seen)) ++ catalogue-bytes layout-20 (m ∷ []) ≡ catalogue-bytes layout-20 (H ++ map (marked t H) (h .seen ++ (r ∷ []))) =
+              sym (catalogue-bytes-append layout-20 (H ++ map (marked t H) (h .seen)) (m ∷ [])) ∙ ap (catalogue-bytes layout-20) (append-assoc H _ _ ∙ ap (λ x. H ++ x) (sym (map-append (marked t H) (h .seen) (r ∷ [])))) in
+              rw (z, words-are) (record {
+                seen = h .seen ++ (r ∷ []);
+                left = stands .rest;
+                whole = stands .holds ∙ sym (append-assoc (h .seen) (r ∷ []) (stands .rest));
+                walk = rw f at (walk-behind (stands .walk) m new (marked-words t H r (stands .walk .fit .0)) b);
+              })
+
+-- the loop: whichever item stands there
+abbrev pub MarkingItem : (t old : List ℕ) → (start end : ℕ) → (out : List ℕ) → (p : ℕ) → Type 0
+MarkingItem t old start end out p = (u : Unhoisted t old start end) → MarkingAt t u out p

@@ -19,6 +19,9 @@ pub record Walk (n : ℕ) (front : List ℕ) (l : List Record) (tail out : List 
   pub ends : end ≡ at + 8 * word-count l
   pub fit : All (RecordFits n) l
 
+pub walk-length : {n : ℕ} {front : List ℕ} {l : List Record} {tail out : List ℕ} {at end : ℕ} → Walk n front l tail out at end → length out ≡ end + length tail
+walk-length {front = front} {l} {tail} w = omega (arith, ap length (w .bytes), length-append front (catalogue-bytes layout-20 l ++ tail), length-append (catalogue-bytes layout-20 l) tail, w .ends, w .start, catalogue-bytes-length l)
+
 -- one record
 pub word-count-one : {n : ℕ} (r : Record) → RecordFits n r → word-count (r ∷ []) ≡ words-of-kind (r .kind)
 unfolding word-count catalogue-words
@@ -72,9 +75,7 @@ module _ {n : ℕ} {front : List ℕ} {r : Record} {l : List Record} {tail out :
   counts = word-count-append (r ∷ []) l ∙ ap (λ k. k + word-count l) (word-count-one r (w .fit .0))
 
   pub walk-fits : (at + 8 * words-of-kind (r .kind) ≤ end) × (end ≤ length out)
-  walk-fits =
-      let z : length out ≡ length front + (length (catalogue-bytes layout-20 (r ∷ l)) + length tail) = ap length (w .bytes) ∙ (length-append front _ ∙ ap (λ k. length front + k) (length-append (catalogue-bytes layout-20 (r ∷ l)) tail)) in
-      (omega (arith, w .ends, counts), omega (arith, w .ends, w .start, z, catalogue-bytes-length (r ∷ l)))
+  walk-fits = (omega (arith, w .ends, counts), omega (arith, walk-length w))
 
   apart : catalogue-bytes layout-20 (r ∷ l) ++ tail ≡ catalogue-bytes layout-20 (r ∷ []) ++ (catalogue-bytes layout-20 l ++ tail)
   apart = ap (λ x. x ++ tail) (catalogue-bytes-append layout-20 (r ∷ []) l) ∙ append-assoc (catalogue-bytes layout-20 (r ∷ [])) _ tail
