@@ -3,3 +3,4 @@ pub mod Search
 pub mod Walk
 pub mod Marks
 pub mod Laws
+pub mod Marking

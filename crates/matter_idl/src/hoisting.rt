@@ -4,7 +4,8 @@ ghost use Prim.Native.Nat.{_+_, _/_, _%_, _^_, _≤_, _<_};
 ghost use lib.ListN.{length, take, drop};
 ghost use Rattle.lexing.specs.word_sets.{same-bytes};
 ghost use Rattle.items.specs.layout.{from-big-endian, words-of-kind, text-limit};
-ghost use Rattle.matter_idl.specs.inner.hoisting.{word-hits, Catalogue, HeldTo};
+ghost use Rattle.matter_idl.specs.inner.hoisting.{word-hits, is-unmarked, Catalogue, HeldTo, Marking, MarkedTo, Unhoisted, HoistedTo};
+use items::writing::put_word;
 
 // How many words a record of a kind takes.
 fn words_of(kind: usize) -> usize
@@ -90,4 +91,57 @@ fn is_held(text: &[u8], out: &[u8], end: usize, kind: u64, name: usize, size: us
         at += 8 * words_of((w / 0x100_0000_0000_0000) as usize);
     }
     false
+}
+
+// Whether a record's first word is that of a shared type in a cluster that has no mark yet.
+fn is_unmarked(w: u64) -> bool
+    ensures { λ r. ⌜ r ≡ is-unmarked (w / 2 ^ 56) (w / 2 ^ 54 % 2 ^ 2) (w / 2 ^ 44 % 2 ^ 7) ⌝ }
+{
+    if w / 0x40_0000_0000_0000 % 4 != 0 {
+        return false;
+    }
+    let kind = w / 0x100_0000_0000_0000;
+    let flags = w / 0x1000_0000_0000 % 128;
+    if kind == 5 {
+        return flags / 32 == 3;
+    }
+    if kind == 2 {
+        return flags / 64 == 1;
+    }
+    if kind == 3 {
+        return flags / 64 == 1;
+    }
+    false
+}
+
+// Marks the record whose first word w stands at an offset: 2 if a record before start holds its id, else 1.
+fn mark_record(text: &[u8], out: &mut [u8], start: usize, at: usize, w: u64)
+    requires { ⌜ length (now text) ≤ text-limit ⌝ }
+    requires { ⌜ Marking (now text) (now out) start at w ⌝ }
+    ensures { λ _. ⌜ MarkedTo (now (out .exit)) (now (text .entry)) (now (out .entry)) start at w ⌝ }
+{
+    if !is_unmarked(w) {
+        return;
+    }
+    let name = (w / 0x100_0000 % 0x10_0000) as usize;
+    let size = (w / 16 % 0x10_0000) as usize;
+    if is_held(text, out, start, w / 0x100_0000_0000_0000, name, size) {
+        put_word(out, at, w + 0x80_0000_0000_0000);
+        return;
+    }
+    put_word(out, at, w + 0x40_0000_0000_0000);
+}
+
+// Marks the types of an item whose records stand from start to end, behind those of the items before.
+pub fn mark_item(text: &[u8], out: &mut [u8], start: usize, end: usize)
+    requires { ⌜ length (now text) ≤ text-limit ⌝ }
+    requires { ⌜ Unhoisted (now text) (now out) start end ⌝ }
+    ensures { λ _. ⌜ HoistedTo (now (out .exit)) (now (text .entry)) (now (out .entry)) start end ⌝ }
+{
+    let mut at = start;
+    while at < end {
+        let w = word_at(out, at);
+        mark_record(text, out, start, at, w);
+        at += 8 * words_of((w / 0x100_0000_0000_0000) as usize);
+    }
 }

@@ -9,14 +9,14 @@ use native.Mathlib.Nat.{add-zero}
 use lib.Dec.{eqb, leb}
 use lib.ListN.{length, take, drop, getD, length-drop, List·getD-eq-default}
 use lib.Seq.{drop-cons, length-take-le}
-use borrow.Author.Tests.{leb-true, eq-eqb, ne-eqb}
+use borrow.Author.Tests.{leb-true, eqb-true, eq-eqb, ne-eqb}
 use Rattle.lexing.specs.word_sets.{same-bytes}
 use Rattle.items.specs.records.{at, Record, further-of-kind}
 use Rattle.items.specs.layout.{offset, size, from-big-endian, layout-20, words-of-kind, catalogue-bytes, word-count, text-limit}
 use Rattle.items.proofs.Truth.{All}
 use Rattle.items.proofs.RecordWords.{catalogue-bytes-none, word-count-none}
 use Rattle.items.proofs.RecordsFit.{RecordFits}
-use Rattle.matter_idl.specs.inner.hoisting.{bytes-at, hits, found, word-hits, Catalogue}
+use Rattle.matter_idl.specs.inner.hoisting.{bytes-at, hits, found, word-hits, Catalogue, flags-shared, is-unmarked}
 use Rattle.matter_idl.proofs.hoisting.Walk.{Walk, FirstOf, kind-of, place-of, offset-of, size-of, name-in, walk-fits, walk-first, walk-next, words-some, Standing, walk-stands, walk-over}
 
 -- a record has at most four further words
@@ -134,6 +134,24 @@ module _ (t : List ℕ) (k o n w : ℕ) where
 pub first-hits : (t : List ℕ) (k o m : ℕ) → length t ≤ text-limit → {w : ℕ} (f : FirstOf (length t) w) → word-hits t k o m w ≡ hits t k (bytes-at t (at o m)) (f .of)
 unfolding word-hits hits bytes-at offset size
 first-hits t k o m limit {w} f = rw (place-of limit f, kind-of limit f, offset-of limit f, size-of limit f) refl
+
+-- the tests of a shared type without mark, in the code's order
+module _ (k p f : ℕ) where
+  pub unmarked-placed : (p ≡ 0 → ⊥) → false ≡ is-unmarked k p f
+  unfolding is-unmarked
+  unmarked-placed d = rw (ne-eqb _ _ d) refl
+
+  pub unmarked-at : {j : ℕ} {b : Bool} → p ≡ 0 → k ≡ j → b ≡ flags-shared j f → b ≡ is-unmarked k p f
+  unfolding is-unmarked
+  unmarked-at z e h = rw (z, e) h
+
+  pub unmarked-other : p ≡ 0 → (k ≡ 5 → ⊥) → (k ≡ 2 → ⊥) → (k ≡ 3 → ⊥) → false ≡ is-unmarked k p f
+  unfolding is-unmarked flags-shared
+  unmarked-other z a b c = rw (z, flags-shared, ne-eqb k 5 a, ne-eqb k 2 b, ne-eqb k 3 c) refl
+
+  pub unmarked-place : is-unmarked k p f ≡ true → p ≡ 0
+  unfolding is-unmarked
+  unmarked-place h = eqb-true p 0 (both (eqb p 0) (flags-shared k f) h .0)
 
 -- the search: no record before p hits
 module _ (t : List ℕ) (k : ℕ) (i : List ℕ) {out : List ℕ} {end : ℕ} where

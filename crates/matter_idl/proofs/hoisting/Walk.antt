@@ -19,15 +19,18 @@ pub record Walk (n : ℕ) (front : List ℕ) (l : List Record) (tail out : List 
   pub ends : end ≡ at + 8 * word-count l
   pub fit : All (RecordFits n) l
 
+pub walk-length : {n : ℕ} {front : List ℕ} {l : List Record} {tail out : List ℕ} {at end : ℕ} → Walk n front l tail out at end → length out ≡ end + length tail
+walk-length {front = front} {l} {tail} w = omega (arith, ap length (w .bytes), length-append front (catalogue-bytes layout-20 l ++ tail), length-append (catalogue-bytes layout-20 l) tail, w .ends, w .start, catalogue-bytes-length l)
+
 -- one record
 pub word-count-one : {n : ℕ} (r : Record) → RecordFits n r → word-count (r ∷ []) ≡ words-of-kind (r .kind)
 unfolding word-count catalogue-words
 word-count-one r h = ap length (each-one (record-words layout-20) r) ∙ words-count r h
 
-unfoldable further-bytes : Record → List ℕ
+unfoldable pub further-bytes : Record → List ℕ
 further-bytes r = words-bytes (map (further-word layout-20) (r .further))
 
-record-bytes : (r : Record) → catalogue-bytes layout-20 (r ∷ []) ≡ big-endian 8 (first-word r) ++ further-bytes r
+pub record-bytes : (r : Record) → catalogue-bytes layout-20 (r ∷ []) ≡ big-endian 8 (first-word r) ++ further-bytes r
 unfolding catalogue-bytes catalogue-words further-bytes
 record-bytes r = ap words-bytes (each-one (record-words layout-20) r ∙ words-split r) ∙ words-bytes-append (first-word r ∷ []) _ ∙ ap (λ l. l ++ further-bytes r) (words-bytes-one (first-word r))
 
@@ -72,20 +75,18 @@ module _ {n : ℕ} {front : List ℕ} {r : Record} {l : List Record} {tail out :
   counts = word-count-append (r ∷ []) l ∙ ap (λ k. k + word-count l) (word-count-one r (w .fit .0))
 
   pub walk-fits : (at + 8 * words-of-kind (r .kind) ≤ end) × (end ≤ length out)
-  walk-fits =
-      let z : length out ≡ length front + (length (catalogue-bytes layout-20 (r ∷ l)) + length tail) = ap length (w .bytes) ∙ (length-append front _ ∙ ap (λ k. length front + k) (length-append (catalogue-bytes layout-20 (r ∷ l)) tail)) in
-      (omega (arith, w .ends, counts), omega (arith, w .ends, w .start, z, catalogue-bytes-length (r ∷ l)))
+  walk-fits = (omega (arith, w .ends, counts), omega (arith, walk-length w))
 
   apart : catalogue-bytes layout-20 (r ∷ l) ++ tail ≡ catalogue-bytes layout-20 (r ∷ []) ++ (catalogue-bytes layout-20 l ++ tail)
   apart = ap (λ x. x ++ tail) (catalogue-bytes-append layout-20 (r ∷ []) l) ∙ append-assoc (catalogue-bytes layout-20 (r ∷ [])) _ tail
 
-  whole : out ≡ front ++ (big-endian 8 (first-word r) ++ (further-bytes r ++ (catalogue-bytes layout-20 l ++ tail)))
-  whole = w .bytes ∙ ap (λ x. front ++ x) (apart ∙ ap (λ x. x ++ (catalogue-bytes layout-20 l ++ tail)) (record-bytes r) ∙ append-assoc (big-endian 8 (first-word r)) _ _)
+  pub walk-bytes : out ≡ front ++ (big-endian 8 (first-word r) ++ (further-bytes r ++ (catalogue-bytes layout-20 l ++ tail)))
+  walk-bytes = w .bytes ∙ ap (λ x. front ++ x) (apart ∙ ap (λ x. x ++ (catalogue-bytes layout-20 l ++ tail)) (record-bytes r) ∙ append-assoc (big-endian 8 (first-word r)) _ _)
 
   -- its first word
   pub walk-word : n ≤ text-limit → from-big-endian (take 8 (drop at out)) ≡ first-word r
   walk-word limit =
-      ap (λ x. from-big-endian (take 8 (drop at x))) whole
+      ap (λ x. from-big-endian (take 8 (drop at x))) walk-bytes
       ∙ ap (λ x. from-big-endian (take 8 x)) (drop-at front _ at (w .start))
       ∙ ap from-big-endian (take-at (big-endian 8 (first-word r)) _ 8 (big-endian-length 8 (first-word r)))
       ∙ word-back 8 (first-word r) (first-less limit r (w .fit .0))
@@ -94,11 +95,11 @@ module _ {n : ℕ} {front : List ℕ} {r : Record} {l : List Record} {tail out :
   walk-first limit e = record { of = r; fits = w .fit .0; is = e ∙ walk-word limit }
 
   -- the next record, behind one of as many words
-  behind : (x : Record) (out' : List ℕ) → word-count (x ∷ []) ≡ words-of-kind (r .kind) → out' ≡ front ++ (catalogue-bytes layout-20 (x ∷ []) ++ (catalogue-bytes layout-20 l ++ tail)) → Walk n (front ++ catalogue-bytes layout-20 (x ∷ [])) l tail out' (at + 8 * words-of-kind (r .kind)) end
-  behind x out' c e = record { bytes = e ∙ sym (append-assoc front _ _); start = omega (arith, length-append front (catalogue-bytes layout-20 (x ∷ [])), catalogue-bytes-length (x ∷ []), c, w .start); ends = omega (arith, w .ends, counts); fit = w .fit .1 }
+  pub walk-behind : (x : Record) (out' : List ℕ) → word-count (x ∷ []) ≡ words-of-kind (r .kind) → out' ≡ front ++ (catalogue-bytes layout-20 (x ∷ []) ++ (catalogue-bytes layout-20 l ++ tail)) → Walk n (front ++ catalogue-bytes layout-20 (x ∷ [])) l tail out' (at + 8 * words-of-kind (r .kind)) end
+  walk-behind x out' c e = record { bytes = e ∙ sym (append-assoc front _ _); start = omega (arith, length-append front (catalogue-bytes layout-20 (x ∷ [])), catalogue-bytes-length (x ∷ []), c, w .start); ends = omega (arith, w .ends, counts); fit = w .fit .1 }
 
   pub walk-next : Walk n (front ++ catalogue-bytes layout-20 (r ∷ [])) l tail out (at + 8 * words-of-kind (r .kind)) end
-  walk-next = behind r out (word-count-one r (w .fit .0)) (w .bytes ∙ ap (λ x. front ++ x) apart)
+  walk-next = walk-behind r out (word-count-one r (w .fit .0)) (w .bytes ∙ ap (λ x. front ++ x) apart)
 
 pub words-some : (k : ℕ) → 1 ≤ words-of-kind k
 unfolding words-of-kind

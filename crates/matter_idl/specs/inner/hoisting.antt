@@ -7,9 +7,12 @@ use lib.Dec.{eqb}
 use lib.ListN.{length, take, drop}
 use Rattle.lexing.specs.word_sets.{same-bytes}
 use Rattle.items.specs.records.{Extent, at, Record}
-use Rattle.items.specs.layout.{from-top, offset, size, layout-20, catalogue-bytes, word-count}
-use Rattle.items.proofs.Truth.{All}
-use Rattle.items.proofs.RecordsFit.{RecordFits}
+use Rattle.items.specs.layout.{from-top, offset, size, layout-20, big-endian, catalogue-bytes, word-count}
+use Rattle.items.specs.items.{Item}
+use Rattle.items.specs.answers.items.{unhoisted-item}
+use Rattle.items.proofs.Truth.{All, ItemTrue}
+use Rattle.items.proofs.RecordsFit.{RecordFits, first-word}
+use Rattle.matter_idl.specs.hoisting.{no-ids, hoisted}
 
 -- the bytes of a name in the text
 unfoldable pub bytes-at : List ℕ → Extent → List ℕ
@@ -69,3 +72,33 @@ with-place p r = record {
 
 unfoldable pub marked : List ℕ → List Record → Record → Record
 marked t before r = with-place (new-place t before r) r
+
+-- a record's first word w in a buffer at p, and the records of earlier items before start
+pub record Marking (t out : List ℕ) (start p w : ℕ) : Type 0 where
+  pub before : Catalogue (length t) out start
+  pub this : Record
+  pub fits : RecordFits (length t) this
+  pub is : w ≡ first-word this
+  pub front : List ℕ
+  pub tail : List ℕ
+  pub bytes : out ≡ front ++ (big-endian 8 w ++ tail)
+  pub place : length front ≡ p
+
+-- the buffer with the record's mark
+abbrev pub MarkedTo : (new t out : List ℕ) → (start p w : ℕ) → Type 0
+MarkedTo new t out start p w = (m : Marking t out start p w) → new ≡ m .front ++ (big-endian 8 (first-word (marked t (m .before .records) (m .this))) ++ m .tail)
+
+-- an item's records as they were written, from start to end, behind the hoisted ones of the items before
+pub record Unhoisted (t out : List ℕ) (start end : ℕ) : Type 0 where
+  pub before : List Item
+  pub item : Item
+  pub before-true : All (ItemTrue 0 t (length t)) before
+  pub item-true : ItemTrue 0 t (length t) item
+  pub tail : List ℕ
+  pub bytes : out ≡ catalogue-bytes layout-20 (hoisted no-ids before ++ unhoisted-item item) ++ tail
+  pub starts : start ≡ 8 * word-count (hoisted no-ids before)
+  pub ends : end ≡ start + 8 * word-count (unhoisted-item item)
+
+-- the buffer with the item hoisted too
+abbrev pub HoistedTo : (new t out : List ℕ) → (start end : ℕ) → Type 0
+HoistedTo new t out start end = (u : Unhoisted t out start end) → new ≡ catalogue-bytes layout-20 (hoisted no-ids (u .before ++ (u .item ∷ []))) ++ u .tail

@@ -1,0 +1,230 @@
+-- The records of an item are marked in their buffer, one after the other.
+use Prim.Native.Nat.{ℕ, zero, suc, _+_, _*_, _^_, _/_, _%_, _≤_, _<_}
+use mathlib.Core.Path.{_≡_, refl, sym, _∙_, ap}
+use mathlib.Core.Bool.{Bool, true, false}
+use mathlib.Core.List.{List, [], _∷_, _++_, map, map-append, append-assoc, append-nil}
+use native.Mathlib.Omega.{arith}
+use lib.Dec.{lit<}
+use lib.ListN.{length, take, drop, length-append}
+use lib.Seq.{take-at, drop-append-add, drop-at}
+use Rattle.items.specs.clusters.{Member, revision, bitmap, enum, struct, attribute, command, event}
+use Rattle.items.specs.items.{Item}
+use Rattle.items.specs.records.{at, Record, item-records}
+use Rattle.items.specs.layout.{packed, from-top, offset, size, layout-20, words-of-kind, big-endian, from-big-endian, catalogue-bytes, word-count, text-limit}
+use Rattle.items.specs.buffers.{put}
+use Rattle.items.specs.answers.items.{unhoisted-item}
+use Rattle.items.proofs.Truth.{All, ItemTrue}
+use Rattle.items.proofs.RecordWords.{big-endian-length, catalogue-bytes-append, catalogue-bytes-length, catalogue-bytes-none, word-count-append}
+use Rattle.items.proofs.RecordsFit.{RecordFits, first-bits, first-word, item-fits, all-append}
+use Rattle.matter_idl.specs.hoisting.{Tables, no-ids, held, mark, place-by, after-item, hoisted}
+use Rattle.matter_idl.specs.inner.hoisting.{bytes-at, found, is-unmarked, mark-after, new-place, with-place, marked, Catalogue, Marking, MarkedTo, Unhoisted, HoistedTo}
+use Rattle.matter_idl.proofs.hoisting.Walk.{Walk, FirstOf, first-less, kind-of, place-of, flags-of, offset-of, size-of, word-count-one, further-bytes, record-bytes, walk-length, walk-fits, walk-word, walk-bytes, walk-first, walk-behind, words-some, Standing, walk-stands, walk-over}
+use Rattle.matter_idl.proofs.hoisting.Marks.{marking}
+use Rattle.matter_idl.proofs.hoisting.Laws.{unmarked-place}
+
+-- a mark below 4 leaves a record as it was, but for its place
+placed-fits : {n : ℕ} (q : ℕ) → q < 2 ^ 2 → (r : Record) → RecordFits n r → RecordFits n (with-place q r)
+unfolding with-place
+placed-fits q z r h = record { kind-fits = h .kind-fits; place-fits = z; maturity-fits = h .maturity-fits; doc-fits = h .doc-fits; flags-fit = h .flags-fit; flags-width = h .flags-width; name-inside = h .name-inside; first-fits = h .first-fits; second-fits = h .second-fits; further-fit = h .further-fit; further-count = h .further-count }
+
+placed-word : (q : ℕ) (r : Record) → r .place ≡ 0 → first-word (with-place q r) ≡ first-word r + q * 2 ^ 54
+unfolding first-word first-bits layout-20 packed with-place
+placed-word q r h = omega (arith, h)
+
+mark-small : (t : List ℕ) (b : List Record) (r : Record) → r .place < 2 ^ 2 → new-place t b r < 2 ^ 2
+unfolding new-place mark-after
+mark-small t b r h = go (is-unmarked (r .kind) (r .place) (from-top 7 (r .flags))) (found t (r .kind) (bytes-at t (r .name)) b)
+  where
+    go : (x y : Bool) → elim x [ true ↦ elim y [ true ↦ 2 | false ↦ 1 ] | false ↦ r .place ] < 2 ^ 2
+    go true true = lit< tt
+    go true false = lit< tt
+    go false y = h
+
+marked-fits : {n : ℕ} (t : List ℕ) (b : List Record) (r : Record) → RecordFits n r → RecordFits n (marked t b r)
+unfolding marked
+marked-fits t b r h = placed-fits (new-place t b r) (mark-small t b r (h .place-fits)) r h
+
+marked-kept : (t : List ℕ) (b : List Record) (r : Record) → is-unmarked (r .kind) (r .place) (from-top 7 (r .flags)) ≡ false → marked t b r ≡ r
+unfolding marked new-place with-place
+marked-kept t b r e = ap (λ (z : Bool). with-place (elim z [ true ↦ mark-after t b (r .kind) (r .name) | false ↦ r .place ]) r) e
+
+marked-set : (t : List ℕ) (b : List Record) (r : Record) {q : ℕ} → is-unmarked (r .kind) (r .place) (from-top 7 (r .flags)) ≡ true → mark-after t b (r .kind) (r .name) ≡ q → marked t b r ≡ with-place q r
+unfolding marked new-place
+marked-set t b r e f = ap (λ (z : Bool). with-place (elim z [ true ↦ mark-after t b (r .kind) (r .name) | false ↦ r .place ]) r) e ∙ ap (λ (q : ℕ). with-place q r) f
+
+-- it has as many words, and all but the first are the same
+marked-words : {n : ℕ} (t : List ℕ) (b : List Record) (r : Record) → RecordFits n r → word-count (marked t b r ∷ []) ≡ words-of-kind (r .kind)
+unfolding marked with-place
+marked-words t b r h = word-count-one (marked t b r) (marked-fits t b r h)
+
+marked-bytes : (t : List ℕ) (b : List Record) (r : Record) → catalogue-bytes layout-20 (marked t b r ∷ []) ≡ big-endian 8 (first-word (marked t b r)) ++ further-bytes r
+unfolding marked with-place further-bytes
+marked-bytes t b r = record-bytes (marked t b r)
+
+-- bytes over as many others
+put-over : (p : ℕ) (front xs ys tail : List ℕ) → length front ≡ p → length xs ≡ length ys → put p xs (front ++ (ys ++ tail)) ≡ front ++ (xs ++ tail)
+unfolding put
+put-over p front xs ys tail h k =
+    let d : drop (p + length xs) (front ++ (ys ++ tail)) ≡ tail = rw (← h, k, drop-append-add front (ys ++ tail) (length ys)) (drop-at ys tail (length ys) refl) in
+    rw (take-at front (ys ++ tail) p h, d) refl
+
+-- one record
+module _ (t : List ℕ) (limit : length t ≤ text-limit) {out : List ℕ} {start p w : ℕ} (m : Marking t out start p w) where
+  abbrev pub mark-first : FirstOf (length t) w
+  mark-first = record { of = m .this; fits = m .fits; is = m .is }
+
+  pub mark-room : p + 8 ≤ length out
+  mark-room = omega (arith, ap length (m .bytes), length-append (m .front) (big-endian 8 w ++ m .tail), length-append (big-endian 8 w) (m .tail), big-endian-length 8 w, m .place)
+
+  unmarked-is : is-unmarked (w / 2 ^ 56) (w / 2 ^ 54 % 2 ^ 2) (w / 2 ^ 44 % 2 ^ 7) ≡ is-unmarked (m .this .kind) (m .this .place) (from-top 7 (m .this .flags))
+  unmarked-is = rw (kind-of limit mark-first, place-of limit mark-first, flags-of limit mark-first) refl
+
+  found-is : found t (w / 2 ^ 56) (bytes-at t (at (w / 2 ^ 24 % 2 ^ 20) (w / 2 ^ 4 % 2 ^ 20))) (m .before .records) ≡ found t (m .this .kind) (bytes-at t (m .this .name)) (m .before .records)
+  unfolding bytes-at offset size
+  found-is = rw (kind-of limit mark-first, offset-of limit mark-first, size-of limit mark-first) refl
+
+  module _ {b : Bool} (u : b ≡ is-unmarked (w / 2 ^ 56) (w / 2 ^ 54 % 2 ^ 2) (w / 2 ^ 44 % 2 ^ 7)) where
+    pub mark-kept : b ≡ false → out ≡ m .front ++ (big-endian 8 (first-word (marked t (m .before .records) (m .this))) ++ m .tail)
+    mark-kept e = m .bytes ∙ ap (λ (x : ℕ). m .front ++ (big-endian 8 x ++ m .tail)) (m .is ∙ ap first-word (sym (marked-kept t (m .before .records) (m .this) (sym unmarked-is ∙ sym u ∙ e))))
+
+    module _ (e : b ≡ true) where
+      unplaced : w / 2 ^ 54 % 2 ^ 2 ≡ 0
+      unplaced = unmarked-place _ _ _ (sym u ∙ e)
+
+      pub mark-fits : w + 3 * 2 ^ 54 < 2 ^ 64
+      mark-fits = omega (arith, unplaced, m .is, first-less limit (m .this) (m .fits))
+
+      -- the mark by whether the id is held
+      pub mark-set : {v : ℕ} {new : List ℕ} (h : Bool) → h ≡ found t (w / 2 ^ 56) (bytes-at t (at (w / 2 ^ 24 % 2 ^ 20) (w / 2 ^ 4 % 2 ^ 20))) (m .before .records) → v ≡ w + elim h [ true ↦ 2 | false ↦ 1 ] * 2 ^ 54 → new ≡ put p (big-endian 8 v) out
+          → new ≡ m .front ++ (big-endian 8 (first-word (marked t (m .before .records) (m .this))) ++ m .tail)
+      unfolding mark-after
+      mark-set {v} h f g k =
+          let z : mark-after t (m .before .records) (m .this .kind) (m .this .name) ≡ elim h [ true ↦ 2 | false ↦ 1 ] = ap (λ (x : Bool). elim x [ true ↦ 2 | false ↦ 1 ]) (sym (f ∙ found-is)) in
+          let y : v ≡ first-word (marked t (m .before .records) (m .this)) =
+          g ∙ (ap (λ (x : ℕ). x + elim h [ true ↦ 2 | false ↦ 1 ] * 2 ^ 54) (m .is) ∙ (sym (placed-word (elim h [ true ↦ 2 | false ↦ 1 ]) (m .this) (sym (place-of limit mark-first) ∙ unplaced)) ∙ ap first-word (sym (marked-set t (m .before .records) (m .this) (sym unmarked-is ∙ sym u ∙ e) z)))) in
+          k ∙ (ap (put p (big-endian 8 v)) (m .bytes) ∙ (put-over p (m .front) (big-endian 8 v) (big-endian 8 w) (m .tail) (m .place) (big-endian-length 8 v ∙ sym (big-endian-length 8 w)) ∙ ap (λ (x : ℕ). m .front ++ (big-endian 8 x ++ m .tail)) y))
+
+-- the records of hoisted items fit
+mark-below : (l : List (List ℕ)) (s : Bool) (i : List ℕ) → mark l s i < 2 ^ 2
+unfolding mark
+mark-below l false i = lit< tt
+mark-below l true i = go (held i l)
+  where
+    go : (b : Bool) → elim b [ true ↦ 2 | false ↦ 1 ] < 2 ^ 2
+    go true = lit< tt
+    go false = lit< tt
+
+place-below : (t : Tables) (m : Member) → place-by t m < 2 ^ 2
+unfolding place-by
+place-below t (revision n) = lit< tt
+place-below t (bitmap c) = mark-below _ _ _
+place-below t (enum c) = mark-below _ _ _
+place-below t (struct s) = mark-below _ _ _
+place-below t (attribute a) = lit< tt
+place-below t (command c) = lit< tt
+place-below t (event e) = lit< tt
+
+pub hoisted-fits : (text : List ℕ) (n : ℕ) (t : Tables) (l : List Item) → All (ItemTrue 0 text n) l → All (RecordFits n) (hoisted t l)
+unfolding hoisted
+hoisted-fits text n t [] h = tt
+hoisted-fits text n t (i ∷ l) h = all-append (RecordFits n) (item-records 1 (place-by t) i) _ (item-fits 0 text n (place-by t) (place-below t) 1 (lit< tt) i (h .0)) (hoisted-fits text n (after-item t i) l (h .1))
+
+-- an item: the records seen are marked, and those that are left are as they were written
+module _ (t : List ℕ) {old : List ℕ} {start end : ℕ} where
+  pub record MarkingAt (u : Unhoisted t old start end) (out : List ℕ) (p : ℕ) : Type 0 where
+    pub seen : List Record
+    pub left : List Record
+    pub whole : unhoisted-item (u .item) ≡ seen ++ left
+    pub walk : Walk (length t) (catalogue-bytes layout-20 (hoisted no-ids (u .before) ++ map (marked t (hoisted no-ids (u .before))) seen)) left (u .tail) out p end
+
+  module _ (u : Unhoisted t old start end) where
+    abbrev H : List Record
+    H = hoisted no-ids (u .before)
+
+    pub marking-start : MarkingAt u old start
+    marking-start =
+        record {
+          seen = [];
+          left = unhoisted-item (u .item);
+          whole = refl;
+          walk = rw append-nil (record {
+            bytes = u .bytes ∙ (ap (λ x. x ++ u .tail) (catalogue-bytes-append layout-20 H (unhoisted-item (u .item))) ∙ append-assoc (catalogue-bytes layout-20 H) _ _);
+            start = omega (arith, catalogue-bytes-length H, u .starts);
+            ends = u .ends;
+            fit = item-fits 0 t (length t) (λ m. 0) (λ m. lit< tt) 1 (lit< tt) (u .item) (u .item-true);
+          });
+        }
+
+    module _ {out : List ℕ} {p : ℕ} (h : MarkingAt u out p) where
+      pub marking-same : length out ≡ length old
+      marking-same = walk-length (h .walk) ∙ sym (walk-length (marking-start .walk))
+
+      pub marking-end : end ≤ p → out ≡ catalogue-bytes layout-20 (hoisted no-ids (u .before ++ (u .item ∷ []))) ++ u .tail
+      marking-end e =
+          let z : h .left ≡ [] = walk-over (h .left) (h .walk) e in
+          let y : unhoisted-item (u .item) ≡ h .seen = h .whole ∙ (ap (λ x. h .seen ++ x) z ∙ append-nil (h .seen)) in
+          let f : catalogue-bytes layout-20 (H ++ map (marked t H) (h .seen)) ≡ catalogue-bytes layout-20 (hoisted no-ids (u .before ++ (u .item ∷ []))) =
+          ap (λ x. catalogue-bytes layout-20 (H ++ map (marked t H) x)) (sym y) ∙ ap (catalogue-bytes layout-20) (marking t (length t) (u .before) (u .item) (u .before-true) (u .item-true)) in
+          h .walk .bytes ∙ rw (z, catalogue-bytes-none layout-20, f) refl
+
+      module _ (e : p < end) where
+        stands : Standing (λ l. unhoisted-item (u .item) ≡ h .seen ++ l) (length t) (catalogue-bytes layout-20 (H ++ map (marked t H) (h .seen))) (u .tail) out p end
+        stands = walk-stands _ (h .left) (h .walk) e (h .whole)
+
+        pub marking-room : p + 8 ≤ length out
+        marking-room = let s = stands in omega (arith, walk-fits (s .walk) .0, walk-fits (s .walk) .1, words-some (s .this .kind))
+
+        abbrev before-it : Catalogue (length t) out start
+        before-it =
+            record {
+              records = H;
+              fit = hoisted-fits t (length t) no-ids (u .before) (u .before-true);
+              tail = catalogue-bytes layout-20 (map (marked t H) (h .seen)) ++ (catalogue-bytes layout-20 (stands .this ∷ stands .rest) ++ u .tail);
+              bytes = stands .walk .bytes ∙ (ap (λ x. x ++ (catalogue-bytes layout-20 (stands .this ∷ stands .rest) ++ u .tail)) (catalogue-bytes-append layout-20 H (map (marked t H) (h .seen))) ∙ append-assoc (catalogue-bytes layout-20 H) _ _);
+              ends = u .starts;
+            }
+
+        module _ (limit : length t ≤ text-limit) {w : ℕ} (g : w ≡ from-big-endian (take 8 (drop p out))) where
+          is : w ≡ first-word (stands .this)
+          is = g ∙ walk-word (stands .walk) limit
+
+          abbrev at-it : Marking t out start p w
+          at-it =
+              record {
+                before = before-it;
+                this = stands .this;
+                fits = stands .walk .fit .0;
+                is = is;
+                front = catalogue-bytes layout-20 (H ++ map (marked t H) (h .seen));
+                tail = further-bytes (stands .this) ++ (catalogue-bytes layout-20 (stands .rest) ++ u .tail);
+                bytes = rw is (walk-bytes (stands .walk));
+                place = stands .walk .start;
+              }
+
+          pub marking-at : Marking t out start p w
+          marking-at = at-it
+
+          words-are : words-of-kind (w / 2 ^ 56) ≡ words-of-kind (stands .this .kind)
+          words-are = ap words-of-kind (kind-of limit (walk-first (stands .walk) limit g))
+
+          pub marking-inside : {n : ℕ} → n ≡ words-of-kind (w / 2 ^ 56) → (p < p + 8 * n) × (p + 8 * n ≤ end)
+          marking-inside z = (omega (arith, z, words-some (w / 2 ^ 56)), omega (arith, z, words-are, walk-fits (stands .walk) .0))
+
+          pub marking-more : {new : List ℕ} {n : ℕ} → MarkedTo new t out start p w → n ≡ words-of-kind (w / 2 ^ 56) → MarkingAt u new (p + 8 * n)
+          marking-more {new} k z =
+              let r = stands .this in
+              let m : Record = marked t H r in
+              let b : new ≡ catalogue-bytes layout-20 (H ++ map (marked t H) (h .seen)) ++ (catalogue-bytes layout-20 (m ∷ []) ++ (catalogue-bytes layout-20 (stands .rest) ++ u .tail)) =
+              k at-it ∙ ap (λ x. catalogue-bytes layout-20 (H ++ map (marked t H) (h .seen)) ++ x) (sym (append-assoc (big-endian 8 (first-word m)) (further-bytes r) _) ∙ ap (λ x. x ++ (catalogue-bytes layout-20 (stands .rest) ++ u .tail)) (sym (marked-bytes t H r))) in
+              let f : catalogue-bytes layout-20 (H ++ map (marked t H) (h .seen)) ++ catalogue-bytes layout-20 (m ∷ []) ≡ catalogue-bytes layout-20 (H ++ map (marked t H) (h .seen ++ (r ∷ []))) =
+              sym (catalogue-bytes-append layout-20 (H ++ map (marked t H) (h .seen)) (m ∷ [])) ∙ ap (catalogue-bytes layout-20) (append-assoc H _ _ ∙ ap (λ x. H ++ x) (sym (map-append (marked t H) (h .seen) (r ∷ [])))) in
+              rw (z, words-are) (record {
+                seen = h .seen ++ (r ∷ []);
+                left = stands .rest;
+                whole = stands .holds ∙ sym (append-assoc (h .seen) (r ∷ []) (stands .rest));
+                walk = rw f at (walk-behind (stands .walk) m new (marked-words t H r (stands .walk .fit .0)) b);
+              })
+
+-- the loop: whichever item stands there
+abbrev pub MarkingItem : (t old : List ℕ) → (start end : ℕ) → (out : List ℕ) → (p : ℕ) → Type 0
+MarkingItem t old start end out p = (u : Unhoisted t old start end) → MarkingAt t u out p
