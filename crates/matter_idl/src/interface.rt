@@ -3,16 +3,39 @@ ghost use mathlib.Core.Path.{_≡_};
 ghost use Prim.Native.Nat.{_+_, _*_, _≤_, _<_};
 ghost use lib.ListN.{length};
 ghost use Rattle.lexing.specs.outcomes.{afterwards};
+ghost use Rattle.items.specs.layout.{layout-20};
+ghost use Rattle.matter_idl.specs.reading.{reading};
 ghost use Rattle.matter_idl.specs.interface.{value-limit, number-unit, result, unescaping};
+use crate::reading::Verdict;
+use crate::reading::verdict_on;
+use crate::reading::write_hoisted;
 use lexing::unescaping::Unescaping;
 use lexing::unescaping::unescape;
 
-fn packed(number: u64, value: usize) -> u64
+fn packed(number: usize, value: usize) -> u64
     requires { ⌜ number < 256 ⌝ }
     requires { ⌜ value ≤ value-limit ⌝ }
     ensures { λ r. ⌜ r ≡ number * number-unit + value ⌝ }
 {
-    number * 0x100_0000_0000_0000 + value as u64
+    number as u64 * 0x100_0000_0000_0000 + value as u64
+}
+
+#[no_mangle]
+pub extern "C" fn matter_idl_read(text: &[u8], catalogue: &mut [u8]) -> u64
+    ensures { λ r. ⌜ r ≡ result (reading layout-20 (now (text .entry)) (length (now (catalogue .entry)))) ⌝ }
+    ensures { λ r. ⌜ now (catalogue .exit) ≡ afterwards (reading layout-20 (now (text .entry)) (length (now (catalogue .entry)))) (now (catalogue .entry)) ⌝ }
+{
+    let v = verdict_on(text);
+    match v {
+        Verdict::Refused(number, value) => packed(number, value),
+        Verdict::Accepted(n) => {
+            if catalogue.len() < 8 * n {
+                return packed(7, 8 * n);
+            }
+            write_hoisted(text, catalogue);
+            packed(0, 8 * n)
+        }
+    }
 }
 
 #[no_mangle]

@@ -6,8 +6,10 @@ ghost use Rattle.items.specs.records.{each};
 ghost use Rattle.items.specs.answers.{CountTo, Room, Written};
 ghost use Rattle.items.specs.answers.items.{unhoisted-item};
 ghost use mathlib.Core.Path.{_≡_};
+ghost use Rattle.matter_idl.specs.hoisting.{no-ids, hoisted};
 ghost use Rattle.matter_idl.specs.reading.{all-items};
 ghost use Rattle.matter_idl.specs.answers.reading.{refusedBy, VerdictTo};
+use crate::hoisting::mark_item;
 use items::counts::Count;
 use items::counts::count_lost;
 use items::items::declaration;
@@ -48,28 +50,6 @@ pub fn count_items(part: &[u8], base: usize) -> Count
     }
 }
 
-// The second pass over all items of a part, whose records are written one behind the other.
-pub fn write_items(part: &[u8], base: usize, out: &mut [u8], at: usize) -> Wrote
-    requires { ⌜ base + length (now part) ≤ text-limit ⌝ }
-    requires { ⌜ Room (each unhoisted-item) all-items base (now part) at (length (now out)) ⌝ }
-    ensures { λ r. ⌜ Written (each unhoisted-item) all-items base (now (part .entry)) at r (now (out .entry)) (now (out .exit)) ⌝ }
-{
-    let end = base + part.len();
-    let mut c = base;
-    let mut to = at;
-    loop {
-        let w = whitespace0(rest_at(part, base, c), c);
-        let start = w.next;
-        if start == end {
-            return Wrote { next: start, to };
-        }
-        let doc = w.doc;
-        let wrote = write_declaration(rest_at(part, base, start), start, doc, out, to);
-        c = wrote.next;
-        to = wrote.to;
-    }
-}
-
 fn refused_by(l: Lost) -> Verdict
     ensures { λ r. ⌜ r ≡ refusedBy l ⌝ }
 {
@@ -95,4 +75,26 @@ pub fn verdict_on(text: &[u8]) -> Verdict
         return refused_by(count_lost(r));
     };
     Verdict::Accepted(n)
+}
+
+// The second pass over all items of a text: each item's records, behind those before it, are marked as soon as they are written.
+pub fn write_hoisted(text: &[u8], out: &mut [u8]) -> Wrote
+    requires { ⌜ length (now text) ≤ text-limit ⌝ }
+    requires { ⌜ Room (each unhoisted-item) all-items 0 (now text) 0 (length (now out)) ⌝ }
+    ensures { λ r. ⌜ Written (hoisted no-ids) all-items 0 (now (text .entry)) 0 r (now (out .entry)) (now (out .exit)) ⌝ }
+{
+    let mut c = 0;
+    let mut to = 0;
+    loop {
+        let w = whitespace0(rest_at(text, 0, c), c);
+        let start = w.next;
+        if start == text.len() {
+            return Wrote { next: start, to };
+        }
+        let doc = w.doc;
+        let wrote = write_declaration(rest_at(text, 0, start), start, doc, out, to);
+        mark_item(text, out, to, wrote.to);
+        c = wrote.next;
+        to = wrote.to;
+    }
 }

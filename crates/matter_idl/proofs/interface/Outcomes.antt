@@ -78,6 +78,9 @@ module _ (u : List ℕ) (n : ℕ) {m : ℕ} (h : AcceptedTo m u) where
       let z : h .next - 0 ≡ h .next = omega arith in
       record { value = h .items; next = h .next; is = rw z (h .reads); fits = omega (arith, hoisted-words no-ids (h .items), h .words, l) }
 
+  pub hoisted-room : 8 * m ≤ n → Room (hoisted no-ids) all-items 0 u 0 n
+  hoisted-room l = let z : h .next - 0 ≡ h .next = omega arith in record { value = h .items; next = h .next; is = rw z (h .reads); fits = omega (arith, h .words, l) }
+
   pub written-result : leb (8 * m) n ≡ true → {x : ℕ} → x ≡ 0 * number-unit + 8 * m → x ≡ result (read-20 u n)
   unfolding result returned
   written-result e {x} d =
