@@ -4,16 +4,17 @@ ghost use Prim.Native.Nat.{_+_, _/_, _%_, _^_, _≤_, _<_};
 ghost use lib.ListN.{length, take, drop};
 ghost use Rattle.lexing.specs.word_sets.{same-bytes};
 ghost use Rattle.items.specs.layout.{from-big-endian, words-of-kind, text-limit};
-ghost use Rattle.matter_idl.specs.inner.hoisting.{word-hits, is-unmarked, Catalogue, HeldTo, Marking, MarkedTo, Unhoisted, HoistedTo};
+ghost use Rattle.matter_idl.specs.inner.hoisting.{NameIn, word-hits, is-unmarked, Catalogue, HeldTo, Marking, MarkedTo, Unhoisted, HoistedTo};
 use items::writing::put_word;
 
 // How many words a record of a kind takes.
-fn words_of(kind: usize) -> usize
+fn words_of(kind: u8) -> usize
     ensures { λ r. ⌜ r ≡ words-of-kind kind ⌝ }
 {
     let further = b"\x00\x03\x02\x02\x01\x02\x03\x01\x04\x02\x01\x02\x00\x00\x01\x00\x00";
-    if kind < further.len() {
-        return 1 + further[kind] as usize;
+    let k = kind as usize;
+    if k < further.len() {
+        return 1 + further[k] as usize;
     }
     1
 }
@@ -25,19 +26,19 @@ fn wide(x: u8) -> u64
     x as u64
 }
 
-// Eight bytes as a word, the most significant first.
+// Eight bytes as a word, the most significant first. The compiler makes one load of a sum in this order.
 fn word_at(bytes: &[u8], at: usize) -> u64
     requires { ⌜ at + 8 ≤ length (now bytes) ⌝ }
     ensures { λ r. ⌜ r ≡ from-big-endian (take 8 (drop at (now (bytes .entry)))) ⌝ }
 {
-    wide(bytes[at]) * 0x100_0000_0000_0000
-        + wide(bytes[at + 1]) * 0x1_0000_0000_0000
-        + wide(bytes[at + 2]) * 0x100_0000_0000
-        + wide(bytes[at + 3]) * 0x1_0000_0000
-        + wide(bytes[at + 4]) * 0x100_0000
-        + wide(bytes[at + 5]) * 0x1_0000
+    wide(bytes[at + 7])
         + wide(bytes[at + 6]) * 0x100
-        + wide(bytes[at + 7])
+        + wide(bytes[at + 5]) * 0x1_0000
+        + wide(bytes[at + 4]) * 0x100_0000
+        + wide(bytes[at + 3]) * 0x1_0000_0000
+        + wide(bytes[at + 2]) * 0x100_0000_0000
+        + wide(bytes[at + 1]) * 0x1_0000_0000_0000
+        + wide(bytes[at]) * 0x100_0000_0000_0000
 }
 
 // Whether the text has the same bytes at two offsets; the comparison ends at the first difference.
@@ -56,16 +57,18 @@ fn same_bytes(text: &[u8], a: usize, b: usize, size: usize) -> bool
     true
 }
 
-// Whether a record's first word is that of a global type of a kind, with the id at an offset of the text.
-fn is_global(text: &[u8], w: u64, kind: u64, name: usize, size: usize) -> bool
-    requires { ⌜ w / 2 ^ 24 % 2 ^ 20 + w / 2 ^ 4 % 2 ^ 20 ≤ length (now text) ⌝ }
+// Whether the record at an offset of the catalogue is that of a global type of a kind, with the id at an offset of the text.
+fn is_global(text: &[u8], out: &[u8], at: usize, kind: u8, name: usize, size: usize) -> bool
+    requires { ⌜ at + 8 ≤ length (now out) ⌝ }
+    requires { ⌜ NameIn (from-big-endian (take 8 (drop at (now out)))) (length (now text)) ⌝ }
     requires { ⌜ name + size ≤ length (now text) ⌝ }
-    ensures { λ r. ⌜ r ≡ word-hits (now (text .entry)) kind name size w ⌝ }
+    ensures { λ r. ⌜ r ≡ word-hits (now (text .entry)) kind name size (from-big-endian (take 8 (drop at (now (out .entry))))) ⌝ }
 {
-    if w / 0x40_0000_0000_0000 % 4 != 1 {
+    if out[at] != kind {
         return false;
     }
-    if w / 0x100_0000_0000_0000 != kind {
+    let w = word_at(out, at);
+    if w / 0x40_0000_0000_0000 % 4 != 1 {
         return false;
     }
     if w / 16 % 0x10_0000 != size as u64 {
@@ -76,7 +79,7 @@ fn is_global(text: &[u8], w: u64, kind: u64, name: usize, size: usize) -> bool
 }
 
 // Whether a record before an end is that of a global type of a kind, with the id at an offset of the text.
-fn is_held(text: &[u8], out: &[u8], end: usize, kind: u64, name: usize, size: usize) -> bool
+fn is_held(text: &[u8], out: &[u8], end: usize, kind: u8, name: usize, size: usize) -> bool
     requires { ⌜ length (now text) ≤ text-limit ⌝ }
     requires { ⌜ Catalogue (length (now text)) (now out) end ⌝ }
     requires { ⌜ name + size ≤ length (now text) ⌝ }
@@ -84,11 +87,10 @@ fn is_held(text: &[u8], out: &[u8], end: usize, kind: u64, name: usize, size: us
 {
     let mut at = 0;
     while at < end {
-        let w = word_at(out, at);
-        if is_global(text, w, kind, name, size) {
+        if is_global(text, out, at, kind, name, size) {
             return true;
         }
-        at += 8 * words_of((w / 0x100_0000_0000_0000) as usize);
+        at += 8 * words_of(out[at]);
     }
     false
 }
@@ -125,7 +127,14 @@ fn mark_record(text: &[u8], out: &mut [u8], start: usize, at: usize, w: u64)
     }
     let name = (w / 0x100_0000 % 0x10_0000) as usize;
     let size = (w / 16 % 0x10_0000) as usize;
-    if is_held(text, out, start, w / 0x100_0000_0000_0000, name, size) {
+    if is_held(
+        text,
+        out,
+        start,
+        (w / 0x100_0000_0000_0000) as u8,
+        name,
+        size,
+    ) {
         put_word(out, at, w + 0x80_0000_0000_0000);
         return;
     }
@@ -142,6 +151,6 @@ pub fn mark_item(text: &[u8], out: &mut [u8], start: usize, end: usize)
     while at < end {
         let w = word_at(out, at);
         mark_record(text, out, start, at, w);
-        at += 8 * words_of((w / 0x100_0000_0000_0000) as usize);
+        at += 8 * words_of((w / 0x100_0000_0000_0000) as u8);
     }
 }

@@ -16,7 +16,7 @@ use Rattle.items.specs.layout.{offset, size, from-big-endian, layout-20, words-
 use Rattle.items.proofs.Truth.{All}
 use Rattle.items.proofs.RecordWords.{catalogue-bytes-none, word-count-none}
 use Rattle.items.proofs.RecordsFit.{RecordFits}
-use Rattle.matter_idl.specs.inner.hoisting.{bytes-at, hits, found, word-hits, Catalogue, flags-shared, is-unmarked}
+use Rattle.matter_idl.specs.inner.hoisting.{NameIn, bytes-at, hits, found, word-hits, Catalogue, flags-shared, is-unmarked}
 use Rattle.matter_idl.proofs.hoisting.Walk.{Walk, FirstOf, kind-of, place-of, offset-of, size-of, name-in, walk-fits, walk-first, walk-next, words-some, Standing, walk-stands, walk-over}
 
 -- a record has at most four further words
@@ -54,10 +54,14 @@ elements-are zero l i h = refl
 elements-are (suc n) l i h = ap (take (suc n)) (drop-cons l i 0 (omega arith)) ∙ ap (λ x. getD l i 0 ∷ x) (elements-are n l (suc i) (omega arith))
 
 pub word-at-is : (l : List ℕ) (i : ℕ) → i + 8 ≤ length l
-    → getD l i 0 * 72057594037927936 + getD l (i + 1) 0 * 281474976710656 + getD l (i + 2) 0 * 1099511627776 + getD l (i + 3) 0 * 4294967296 + getD l (i + 4) 0 * 16777216 + getD l (i + 5) 0 * 65536 + getD l (i + 6) 0 * 256 + getD l (i + 7) 0
+    → getD l (i + 7) 0 + getD l (i + 6) 0 * 256 + getD l (i + 5) 0 * 65536 + getD l (i + 4) 0 * 16777216 + getD l (i + 3) 0 * 4294967296 + getD l (i + 2) 0 * 1099511627776 + getD l (i + 1) 0 * 281474976710656 + getD l i 0 * 72057594037927936
     ≡ from-big-endian (take 8 (drop i l))
 unfolding from-big-endian
 word-at-is l i h = rw (elements-are 8 l i h) (simp towards-suc (omega arith))
+
+-- its first byte
+pub kind-byte : (l : List ℕ) → ((i : ℕ) → getD l i 0 < 256) → (i : ℕ) → i + 8 ≤ length l → getD l i 0 ≡ from-big-endian (take 8 (drop i l)) / 2 ^ 56
+kind-byte l b i h = omega (arith, word-at-is l i h, b (i + 7), b (i + 6), b (i + 5), b (i + 4), b (i + 3), b (i + 2), b (i + 1))
 
 -- two parts of a text, the first i bytes of which are the same
 pub record SameAt (t : List ℕ) (a b n i : ℕ) : Type 0 where
@@ -119,7 +123,7 @@ module _ (t : List ℕ) (k o n w : ℕ) where
   unfolding word-hits
   hits-no-kind d = rw (ne-eqb _ _ d) (and-nil (eqb (w / 2 ^ 54 % 2 ^ 2) 1))
 
-  module _ (h : w / 2 ^ 24 % 2 ^ 20 + w / 2 ^ 4 % 2 ^ 20 ≤ length t) (i : o + n ≤ length t) where
+  module _ (h : NameIn w (length t)) (i : o + n ≤ length t) where
     pub hits-no-size : (w / 2 ^ 4 % 2 ^ 20 ≡ n → ⊥) → false ≡ word-hits t k o n w
     unfolding word-hits bytes-at offset size
     hits-no-size d =
@@ -177,27 +181,31 @@ module _ (t : List ℕ) (k : ℕ) (i : List ℕ) {out : List ℕ} {end : ℕ} wh
         pub held-room : p + 8 ≤ length out
         held-room = let s = stands in omega (arith, walk-fits (s .walk) .0, walk-fits (s .walk) .1, words-some (s .this .kind))
 
-        module _ (limit : length t ≤ text-limit) {w : ℕ} (g : w ≡ from-big-endian (take 8 (drop p out))) where
-          pub held-first : FirstOf (length t) w
-          held-first = walk-first (stands .walk) limit g
+        module _ (limit : length t ≤ text-limit) where
+          abbrev W : ℕ
+          W = from-big-endian (take 8 (drop p out))
 
-          words-are : words-of-kind (w / 2 ^ 56) ≡ words-of-kind (stands .this .kind)
-          words-are = ap words-of-kind (kind-of limit (walk-first (stands .walk) limit g))
+          pub held-first : FirstOf (length t) W
+          held-first = walk-first (stands .walk) limit refl
 
-          pub held-inside : {n : ℕ} → n ≡ words-of-kind (w / 2 ^ 56) → (p < p + 8 * n) × (p + 8 * n ≤ end)
-          held-inside z = (omega (arith, z, words-some (w / 2 ^ 56)), omega (arith, z, words-are, walk-fits (stands .walk) .0))
+          module _ (b : (j : ℕ) → getD out j 0 < 256) {n : ℕ} (z : n ≡ words-of-kind (getD out p 0)) where
+            words-are : n ≡ words-of-kind (stands .this .kind)
+            words-are = z ∙ ap words-of-kind (kind-byte out b p held-room ∙ kind-of limit (walk-first (stands .walk) limit refl))
 
-          told : (o m : ℕ) → i ≡ bytes-at t (at o m) → {b : Bool} → b ≡ word-hits t k o m w → hits t k i (stands .this) ≡ b
-          told o m q d = sym (d ∙ (first-hits t k o m limit (walk-first (stands .walk) limit g) ∙ ap (λ x. hits t k x (stands .this)) (sym q)))
+            pub held-inside : (p < p + 8 * n) × (p + 8 * n ≤ end)
+            held-inside = (omega (arith, words-are, words-some (stands .this .kind)), omega (arith, words-are, walk-fits (stands .walk) .0))
 
-          pub held-yes : (o m : ℕ) → i ≡ bytes-at t (at o m) → {b : Bool} → b ≡ word-hits t k o m w → b ≡ true → true ≡ found t k i (c .records)
-          unfolding found
-          held-yes o m q d y = sym (stands .holds ∙ ap (λ x. x || found t k i (stands .rest)) (told o m q d ∙ y))
+          module _ (o m : ℕ) (q : i ≡ bytes-at t (at o m)) {a : Bool} (d : a ≡ word-hits t k o m W) where
+            told : hits t k i (stands .this) ≡ a
+            told = sym (d ∙ (first-hits t k o m limit (walk-first (stands .walk) limit refl) ∙ ap (λ x. hits t k x (stands .this)) (sym q)))
 
-          pub held-more : (o m : ℕ) → i ≡ bytes-at t (at o m) → {b : Bool} → b ≡ word-hits t k o m w → b ≡ false → {n : ℕ} → n ≡ words-of-kind (w / 2 ^ 56) → HeldAt c (p + 8 * n)
-          unfolding found
-          held-more o m q d y z =
-              rw (z, words-are) (record { front = _; left = stands .rest; walk = walk-next (stands .walk); same = stands .holds ∙ ap (λ x. x || found t k i (stands .rest)) (told o m q d ∙ y) })
+            pub held-yes : a ≡ true → true ≡ found t k i (c .records)
+            unfolding found
+            held-yes y = sym (stands .holds ∙ ap (λ x. x || found t k i (stands .rest)) (told ∙ y))
+
+            pub held-more : a ≡ false → (b : (j : ℕ) → getD out j 0 < 256) → {n : ℕ} → n ≡ words-of-kind (getD out p 0) → HeldAt c (p + 8 * n)
+            unfolding found
+            held-more y b z = rw (words-are b z) (record { front = _; left = stands .rest; walk = walk-next (stands .walk); same = stands .holds ∙ ap (λ x. x || found t k i (stands .rest)) (told ∙ y) })
 
 -- the loop: whichever records stand there
 abbrev pub Searching : (t out : List ℕ) → (end k o n p : ℕ) → Type 0

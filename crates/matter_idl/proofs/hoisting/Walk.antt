@@ -11,6 +11,7 @@ use Rattle.items.proofs.Truth.{All}
 use Rattle.items.proofs.Packing.{word-back}
 use Rattle.items.proofs.RecordWords.{each-one, big-endian-length, words-bytes-append, words-bytes-one, catalogue-bytes-append, catalogue-bytes-length, catalogue-bytes-none, word-count-append, word-count-none}
 use Rattle.items.proofs.RecordsFit.{ExtentIn, RecordFits, words-count, words-fit, layout-20-fits, first-word, words-split, kind-back, place-back, flags-back, name-offset-back, name-size-back}
+use Rattle.matter_idl.specs.inner.hoisting.{NameIn}
 
 -- the records l of a text of n bytes stand in a buffer from at to end, between front and tail
 pub record Walk (n : ℕ) (front : List ℕ) (l : List Record) (tail out : List ℕ) (at end : ℕ) : Type 0 where
@@ -66,7 +67,7 @@ extent-in absent h = omega arith
 extent-in (at o k) h = h
 
 -- its name lies in the text
-pub name-in : {n : ℕ} → n ≤ text-limit → {w : ℕ} → FirstOf n w → w / 2 ^ 24 % 2 ^ 20 + w / 2 ^ 4 % 2 ^ 20 ≤ n
+pub name-in : {n : ℕ} → n ≤ text-limit → {w : ℕ} → FirstOf n w → NameIn w n
 name-in limit f = rw (offset-of limit f, size-of limit f) (extent-in (f .of .name) (f .fits .name-inside))
 
 -- a walk that has not ended stands at a record

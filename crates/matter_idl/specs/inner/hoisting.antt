@@ -1,5 +1,5 @@
 -- Hoisting by a search of the records before: what it finds, and what it does to a record.
-use Prim.Native.Nat.{ℕ, _+_, _*_, _^_, _/_, _%_}
+use Prim.Native.Nat.{ℕ, _+_, _*_, _^_, _/_, _%_, _≤_}
 use mathlib.Core.Path.{_≡_}
 use mathlib.Core.Bool.{Bool, true, false, _&&_, _||_}
 use mathlib.Core.List.{List, [], _∷_, _++_}
@@ -26,7 +26,11 @@ unfoldable pub found : List ℕ → ℕ → List ℕ → List Record → Bool
 found t k i [] = false
 found t k i (r ∷ l) = hits t k i r || found t k i l
 
--- the same of a record's first word w, for the id of n bytes at offset o
+-- the name of a record's first word w lies in a text of n bytes
+abbrev pub NameIn : ℕ → ℕ → Type 0
+NameIn w n = w / 2 ^ 24 % 2 ^ 20 + w / 2 ^ 4 % 2 ^ 20 ≤ n
+
+-- whether w is the first word of a global type of kind k with the id of n bytes at offset o
 unfoldable pub word-hits : List ℕ → ℕ → ℕ → ℕ → ℕ → Bool
 word-hits t k o n w = eqb (w / 2 ^ 54 % 2 ^ 2) 1 && (eqb (w / 2 ^ 56) k && same-bytes (bytes-at t (at o n)) (bytes-at t (at (w / 2 ^ 24 % 2 ^ 20) (w / 2 ^ 4 % 2 ^ 20))))
 

@@ -15,29 +15,29 @@ abbrev μ-loop : tie.MeasureT-loop
 loop-holds : tie.Need-loop-holds Inv-loop μ-loop
 loop-holds c = λ x. held-start _ _ _ x
 
-word-at-requires : tie.Need-word-at-requires Inv-loop μ-loop
-word-at-requires c κs = held-room _ _ _ (c .before .before .before .before .pre .1 .0) (c .before .loop .inv (c .before .before .before .before .pre .1 .0)) (c .loop-test .taken)
-
 is-global-requires : tie.Need-is-global-requires Inv-loop μ-loop
-is-global-requires c κs = (name-in (c .before .before .before .before .before .pre .0) (held-first _ _ _ (c .before .before .before .before .before .pre .1 .0) (c .before .before .loop .inv (c .before .before .before .before .before .pre .1 .0)) (c .before .loop-test .taken) (c .before .before .before .before .before .pre .0) (c .word-at .ensures)), c .before .before .before .before .before .pre .1 .1)
+is-global-requires c κs = (held-room _ _ _ (c .before .before .before .before .pre .1 .0) (c .before .loop .inv (c .before .before .before .before .pre .1 .0)) (c .loop-test .taken), (name-in (c .before .before .before .before .pre .0) (held-first _ _ _ (c .before .before .before .before .pre .1 .0) (c .before .loop .inv (c .before .before .before .before .pre .1 .0)) (c .loop-test .taken) (c .before .before .before .before .pre .0)), c .before .before .before .before .pre .1 .1))
 
 returns : tie.Need-returns Inv-loop μ-loop
-returns c = λ x. held-yes _ _ _ x (c .before .before .before .before .loop .inv x) (c .before .before .before .loop-test .taken) (c .before .before .before .before .before .before .before .pre .0) (c .before .before .word-at .ensures) _ _ refl (c .before .is-global .ensures) (c .if1 .taken)
+returns c = λ x. held-yes _ _ _ x (c .before .before .before .loop .inv x) (c .before .before .loop-test .taken) (c .before .before .before .before .before .before .pre .0) _ _ refl (c .before .is-global .ensures) (c .if1 .taken)
+
+shared-slice-read-words-of : tie.Need-shared-slice-read-words-of Inv-loop μ-loop
+shared-slice-read-words-of c = omega (arith, held-room _ _ _ (c .before .before .before .before .before .before .before .pre .1 .0) (c .before .before .before .before .loop .inv (c .before .before .before .before .before .before .before .pre .1 .0)) (c .before .before .before .loop-test .taken))
 
 words-of-requires : tie.Need-words-of-requires Inv-loop μ-loop
 words-of-requires c κs = tt
 
 mul-at : tie.Need-mul-at Inv-loop μ-loop
-mul-at c = let h = held-inside _ _ _ (c .before .before .before .before .before .before .before .before .pre .1 .0) (c .before .before .before .before .before .loop .inv (c .before .before .before .before .before .before .before .before .pre .1 .0)) (c .before .before .before .before .loop-test .taken) (c .before .before .before .before .before .before .before .before .pre .0) (c .before .before .before .word-at .ensures) (c .words-of .ensures) in omega (arith, h .1)
+mul-at c = omega (arith, held-inside _ _ _ (c .before .before .before .before .before .before .before .before .pre .1 .0) (c .before .before .before .before .before .loop .inv (c .before .before .before .before .before .before .before .before .pre .1 .0)) (c .before .before .before .before .loop-test .taken) (c .before .before .before .before .before .before .before .before .pre .0) (λ i. omega (arith, c .before .before .before .before .before .before .shared-slice-known2 .given i)) (c .words-of .ensures) .1)
 
 add-at : tie.Need-add-at Inv-loop μ-loop
-add-at c = let h = held-inside _ _ _ (c .before .before .before .before .before .before .before .before .pre .1 .0) (c .before .before .before .before .before .loop .inv (c .before .before .before .before .before .before .before .before .pre .1 .0)) (c .before .before .before .before .loop-test .taken) (c .before .before .before .before .before .before .before .before .pre .0) (c .before .before .before .word-at .ensures) (c .words-of .ensures) in omega (arith, h .1)
+add-at c = omega (arith, held-inside _ _ _ (c .before .before .before .before .before .before .before .before .pre .1 .0) (c .before .before .before .before .before .loop .inv (c .before .before .before .before .before .before .before .before .pre .1 .0)) (c .before .before .before .before .loop-test .taken) (c .before .before .before .before .before .before .before .before .pre .0) (λ i. omega (arith, c .before .before .before .before .before .before .shared-slice-known2 .given i)) (c .words-of .ensures) .1)
 
 loop-less : tie.Need-loop-less Inv-loop μ-loop
-loop-less c = let h = held-inside _ _ _ (c .before .before .before .before .before .before .before .before .pre .1 .0) (c .before .before .before .before .before .loop .inv (c .before .before .before .before .before .before .before .before .pre .1 .0)) (c .before .before .before .before .loop-test .taken) (c .before .before .before .before .before .before .before .before .pre .0) (c .before .before .before .word-at .ensures) (c .words-of .ensures) in omega (arith, h .0, h .1)
+loop-less c = let h = held-inside _ _ _ (c .before .before .before .before .before .before .before .before .pre .1 .0) (c .before .before .before .before .before .loop .inv (c .before .before .before .before .before .before .before .before .pre .1 .0)) (c .before .before .before .before .loop-test .taken) (c .before .before .before .before .before .before .before .before .pre .0) (λ i. omega (arith, c .before .before .before .before .before .before .shared-slice-known2 .given i)) (c .words-of .ensures) in omega (arith, h .0, h .1)
 
 loop-again : tie.Need-loop-again Inv-loop μ-loop
-loop-again c = λ x. held-more _ _ _ x (c .before .before .before .before .before .loop .inv x) (c .before .before .before .before .loop-test .taken) (c .before .before .before .before .before .before .before .before .pre .0) (c .before .before .before .word-at .ensures) _ _ refl (c .before .before .is-global .ensures) (c .before .if1 .left) (c .words-of .ensures)
+loop-again c = λ x. held-more _ _ _ x (c .before .before .before .before .before .loop .inv x) (c .before .before .before .before .loop-test .taken) (c .before .before .before .before .before .before .before .before .pre .0) _ _ refl (c .before .before .before .is-global .ensures) (c .before .before .if1 .left) (λ i. omega (arith, c .before .before .before .before .before .before .shared-slice-known2 .given i)) (c .words-of .ensures)
 
 returns-2 : tie.Need-returns-2 Inv-loop μ-loop
 returns-2 c = λ x. held-end _ _ _ x (c .before .loop .inv x) (c .loop-test .left)
@@ -49,9 +49,9 @@ is-held-spec =
     Inv-loop
     μ-loop
     loop-holds
-    word-at-requires
     is-global-requires
     returns
+    shared-slice-read-words-of
     words-of-requires
     mul-at
     add-at

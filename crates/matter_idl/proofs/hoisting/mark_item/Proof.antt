@@ -1,3 +1,4 @@
+use borrow.Author.Needs.{needs}
 use Rattle.matter_idl.proofs.hoisting.mark_item.Statement.{statement}
 use Rattle.matter_idl.proofs.hoisting.mark_item.Tie as tie
 use Prim.Native.Nat.{_-_}
@@ -18,6 +19,9 @@ word-at-requires c κs = marking-room _ (c .before .before .before .before .befo
 
 mark-record-requires : tie.Need-mark-record-requires Inv-loop μ-loop
 mark-record-requires c κs = (c .before .before .before .before .before .before .before .pre .0, marking-at _ (c .before .before .before .before .before .before .before .pre .1) (c .before .before .before .before .loop .inv (c .before .before .before .before .before .before .before .pre .1)) (c .before .before .before .loop-test .taken) (c .before .before .before .before .before .before .before .pre .0) (c .before .word-at .ensures))
+
+cast-words-of : tie.Need-cast-words-of Inv-loop μ-loop
+cast-words-of c = search needs
 
 words-of-requires : tie.Need-words-of-requires Inv-loop μ-loop
 words-of-requires c κs = tt
@@ -49,6 +53,7 @@ mark-item-spec =
     loop-holds
     word-at-requires
     mark-record-requires
+    cast-words-of
     words-of-requires
     mul-at
     add-at

@@ -14,6 +14,9 @@ is-unmarked-requires c κs = tt
 returns : tie.Need-returns
 returns c = λ m. mark-kept _ (c .before .before .before .before .pre .0) m (c .before .is-unmarked .ensures) (not-true _ (c .if1 .taken))
 
+cast-is-held : tie.Need-cast-is-held
+cast-is-held c = search needs
+
 is-held-requires : tie.Need-is-held-requires
 is-held-requires c κs = (c .before .before .before .before .before .pre .0, (c .before .before .before .before .before .pre .1 .before, name-in (c .before .before .before .before .before .pre .0) (mark-first _ (c .before .before .before .before .before .pre .0) (c .before .before .before .before .before .pre .1))))
 
@@ -47,6 +50,7 @@ mark-record-spec =
     (tie.spec
     is-unmarked-requires
     returns
+    cast-is-held
     is-held-requires
     add-put-word
     put-word-requires
