@@ -73,11 +73,11 @@ put-front xs l = let z : 0 + length xs ≡ length xs = omega arith in ap (λ (n 
 
 -- the items l are hoisted at the front of a buffer that was old, and the item i is written behind them
 module _ (t old : List ℕ) (l : List Item) (i : Item) {out new : List ℕ} {start end : ℕ}
-  (starts : start ≡ 8 * word-count (hoisted no-ids l))
-  (ends : end ≡ start + 8 * word-count (unhoisted-item i))
-  (room : end ≤ length old)
-  (hoisted-before : out ≡ put 0 (catalogue-bytes layout-20 (hoisted no-ids l)) old)
-  (written : new ≡ put start (catalogue-bytes layout-20 (unhoisted-item i)) out) where
+    (starts : start ≡ 8 * word-count (hoisted no-ids l))
+    (ends : end ≡ start + 8 * word-count (unhoisted-item i))
+    (room : end ≤ length old)
+    (hoisted-before : out ≡ put 0 (catalogue-bytes layout-20 (hoisted no-ids l)) old)
+    (written : new ≡ put start (catalogue-bytes layout-20 (unhoisted-item i)) out) where
   both : new ≡ catalogue-bytes layout-20 (hoisted no-ids l ++ unhoisted-item i) ++ drop end old
   both =
       let h = catalogue-bytes-length (hoisted no-ids l) in
