@@ -39,7 +39,7 @@ loop-less-2 : tie.Need-loop-less-2 Inv-loop μ-loop
 loop-less-2 c = search needs
 
 loop-again-2 : tie.Need-loop-again-2 Inv-loop μ-loop
-loop-again-2 c = ?
+loop-again-2 c = omega arith
 
 returns : tie.Need-returns Inv-loop μ-loop
 returns c = tt
