@@ -6,4 +6,3 @@ pub mod KnownAnswers
 pub mod AllItems
 -- the places of records
 pub mod Places
-pub mod Marking

@@ -13,10 +13,7 @@ use Rattle.items.specs.layout.{layout-20, record-words, catalogue-words, word-c
 use Rattle.items.specs.answers.clusters.{unhoisted-records}
 use Rattle.items.specs.answers.items.{unhoisted-item}
 use Rattle.matter_idl.specs.hoisting.{Tables, place-by, after-item, hoisted}
-
--- a record at a place
-unfoldable pub with-place : ℕ → Record → Record
-with-place p r = record { kind = r .kind; place = p; maturity = r .maturity; doc-present = r .doc-present; flags = r .flags; name = r .name; first-privilege = r .first-privilege; second-privilege = r .second-privilege; further = r .further }
+use Rattle.matter_idl.specs.inner.hoisting.{with-place}
 
 -- records that differ in their places alone
 unplaced : List Record → List Record
@@ -95,94 +92,3 @@ item-words p q f g i = alike-words (alike-item f g p q i)
 
 pub hoisted-words : (t : Tables) (l : List Item) → word-count (hoisted t l) ≡ word-count (each unhoisted-item l)
 hoisted-words t l = alike-words (alike-hoisted t l)
-
--- places laid onto records, one by one
-unfoldable pub placed : List ℕ → List Record → List Record
-placed [] l = l
-placed (p ∷ ps) [] = []
-placed (p ∷ ps) (r ∷ l) = with-place p r ∷ placed ps l
-
-unfoldable pub places : List Record → List ℕ
-places l = map (λ r. r .place) l
-
-placed-first : (r s : Record) → with-place 0 r ≡ with-place 0 s → r ≡ with-place (r .place) s
-unfolding with-place
-placed-first r s e = ap (with-place (r .place)) e
-
-same-placed : (k l : List Record) → unplaced k ≡ unplaced l → k ≡ placed (places k) l
-unfolding unplaced placed places
-same-placed [] [] e = refl
-same-placed [] (s ∷ l) e = let z : _≡_ {A = ℕ} 0 1 = cc in absurd (omega arith)
-same-placed (r ∷ k) [] e = let z : _≡_ {A = ℕ} 0 1 = cc in absurd (omega arith)
-same-placed (r ∷ k) (s ∷ l) e =
-    let x : with-place 0 r ≡ with-place 0 s = cc in
-    let y : map (with-place 0) k ≡ map (with-place 0) l = cc in
-    rw (← placed-first r s x, ← same-placed k l y) refl
-
-pub alike-placed : {k l : List Record} → Alike k l → k ≡ placed (places k) l
-alike-placed {k} {l} e = same-placed k l (e .same)
-
-pub hoisted-placed : (t : Tables) (l : List Item) → hoisted t l ≡ placed (places (hoisted t l)) (each unhoisted-item l)
-hoisted-placed t l = alike-placed (alike-hoisted t l)
-
--- The places of a cluster's records: a member's first record has the member's place, and all others keep theirs.
-unfoldable pub marked : ℕ → List Record → List Record
-marked p [] = []
-marked p (r ∷ l) = with-place p r ∷ l
-
-pub record ClusterMarked (t : Tables) (c : Cluster) : Type 0 where
-  pub first : Record
-  pub unhoisted : unhoisted-records c ≡ first ∷ each (member-records (λ m. 0)) (c .members)
-  pub hoists : cluster-records (place-by t) c ≡ first ∷ each (λ m. marked (place-by t m) (member-records (λ x. 0) m)) (c .members)
-
-module _ (t : Tables) where
-  pub member-marked : (m : Member) → member-records (place-by t) m ≡ marked (place-by t m) (member-records (λ x. 0) m)
-  unfolding member-records choice-records struct-records attribute-records command-record event-records documented marked with-place place-by
-  member-marked (revision n) = refl
-  member-marked (bitmap c) = refl
-  member-marked (enum c) = refl
-  member-marked (struct s) = refl
-  member-marked (attribute a) = refl
-  member-marked (command c) = refl
-  member-marked (event e) = refl
-
-  pub members-marked : (l : List Member) → each (member-records (place-by t)) l ≡ each (λ m. marked (place-by t m) (member-records (λ x. 0) m)) l
-  unfolding each
-  members-marked [] = refl
-  members-marked (m ∷ l) = rw (member-marked m, members-marked l) refl
-
-  pub cluster-marked : (c : Cluster) → ClusterMarked t c
-  unfolding cluster-records
-  cluster-marked c = record { first = _; unhoisted = refl; hoists = rw (members-marked (c .members)) refl }
-
--- all other items keep theirs
-abbrev pub NoCluster : Item → Type 0
-NoCluster (cluster-item c) = ⊥
-NoCluster (endpoint-item e) = Unit {0}
-NoCluster (enum-item c) = Unit {0}
-NoCluster (bitmap-item c) = Unit {0}
-NoCluster (struct-item s) = Unit {0}
-NoCluster blank-item = Unit {0}
-
-pub other-kept : (p : ℕ) (f g : Member → ℕ) (i : Item) → NoCluster i → item-records p f i ≡ item-records p g i
-unfolding item-records
-other-kept p f g (cluster-item c) h = absurd h
-other-kept p f g (endpoint-item e) h = refl
-other-kept p f g (enum-item c) h = refl
-other-kept p f g (bitmap-item c) h = refl
-other-kept p f g (struct-item s) h = refl
-other-kept p f g blank-item h = refl
-
--- hoisting goes on with the tables behind the items before
-unfoldable pub after-items : Tables → List Item → Tables
-after-items t [] = t
-after-items t (i ∷ l) = after-items (after-item t i) l
-
-pub hoisted-append : (t : Tables) (k l : List Item) → hoisted t (k ++ l) ≡ hoisted t k ++ hoisted (after-items t k) l
-unfolding hoisted after-items
-hoisted-append t [] l = refl
-hoisted-append t (i ∷ k) l = rw (hoisted-append (after-item t i) k l, append-assoc) refl
-
-pub hoisted-more : (t : Tables) (l : List Item) (i : Item) → hoisted t (l ++ (i ∷ [])) ≡ hoisted t l ++ item-records 1 (place-by (after-items t l)) i
-unfolding hoisted
-hoisted-more t l i = hoisted-append t l (i ∷ []) ∙ ap (λ x. hoisted t l ++ x) (append-nil (item-records 1 (place-by (after-items t l)) i))

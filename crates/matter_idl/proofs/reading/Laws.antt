@@ -37,7 +37,9 @@ use Rattle.items.proofs.items.Ends.{item-cases}
 use Rattle.items.proofs.writing.Laws.{Writing, writing-start, writing-start-seen, writing-same, writing-fits, writing-more, writing-more-seen, no-room, put-nothing, put-length, put-on}
 use Rattle.matter_idl.specs.hoisting.{no-ids, place-by, hoisted}
 use Rattle.matter_idl.specs.reading.{all-items}
-use Rattle.matter_idl.proofs.Places.{after-items, hoisted-more, hoisted-words, item-words as words-of-places}
+use Rattle.matter_idl.proofs.Places.{hoisted-words, item-words as words-of-places}
+use Rattle.matter_idl.proofs.hoisting.Search.{after-items}
+use Rattle.matter_idl.proofs.hoisting.Marks.{hoisted-more}
 use Rattle.matter_idl.proofs.AllItems.{clear-blank, no-declaration, accepted-many, all-ended, all-lost}
 
 -- a rest of a rest
@@ -188,25 +190,6 @@ module _ (b : ℕ) (u : List ℕ) (at : ℕ) (old : List ℕ) (room : Room (each
                 go (inr h) = absurd (blank a n s (h .1 .0) y (blank-ends w (h .0)) (rw (within .same) (h .1 .1)))
             find (fail p) y = absurd (lost (Fail p) (sym y))
             find (stop k p) y = absurd (lost (Stop k p) (sym y))
-
-        -- a turn
-        pub placing-more : {o : Wrote} {new' : List ℕ} → Written unhoisted-item behind (t .next) v to o new new' → WritingItems b u (o .next) at old new' (o .to) × (c < o .next)
-        placing-more {o} {new'} g =
-            let k = word-count (unhoisted-item (g .value)) in
-            let x = writing-more items-one item b u at old many i item-consumes (there (g .is)) k refl new' (g .bytes) in
-            let y = writing-fits items-one item b u at old many i item-consumes (there (g .is)) k refl in
-            (subst (λ (n : ℕ). WritingItems b u (o .next) at old new' n) (sym (g .place)) x, y .1 .0)
-
-      pub placing-ends : t .next ≡ b + length u → Written (each unhoisted-item) all-items b u at (record { next = t .next; to = to }) old new
-      placing-ends e = let j = passed (ℕ-discrete (t .next) c) in record { value = j .seen; is = all-ended (j .run) (end-rest q w e) (end-none q w e); place = j .place; bytes = j .bytes }
-        where
-          passed : Dec (t .next ≡ c) → WritingItems b u (t .next) at old new to
-          passed (yes y) = subst (λ (s : ℕ). WritingItems b u s at old new to) (sym y) i
-          passed (no y) =
-              let s = count-took item-walks q refl (item-blank w (rest-within q (end-rest q w e) (w .up)) (end-lost q w e) y refl refl) in
-              let z = nothing-left (catalogue-bytes layout-20 (unhoisted-item (s .value))) (omega (arith, catalogue-bytes-length (unhoisted-item (s .value)), s .words)) in
-              let p : to + 8 * 0 ≡ to = omega arith in
-              rw p at (writing-more items-one item b u at old many i item-consumes (s .step) 0 (s .words) new (sym (ap (λ (xs : List ℕ). put to xs new) z ∙ put-nothing to new)))
 
 -- The second pass with hoisting: the records of the items so far stand in the buffer, marked. Had none been marked, another buffer would stand there, of which the laws above speak.
 pub record HoistingItems (b : ℕ) (u : List ℕ) (c at : ℕ) (old new : List ℕ) (to : ℕ) : Type 0 where
