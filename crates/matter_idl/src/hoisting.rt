@@ -125,16 +125,10 @@ fn mark_record(text: &[u8], out: &mut [u8], start: usize, at: usize, w: u64)
     if !is_unmarked(w) {
         return;
     }
+    let kind = (w / 0x100_0000_0000_0000) as u8;
     let name = (w / 0x100_0000 % 0x10_0000) as usize;
     let size = (w / 16 % 0x10_0000) as usize;
-    if is_held(
-        text,
-        out,
-        start,
-        (w / 0x100_0000_0000_0000) as u8,
-        name,
-        size,
-    ) {
+    if is_held(text, out, start, kind, name, size) {
         put_word(out, at, w + 0x80_0000_0000_0000);
         return;
     }

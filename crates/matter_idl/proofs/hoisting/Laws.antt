@@ -2,7 +2,7 @@
 use Prim.Native.Nat.{ℕ, zero, suc, _+_, _-_, _*_, _^_, _/_, _%_, _≤_, _<_}
 use mathlib.Core.Path.{_≡_, refl, sym, _∙_, ap}
 use mathlib.Core.Bool.{Bool, true, false, _&&_, _||_}
-use mathlib.Core.List.{List, [], _∷_, _++_}
+use mathlib.Core.List.{List, [], _∷_}
 use native.Mathlib.Omega.{arith}
 use native.Mathlib.Numerals.{towards-suc}
 use native.Mathlib.Nat.{add-zero}
@@ -12,12 +12,10 @@ use lib.Seq.{drop-cons, length-take-le}
 use borrow.Author.Tests.{leb-true, eqb-true, eq-eqb, ne-eqb}
 use Rattle.lexing.specs.word_sets.{same-bytes}
 use Rattle.items.specs.records.{at, Record, further-of-kind}
-use Rattle.items.specs.layout.{offset, size, from-big-endian, layout-20, words-of-kind, catalogue-bytes, word-count, text-limit}
-use Rattle.items.proofs.Truth.{All}
-use Rattle.items.proofs.RecordWords.{catalogue-bytes-none, word-count-none}
-use Rattle.items.proofs.RecordsFit.{RecordFits}
+use Rattle.items.specs.layout.{offset, size, from-big-endian, words-of-kind, text-limit}
 use Rattle.matter_idl.specs.inner.hoisting.{NameIn, bytes-at, hits, found, word-hits, Catalogue, flags-shared, is-unmarked}
-use Rattle.matter_idl.proofs.hoisting.Walk.{Walk, FirstOf, kind-of, place-of, offset-of, size-of, name-in, walk-fits, walk-first, walk-next, words-some, Standing, walk-stands, walk-over}
+use Rattle.matter_idl.proofs.hoisting.Walk.{Walk, FirstOf, kind-of, place-of, offset-of, size-of, walk-first, walk-next, Standing, stands-room, stands-inside, walk-stands, walk-over}
+use Rattle.matter_idl.proofs.hoisting.Search.{and-nil}
 
 -- a record has at most four further words
 abbrev below : ℕ → List ℕ → Bool
@@ -110,10 +108,6 @@ part-length : (t : List ℕ) (o n : ℕ) → o + n ≤ length t → length (take
 part-length t o n h = length-take-le n (drop o t) (omega (arith, length-drop o t))
 
 -- the tests of a first word, in the code's order
-and-nil : (a : Bool) → false ≡ (a && false)
-and-nil true = refl
-and-nil false = refl
-
 module _ (t : List ℕ) (k o n w : ℕ) where
   pub hits-no-place : (w / 2 ^ 54 % 2 ^ 2 ≡ 1 → ⊥) → false ≡ word-hits t k o n w
   unfolding word-hits
@@ -121,14 +115,14 @@ module _ (t : List ℕ) (k o n w : ℕ) where
 
   pub hits-no-kind : (w / 2 ^ 56 ≡ k → ⊥) → false ≡ word-hits t k o n w
   unfolding word-hits
-  hits-no-kind d = rw (ne-eqb _ _ d) (and-nil (eqb (w / 2 ^ 54 % 2 ^ 2) 1))
+  hits-no-kind d = rw (ne-eqb _ _ d) (sym (and-nil (eqb (w / 2 ^ 54 % 2 ^ 2) 1)))
 
   module _ (h : NameIn w (length t)) (i : o + n ≤ length t) where
     pub hits-no-size : (w / 2 ^ 4 % 2 ^ 20 ≡ n → ⊥) → false ≡ word-hits t k o n w
     unfolding word-hits bytes-at offset size
     hits-no-size d =
         let z = lengths-differ (take n (drop o t)) (take (w / 2 ^ 4 % 2 ^ 20) (drop (w / 2 ^ 24 % 2 ^ 20) t)) (λ e. d (sym (sym (part-length t o n i) ∙ e ∙ part-length t _ _ h))) in
-        rw (← z) (and-nil (eqb (w / 2 ^ 54 % 2 ^ 2) 1) ∙ ap (λ x. eqb (w / 2 ^ 54 % 2 ^ 2) 1 && x) (and-nil (eqb (w / 2 ^ 56) k)))
+        rw (← z, and-nil (eqb (w / 2 ^ 56) k)) (sym (and-nil (eqb (w / 2 ^ 54 % 2 ^ 2) 1)))
 
   pub hits-same : w / 2 ^ 54 % 2 ^ 2 ≡ 1 → w / 2 ^ 56 ≡ k → w / 2 ^ 4 % 2 ^ 20 ≡ n → {r : Bool} → r ≡ same-bytes (take n (drop o t)) (take n (drop (w / 2 ^ 24 % 2 ^ 20) t)) → r ≡ word-hits t k o n w
   unfolding word-hits bytes-at offset size
@@ -179,7 +173,7 @@ module _ (t : List ℕ) (k : ℕ) (i : List ℕ) {out : List ℕ} {end : ℕ} wh
         stands = walk-stands _ (h .left) (h .walk) e (h .same)
 
         pub held-room : p + 8 ≤ length out
-        held-room = let s = stands in omega (arith, walk-fits (s .walk) .0, walk-fits (s .walk) .1, words-some (s .this .kind))
+        held-room = stands-room stands
 
         module _ (limit : length t ≤ text-limit) where
           abbrev W : ℕ
@@ -193,7 +187,7 @@ module _ (t : List ℕ) (k : ℕ) (i : List ℕ) {out : List ℕ} {end : ℕ} wh
             words-are = z ∙ ap words-of-kind (kind-byte out b p held-room ∙ kind-of limit (walk-first (stands .walk) limit refl))
 
             pub held-inside : (p < p + 8 * n) × (p + 8 * n ≤ end)
-            held-inside = (omega (arith, words-are, words-some (stands .this .kind)), omega (arith, words-are, walk-fits (stands .walk) .0))
+            held-inside = stands-inside stands words-are
 
           module _ (o m : ℕ) (q : i ≡ bytes-at t (at o m)) {a : Bool} (d : a ≡ word-hits t k o m W) where
             told : hits t k i (stands .this) ≡ a

@@ -1,5 +1,5 @@
 -- The records of an item are marked in their buffer, one after the other.
-use Prim.Native.Nat.{ℕ, zero, suc, _+_, _*_, _^_, _/_, _%_, _≤_, _<_}
+use Prim.Native.Nat.{ℕ, _+_, _*_, _^_, _/_, _%_, _≤_, _<_}
 use mathlib.Core.Path.{_≡_, refl, sym, _∙_, ap}
 use mathlib.Core.Bool.{Bool, true, false}
 use mathlib.Core.List.{List, [], _∷_, _++_, map, map-append, append-assoc, append-nil}
@@ -14,11 +14,11 @@ use Rattle.items.specs.layout.{packed, from-top, offset, size, layout-20, words
 use Rattle.items.specs.buffers.{put}
 use Rattle.items.specs.answers.items.{unhoisted-item}
 use Rattle.items.proofs.Truth.{All, ItemTrue}
-use Rattle.items.proofs.RecordWords.{big-endian-length, catalogue-bytes-append, catalogue-bytes-length, catalogue-bytes-none, word-count-append}
+use Rattle.items.proofs.RecordWords.{big-endian-length, catalogue-bytes-append, catalogue-bytes-length, catalogue-bytes-none}
 use Rattle.items.proofs.RecordsFit.{RecordFits, first-bits, first-word, item-fits, all-append}
 use Rattle.matter_idl.specs.hoisting.{Tables, no-ids, held, mark, place-by, after-item, hoisted}
-use Rattle.matter_idl.specs.inner.hoisting.{bytes-at, found, is-unmarked, mark-after, new-place, with-place, marked, Catalogue, Marking, MarkedTo, Unhoisted, HoistedTo}
-use Rattle.matter_idl.proofs.hoisting.Walk.{Walk, FirstOf, first-less, kind-of, place-of, flags-of, offset-of, size-of, word-count-one, further-bytes, record-bytes, walk-length, walk-fits, walk-word, walk-bytes, walk-first, walk-behind, words-some, Standing, walk-stands, walk-over}
+use Rattle.matter_idl.specs.inner.hoisting.{bytes-at, found, is-unmarked, mark-after, new-place, with-place, marked, Catalogue, Marking, MarkedTo, Unhoisted}
+use Rattle.matter_idl.proofs.hoisting.Walk.{Walk, FirstOf, first-less, kind-of, place-of, flags-of, offset-of, size-of, word-count-one, further-bytes, record-bytes, walk-length, walk-word, walk-bytes, walk-first, walk-behind, Standing, stands-room, stands-inside, walk-stands, walk-over}
 use Rattle.matter_idl.proofs.hoisting.Marks.{marking}
 use Rattle.matter_idl.proofs.hoisting.Laws.{unmarked-place}
 
@@ -31,14 +31,17 @@ placed-word : (q : ℕ) (r : Record) → r .place ≡ 0 → first-word (with-pla
 unfolding first-word first-bits layout-20 packed with-place
 placed-word q r h = omega (arith, h)
 
+two-or-one : (b : Bool) → elim b [ true ↦ 2 | false ↦ 1 ] < 2 ^ 2
+two-or-one true = lit< tt
+two-or-one false = lit< tt
+
 mark-small : (t : List ℕ) (b : List Record) (r : Record) → r .place < 2 ^ 2 → new-place t b r < 2 ^ 2
 unfolding new-place mark-after
-mark-small t b r h = go (is-unmarked (r .kind) (r .place) (from-top 7 (r .flags))) (found t (r .kind) (bytes-at t (r .name)) b)
+mark-small t b r h = go (is-unmarked (r .kind) (r .place) (from-top 7 (r .flags)))
   where
-    go : (x y : Bool) → elim x [ true ↦ elim y [ true ↦ 2 | false ↦ 1 ] | false ↦ r .place ] < 2 ^ 2
-    go true true = lit< tt
-    go true false = lit< tt
-    go false y = h
+    go : (x : Bool) → elim x [ true ↦ elim (found t (r .kind) (bytes-at t (r .name)) b) [ true ↦ 2 | false ↦ 1 ] | false ↦ r .place ] < 2 ^ 2
+    go true = two-or-one (found t (r .kind) (bytes-at t (r .name)) b)
+    go false = h
 
 marked-fits : {n : ℕ} (t : List ℕ) (b : List Record) (r : Record) → RecordFits n r → RecordFits n (marked t b r)
 unfolding marked
@@ -108,11 +111,7 @@ module _ (t : List ℕ) (limit : length t ≤ text-limit) {out : List ℕ} {star
 mark-below : (l : List (List ℕ)) (s : Bool) (i : List ℕ) → mark l s i < 2 ^ 2
 unfolding mark
 mark-below l false i = lit< tt
-mark-below l true i = go (held i l)
-  where
-    go : (b : Bool) → elim b [ true ↦ 2 | false ↦ 1 ] < 2 ^ 2
-    go true = lit< tt
-    go false = lit< tt
+mark-below l true i = two-or-one (held i l)
 
 place-below : (t : Tables) (m : Member) → place-by t m < 2 ^ 2
 unfolding place-by
@@ -172,7 +171,7 @@ module _ (t : List ℕ) {old : List ℕ} {start end : ℕ} where
         stands = walk-stands _ (h .left) (h .walk) e (h .whole)
 
         pub marking-room : p + 8 ≤ length out
-        marking-room = let s = stands in omega (arith, walk-fits (s .walk) .0, walk-fits (s .walk) .1, words-some (s .this .kind))
+        marking-room = stands-room stands
 
         abbrev before-it : Catalogue (length t) out start
         before-it =
@@ -208,7 +207,7 @@ module _ (t : List ℕ) {old : List ℕ} {start end : ℕ} where
           words-are = ap words-of-kind (kind-of limit (walk-first (stands .walk) limit g))
 
           pub marking-inside : {n : ℕ} → n ≡ words-of-kind (w / 2 ^ 56) → (p < p + 8 * n) × (p + 8 * n ≤ end)
-          marking-inside z = (omega (arith, z, words-some (w / 2 ^ 56)), omega (arith, z, words-are, walk-fits (stands .walk) .0))
+          marking-inside z = stands-inside stands (z ∙ words-are)
 
           pub marking-more : {new : List ℕ} {n : ℕ} → MarkedTo new t out start p w → n ≡ words-of-kind (w / 2 ^ 56) → MarkingAt u new (p + 8 * n)
           marking-more {new} k z =

@@ -1,10 +1,9 @@
 -- Marking every record of an item by a search of the records before gives the records that hoisting defines.
-use Prim.Native.Nat.{ℕ, zero, suc, _+_, _*_, _^_, _/_, _<_}
+use Prim.Native.Nat.{ℕ, _+_, _^_, _/_, _<_}
 use mathlib.Core.Path.{_≡_, refl, sym, _∙_, ap}
-use mathlib.Core.Bool.{Bool, true, false, _&&_, _||_}
+use mathlib.Core.Bool.{Bool, true, false}
 use mathlib.Core.List.{List, [], _∷_, _++_, map, map-append, append-assoc, append-nil}
 use native.Mathlib.Omega.{arith}
-use lib.Dec.{eqb, lit<}
 use Rattle.lexing.specs.words.{Word, bytesOf}
 use Rattle.lexing.specs.word_sets.{bit}
 use Rattle.items.specs.entries.{Entry, Choice}
@@ -13,17 +12,16 @@ use Rattle.items.specs.members.{Attribute, Command, Event}
 use Rattle.items.specs.clusters.{Member, revision, bitmap, enum, struct, attribute, command, event}
 use Rattle.items.specs.endpoints.{Instance, attribute-instance, command-instance, event-instance, Part, device, binding, instantiation}
 use Rattle.items.specs.items.{Item, cluster-item, endpoint-item, enum-item, bitmap-item, struct-item, blank-item}
-use Rattle.items.specs.records.{Bits, bits, value, spanned, Record, response-of, flag, word-extent, plain, documented, entry-record, choice-records, field-record, struct-number, struct-records, attribute-records, command-record, event-records, each, member-records, cluster-records, instance-record, part-records, endpoint-records, item-records}
-use Rattle.items.specs.layout.{packed, width, from-top, layout-20}
+use Rattle.items.specs.records.{bits, value, spanned, Record, response-of, flag, word-extent, plain, documented, entry-record, choice-records, field-record, struct-number, struct-records, attribute-records, command-record, event-records, each, member-records, cluster-records, instance-record, part-records, endpoint-records, item-records}
+use Rattle.items.specs.layout.{packed, width, from-top}
 use Rattle.items.specs.answers.items.{unhoisted-item}
 use Rattle.items.proofs.Truth.{All, WordTrue, ChoiceTrue, true-choice, StructTrue, true-struct, MemberTrue, true-cluster, ItemTrue}
-use Rattle.items.proofs.RecordsFit.{RecordFits, first-bits, first-word, item-fits, all-append}
 use Rattle.matter_idl.specs.hoisting.{Tables, no-ids, held, mark, choice-id, struct-id, is-shared, place-by, after-item, hoisted}
-use Rattle.matter_idl.specs.inner.hoisting.{bytes-at, found, flags-shared, is-unmarked, mark-after, new-place, with-place, marked}
+use Rattle.matter_idl.specs.inner.hoisting.{found, flags-shared, is-unmarked, mark-after, new-place, with-place, marked}
 use Rattle.matter_idl.proofs.hoisting.Search.{Kind, enums, bitmaps, structs, number-of, table-of, after-items, name-is, by-search}
 
-both : {A : Type 0} {a b : A} {k l : List A} → a ≡ b → k ≡ l → a ∷ k ≡ b ∷ l
-both e f = cc
+cons-same : {A : Type 0} {a b : A} {k l : List A} → a ≡ b → k ≡ l → a ∷ k ≡ b ∷ l
+cons-same e f = cc
 
 -- where f changes no element
 map-kept : {A B : Type 0} (f : B → B) (g : A → B) → ((a : A) → f (g a) ≡ g a) → (l : List A) → map f (map g l) ≡ map g l
@@ -62,7 +60,7 @@ module _ (text : List ℕ) (n : ℕ) (before : List Record) (t : Tables) (agree 
 
   event-kept : (e : Event) → map Marked (event-records e) ≡ event-records e
   unfolding marked new-place is-unmarked flags-shared with-place event-records documented
-  event-kept e = both refl (map-kept Marked field-record field-kept (e .fields))
+  event-kept e = cons-same refl (map-kept Marked field-record field-kept (e .fields))
 
   instance-kept : (i : Instance) → Marked (instance-record i) ≡ instance-record i
   unfolding marked new-place is-unmarked flags-shared with-place instance-record plain
@@ -74,23 +72,22 @@ module _ (text : List ℕ) (n : ℕ) (before : List Record) (t : Tables) (agree 
   unfolding marked new-place is-unmarked flags-shared with-place part-records plain
   part-kept (device d) = refl
   part-kept (binding w) = refl
-  part-kept (instantiation i) = both refl (map-kept Marked instance-record instance-kept (i .instances))
+  part-kept (instantiation i) = cons-same refl (map-kept Marked instance-record instance-kept (i .instances))
 
   -- a type's mark
   marks : (K : Kind) (w : Word) → WordTrue 0 text n w → mark-after text before (number-of K) (word-extent w) ≡ mark (table-of K t) true (bytesOf w)
   unfolding mark-after mark
   marks K w h = ap (λ (i : List ℕ). elim (found text (number-of K) i before) [ true ↦ 2 | false ↦ 1 ]) (name-is text n w h) ∙ ap (λ (b : Bool). elim b [ true ↦ 2 | false ↦ 1 ]) (sym (agree K (bytesOf w)))
 
-  choice-place : (K : Kind) (k : ℕ) → k ≡ number-of K → flags-shared k (from-top 7 (flag true ∷ [])) ≡ true → flags-shared k (from-top 7 (flag false ∷ [])) ≡ false → (c : Choice) → ChoiceTrue 0 text n c
-      → (s : Bool) → elim (is-unmarked k 0 (from-top 7 (flag s ∷ []))) [ true ↦ mark-after text before k (word-extent (c .name)) | false ↦ 0 ] ≡ mark (table-of K t) s (choice-id c)
-  unfolding is-unmarked mark choice-id
-  choice-place K k e on off c (true-choice d m w b l) true = rw (on, e) (marks K (c .name) w)
-  choice-place K k e on off c h false = rw off refl
+  module _ (K : Kind) (k : ℕ) (e : k ≡ number-of K) (on : flags-shared k (from-top 7 (flag true ∷ [])) ≡ true) (off : flags-shared k (from-top 7 (flag false ∷ [])) ≡ false) (c : Choice) where
+    choice-place : ChoiceTrue 0 text n c → (s : Bool) → elim (is-unmarked k 0 (from-top 7 (flag s ∷ []))) [ true ↦ mark-after text before k (word-extent (c .name)) | false ↦ 0 ] ≡ mark (table-of K t) s (choice-id c)
+    unfolding is-unmarked mark choice-id
+    choice-place (true-choice d m w b l) true = rw (on, e) (marks K (c .name) w)
+    choice-place h false = rw off refl
 
-  choice-marked : (K : Kind) (k : ℕ) → k ≡ number-of K → flags-shared k (from-top 7 (flag true ∷ [])) ≡ true → flags-shared k (from-top 7 (flag false ∷ [])) ≡ false → (c : Choice) → ChoiceTrue 0 text n c
-      → map Marked (choice-records k 0 c) ≡ choice-records k (mark (table-of K t) (c .shared) (choice-id c)) c
-  unfolding marked new-place with-place choice-records documented
-  choice-marked K k e on off c h = both (ap (λ p. documented k p (c .maturity) (c .doc) (flag (c .shared) ∷ []) (word-extent (c .name)) 0 0 (spanned (word-extent (c .base)) ∷ [])) (choice-place K k e on off c h (c .shared))) (map-kept Marked entry-record entry-kept (c .entries))
+    choice-marked : ChoiceTrue 0 text n c → map Marked (choice-records k 0 c) ≡ choice-records k (mark (table-of K t) (c .shared) (choice-id c)) c
+    unfolding marked new-place with-place choice-records documented
+    choice-marked h = cons-same (ap (λ p. documented k p (c .maturity) (c .doc) (flag (c .shared) ∷ []) (word-extent (c .name)) 0 0 (spanned (word-extent (c .base)) ∷ [])) (choice-place h (c .shared))) (map-kept Marked entry-record entry-kept (c .entries))
 
   struct-place : (s : Struct) → StructTrue 0 text n s → (y : StructType)
       → elim (is-unmarked 5 0 (from-top 7 (bits 2 (struct-number y) ∷ bits 1 (s .fabric-scoped) ∷ []))) [ true ↦ mark-after text before 5 (word-extent (s .name)) | false ↦ 0 ] ≡ mark (t .structs) (is-shared y) (struct-id s)
@@ -102,7 +99,7 @@ module _ (text : List ℕ) (n : ℕ) (before : List Record) (t : Tables) (agree 
 
   struct-marked : (s : Struct) → StructTrue 0 text n s → map Marked (struct-records 0 s) ≡ struct-records (mark (t .structs) (is-shared (s .struct-type)) (struct-id s)) s
   unfolding marked new-place with-place struct-records documented
-  struct-marked s h = both (ap (λ p. documented 5 p (s .maturity) (s .doc) (bits 2 (struct-number (s .struct-type)) ∷ bits 1 (s .fabric-scoped) ∷ []) (word-extent (s .name)) 0 0 (value (response-of (s .struct-type)) ∷ [])) (struct-place s h (s .struct-type))) (map-kept Marked field-record field-kept (s .fields))
+  struct-marked s h = cons-same (ap (λ p. documented 5 p (s .maturity) (s .doc) (bits 2 (struct-number (s .struct-type)) ∷ bits 1 (s .fabric-scoped) ∷ []) (word-extent (s .name)) 0 0 (value (response-of (s .struct-type)) ∷ [])) (struct-place s h (s .struct-type))) (map-kept Marked field-record field-kept (s .fields))
 
   member-marked : (m : Member) → MemberTrue 0 text n m → map Marked (member-records (λ x. 0) m) ≡ member-records (place-by t) m
   unfolding member-records place-by table-of number-of flags-shared from-top packed width flag bit
@@ -111,17 +108,17 @@ module _ (text : List ℕ) (n : ℕ) (before : List Record) (t : Tables) (agree 
   member-marked (enum c) h = choice-marked enums 2 refl refl refl c h
   member-marked (struct s) h = struct-marked s h
   member-marked (attribute a) h = attribute-kept a
-  member-marked (command c) h = both (command-kept c) refl
+  member-marked (command c) h = cons-same (command-kept c) refl
   member-marked (event e) h = event-kept e
 
   -- a type at the top keeps its mark
   choice-kept : (k : ℕ) (c : Choice) → map Marked (choice-records k 1 c) ≡ choice-records k 1 c
   unfolding marked new-place is-unmarked with-place choice-records documented
-  choice-kept k c = both refl (map-kept Marked entry-record entry-kept (c .entries))
+  choice-kept k c = cons-same refl (map-kept Marked entry-record entry-kept (c .entries))
 
   struct-kept : (s : Struct) → map Marked (struct-records 1 s) ≡ struct-records 1 s
   unfolding marked new-place is-unmarked with-place struct-records documented
-  struct-kept s = both refl (map-kept Marked field-record field-kept (s .fields))
+  struct-kept s = cons-same refl (map-kept Marked field-record field-kept (s .fields))
 
   parts-kept : (l : List Part) → map Marked (each part-records l) ≡ each part-records l
   unfolding each
@@ -130,8 +127,8 @@ module _ (text : List ℕ) (n : ℕ) (before : List Record) (t : Tables) (agree 
 
   item-marked : (i : Item) → ItemTrue 0 text n i → map Marked (unhoisted-item i) ≡ item-records 1 (place-by t) i
   unfolding item-records cluster-records endpoint-records documented plain marked new-place is-unmarked flags-shared with-place
-  item-marked (cluster-item c) (true-cluster d m w z l) = both refl (each-mapped (MemberTrue 0 text n) Marked (member-records (λ x. 0)) (member-records (place-by t)) member-marked (c .members) l)
-  item-marked (endpoint-item e) h = both refl (parts-kept (e .parts))
+  item-marked (cluster-item c) (true-cluster d m w z l) = cons-same refl (each-mapped (MemberTrue 0 text n) Marked (member-records (λ x. 0)) (member-records (place-by t)) member-marked (c .members) l)
+  item-marked (endpoint-item e) h = cons-same refl (parts-kept (e .parts))
   item-marked (enum-item c) h = choice-kept 2 c
   item-marked (bitmap-item c) h = choice-kept 3 c
   item-marked (struct-item s) h = struct-kept s

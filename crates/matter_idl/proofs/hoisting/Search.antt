@@ -34,7 +34,7 @@ or-swap true false = refl
 or-swap false true = refl
 or-swap false false = refl
 
-and-nil : (a : Bool) → (a && false) ≡ false
+pub and-nil : (a : Bool) → (a && false) ≡ false
 and-nil true = refl
 and-nil false = refl
 

@@ -1,5 +1,5 @@
 -- A walk over records in a buffer: each one's first word, and the way to the next.
-use Prim.Native.Nat.{ℕ, zero, suc, _+_, _-_, _*_, _^_, _/_, _%_, _≤_, _<_}
+use Prim.Native.Nat.{ℕ, _+_, _-_, _*_, _^_, _/_, _%_, _≤_, _<_}
 use mathlib.Core.Path.{_≡_, refl, sym, _∙_, ap}
 use mathlib.Core.List.{List, [], _∷_, _++_, map, append-assoc}
 use native.Mathlib.Omega.{arith}
@@ -9,7 +9,7 @@ use Rattle.items.specs.records.{Extent, absent, at, Record}
 use Rattle.items.specs.layout.{from-top, offset, size, layout-20, further-word, record-words, catalogue-words, words-of-kind, big-endian, from-big-endian, words-bytes, catalogue-bytes, word-count, text-limit}
 use Rattle.items.proofs.Truth.{All}
 use Rattle.items.proofs.Packing.{word-back}
-use Rattle.items.proofs.RecordWords.{each-one, big-endian-length, words-bytes-append, words-bytes-one, catalogue-bytes-append, catalogue-bytes-length, catalogue-bytes-none, word-count-append, word-count-none}
+use Rattle.items.proofs.RecordWords.{each-one, big-endian-length, words-bytes-append, words-bytes-one, catalogue-bytes-append, catalogue-bytes-length, word-count-append, word-count-none}
 use Rattle.items.proofs.RecordsFit.{ExtentIn, RecordFits, words-count, words-fit, layout-20-fits, first-word, words-split, kind-back, place-back, flags-back, name-offset-back, name-size-back}
 use Rattle.matter_idl.specs.inner.hoisting.{NameIn}
 
@@ -112,6 +112,13 @@ pub record Standing (Q : List Record → Type 0) (n : ℕ) (front tail out : Lis
   pub rest : List Record
   pub walk : Walk n front (this ∷ rest) tail out at end
   pub holds : Q (this ∷ rest)
+
+module _ {Q : List Record → Type 0} {n : ℕ} {front tail out : List ℕ} {at end : ℕ} (s : Standing Q n front tail out at end) where
+  pub stands-room : at + 8 ≤ length out
+  stands-room = omega (arith, walk-fits (s .walk) .0, walk-fits (s .walk) .1, words-some (s .this .kind))
+
+  pub stands-inside : {k : ℕ} → k ≡ words-of-kind (s .this .kind) → (at < at + 8 * k) × (at + 8 * k ≤ end)
+  stands-inside z = (omega (arith, z, words-some (s .this .kind)), omega (arith, z, walk-fits (s .walk) .0))
 
 module _ {n : ℕ} {front tail out : List ℕ} {at end : ℕ} where
   pub walk-stands : (Q : List Record → Type 0) (l : List Record) → Walk n front l tail out at end → at < end → Q l → Standing Q n front tail out at end

@@ -1,14 +1,14 @@
 -- What the second pass wrote of an item becomes what hoisting defines; the places of types change no count.
-use Prim.Native.Nat.{ℕ, zero, suc, _+_, _*_, _≤_}
+use Prim.Native.Nat.{ℕ, suc, _+_, _*_, _≤_}
 use mathlib.Core.Path.{_≡_, refl, sym, _∙_, ap}
 use mathlib.Core.List.{List, [], _∷_, _++_}
 use native.Mathlib.Omega.{arith}
-use lib.ListN.{length, take, drop, length-append}
+use lib.ListN.{length, drop}
 use Rattle.items.specs.entries.{Choice}
 use Rattle.items.specs.structs.{Struct}
 use Rattle.items.specs.clusters.{Member, revision, bitmap, enum, struct, attribute, command, event, Cluster}
 use Rattle.items.specs.items.{Item, cluster-item, endpoint-item, enum-item, bitmap-item, struct-item, blank-item}
-use Rattle.items.specs.records.{Record, documented, choice-records, struct-records, each, member-records, cluster-records, item-records}
+use Rattle.items.specs.records.{documented, choice-records, struct-records, each, member-records, cluster-records, item-records}
 use Rattle.items.specs.layout.{layout-20, record-words, catalogue-words, catalogue-bytes, word-count}
 use Rattle.items.specs.buffers.{put}
 use Rattle.items.specs.answers.items.{unhoisted-item}

@@ -1,10 +1,10 @@
 use borrow.Author.Needs.{needs}
 use Rattle.matter_idl.proofs.hoisting.mark_record.Statement.{statement}
 use Rattle.matter_idl.proofs.hoisting.mark_record.Tie as tie
-use borrow.Author.Tests.{not-true, not-false}
 use mathlib.Core.Path.{refl, sym, _∙_}
 use mathlib.Core.Bool.{true, false}
 use native.Mathlib.Omega.{arith}
+use borrow.Author.Tests.{not-true, not-false}
 use Rattle.matter_idl.proofs.hoisting.Walk.{name-in}
 use Rattle.matter_idl.proofs.hoisting.Marking.{mark-first, mark-room, mark-kept, mark-fits, mark-set}
 
@@ -14,8 +14,8 @@ is-unmarked-requires c κs = tt
 returns : tie.Need-returns
 returns c = λ m. mark-kept _ (c .before .before .before .before .pre .0) m (c .before .is-unmarked .ensures) (not-true _ (c .if1 .taken))
 
-cast-is-held : tie.Need-cast-is-held
-cast-is-held c = search needs
+cast-kind : tie.Need-cast-kind
+cast-kind c = search needs
 
 is-held-requires : tie.Need-is-held-requires
 is-held-requires c κs = (c .before .before .before .before .before .pre .0, (c .before .before .before .before .before .pre .1 .before, name-in (c .before .before .before .before .before .pre .0) (mark-first _ (c .before .before .before .before .before .pre .0) (c .before .before .before .before .before .pre .1))))
@@ -50,7 +50,7 @@ mark-record-spec =
     (tie.spec
     is-unmarked-requires
     returns
-    cast-is-held
+    cast-kind
     is-held-requires
     add-put-word
     put-word-requires
