@@ -1,10 +1,10 @@
 use borrow.Author.Needs.{needs}
 use Rattle.matter_idl.proofs.hoisting.mark_record.Statement.{statement}
 use Rattle.matter_idl.proofs.hoisting.mark_record.Tie as tie
+use borrow.Author.Tests.{not-true, not-false}
 use mathlib.Core.Path.{refl, sym, _∙_}
 use mathlib.Core.Bool.{true, false}
 use native.Mathlib.Omega.{arith}
-use borrow.Author.Tests.{not-true, not-false}
 use Rattle.matter_idl.proofs.hoisting.Walk.{name-in}
 use Rattle.matter_idl.proofs.hoisting.Marking.{mark-first, mark-room, mark-kept, mark-fits, mark-set}
 
