@@ -4,4 +4,3 @@ pub mod Walk
 pub mod Marks
 pub mod Laws
 pub mod Marking
-pub mod Written
