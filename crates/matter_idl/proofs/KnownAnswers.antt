@@ -22,7 +22,7 @@ use lib.Dec.{leb}
 use Rattle.lexing.specs.outcomes.{Outcome, refused, written, fitted}
 use Rattle.lexing.specs.utf8.{has, table, following, awaiting, begun, step, run, fault, utf8-error}
 use Rattle.matter_idl.specs.hoisting.{no-ids, held, mark, join, choice-id, struct-id, is-shared, place-by, after-member, after-members, after-item, hoisted}
-use Rattle.matter_idl.specs.reading.{unless-ended, itemsWithin, all-items, by-reply, by-utf8, verdict, into-catalogue, reading}
+use Rattle.matter_idl.specs.reading.{unless-ended, itemsWithin, all-items, by-reply, by-utf8, verdict-at, verdict, into-catalogue, reading}
 
 -- the catalogue's words
 unfoldable pub words : List ℕ → Outcome
@@ -52,5 +52,5 @@ cases =
     []
 
 pub known-answers : map (λ c. reading layout-20 (ascii (c .0)) 65536) cases ≡ map (λ c. c .1) cases
-unfolding words cases no-ids held mark join choice-id struct-id is-shared place-by after-member after-members after-item hoisted unless-ended itemsWithin all-items by-reply by-utf8 verdict into-catalogue reading has table following awaiting begun step run fault utf8-error fitted ret _>>=_ _>>_ catch opt further _or_ prepend manyWithin many0 iterWithin iter keep position failAt stopAt pick within isLetter isDigit isHex isWord isSpace inLine lower takeWhile dropWhile digit number line-comment one-more until-close comment-kind closed block-comment multispace1 whitespace-group after one-blank whitespace0 whitespace1 offsetOf bytesOf parse-id isKeyword keyword any-keyword tag fitting hex-integer decimal-integer positive-integer largest in-range after-sign signed-integer string-rest span-from string-with annotation-escape quoted-string default-escape default-string next-word set-step keywords-set same-bytes contains bit flags sets set-of set-flags present enclosed where-missing braces api-maturity constant-annotation blank-annotation annotations-in-brackets constant-annotations-list constant-entry blank-entry constant-entries constant-entries-list shared-before choice-head choice-after-doc-maturity parse-enum-after-doc-maturity parse-bitmap-after-doc-maturity max-length list-marker parse-field parse-struct-field closed-field fields-run struct-fields response-code struct-kind struct-type-of struct-head parse-struct-after-doc-maturity access-privilege or-else event-priority access-to event-qualities event-head parse-event-after-doc-maturity command-head command-types parse-command-after-doc-maturity access-entry comma separated-list0 access-list granted-by default-privileges listed attribute-access parse-attribute-after-doc-maturity mapped parse-revision member-tries parse-cluster-member cluster-members side cluster-head cluster-after-doc-maturity parse-cluster intercept deep-step deeper deep-run deep-place deep-braces name-behind device-version device-type value-tries default-attribute-value attribute-handling-type attribute-instantiation named-after instance-tries instantiation-head cluster-instantiation part-tries endpoint-head endpoint with-doc-maturity item moved-extent moved-further moved word-extent optional-extent doc-extent doc-bit flag plain documented entry-record choice-records field-record struct-number response-of struct-records attribute-records command-record event-records each last-revision member-records cluster-records default-number twos-complement default-word instance-record part-records endpoint-records item-records packed width from-top offset size layout-20 further-word record-words big-endian words-bytes catalogue-words catalogue-bytes
+unfolding words cases no-ids held mark join choice-id struct-id is-shared place-by after-member after-members after-item hoisted unless-ended itemsWithin all-items by-reply by-utf8 verdict-at verdict into-catalogue reading has table following awaiting begun step run fault utf8-error fitted ret _>>=_ _>>_ catch opt further _or_ prepend manyWithin many0 iterWithin iter keep position failAt stopAt pick within isLetter isDigit isHex isWord isSpace inLine lower takeWhile dropWhile digit number line-comment one-more until-close comment-kind closed block-comment multispace1 whitespace-group after one-blank whitespace0 whitespace1 offsetOf bytesOf parse-id isKeyword keyword any-keyword tag fitting hex-integer decimal-integer positive-integer largest in-range after-sign signed-integer string-rest span-from string-with annotation-escape quoted-string default-escape default-string next-word set-step keywords-set same-bytes contains bit flags sets set-of set-flags present enclosed where-missing braces api-maturity constant-annotation blank-annotation annotations-in-brackets constant-annotations-list constant-entry blank-entry constant-entries constant-entries-list shared-before choice-head choice-after-doc-maturity parse-enum-after-doc-maturity parse-bitmap-after-doc-maturity max-length list-marker parse-field parse-struct-field closed-field fields-run struct-fields response-code struct-kind struct-type-of struct-head parse-struct-after-doc-maturity access-privilege or-else event-priority access-to event-qualities event-head parse-event-after-doc-maturity command-head command-types parse-command-after-doc-maturity access-entry comma separated-list0 access-list granted-by default-privileges listed attribute-access parse-attribute-after-doc-maturity mapped parse-revision member-tries parse-cluster-member cluster-members side cluster-head cluster-after-doc-maturity parse-cluster intercept deep-step deeper deep-run deep-place deep-braces name-behind device-version device-type value-tries default-attribute-value attribute-handling-type attribute-instantiation named-after instance-tries instantiation-head cluster-instantiation part-tries endpoint-head endpoint with-doc-maturity item moved-extent moved-further moved word-extent optional-extent doc-extent doc-bit flag plain documented entry-record choice-records field-record struct-number response-of struct-records attribute-records command-record event-records each last-revision member-records cluster-records default-number twos-complement default-word instance-record part-records endpoint-records item-records packed width from-top offset size layout-20 further-word record-words big-endian words-bytes catalogue-words catalogue-bytes
 known-answers = refl

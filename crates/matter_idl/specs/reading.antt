@@ -41,9 +41,13 @@ unfoldable pub by-utf8 : Option ℕ → Verdict → Verdict
 by-utf8 none v = v
 by-utf8 (some p) v = turned-down 2 p
 
--- 1, 2, then whichever of 3 to 6 is met first
+-- 2, then whichever of 3 to 6 is met first, of bytes from the offset b on
+unfoldable pub verdict-at : ℕ → List ℕ → Verdict
+verdict-at b u = by-utf8 (utf8-error b u) (by-reply (all-items b u))
+
+-- 1 before them
 unfoldable pub verdict : List ℕ → Verdict
-verdict u = elim (leb (length u) text-limit) [ true ↦ by-utf8 (utf8-error 0 u) (by-reply (all-items 0 u)) | false ↦ turned-down 1 text-limit ]
+verdict u = elim (leb (length u) text-limit) [ true ↦ verdict-at 0 u | false ↦ turned-down 1 text-limit ]
 
 -- then 7
 unfoldable pub into-catalogue : Layout → ℕ → Verdict → Outcome

@@ -30,7 +30,7 @@ use Rattle.items.proofs.RefusedPlaces.{RefusedIn, Placed, placed-ret, placed-bi
 use Rattle.items.proofs.counts.Laws.{count-value, count-none}
 use Rattle.items.proofs.items.Laws.{item-walks}
 use Rattle.matter_idl.specs.hoisting.{no-ids, hoisted}
-use Rattle.matter_idl.specs.reading.{unless-ended, itemsWithin, all-items, Verdict as VerdictOf, accepted, turned-down, by-reply, by-utf8, verdict}
+use Rattle.matter_idl.specs.reading.{unless-ended, itemsWithin, all-items, Verdict as VerdictOf, accepted, turned-down, by-reply, by-utf8, verdict-at, verdict}
 use Rattle.matter_idl.specs.answers.reading.{refusedBy, AcceptedTo, RefusedTo, VerdictTo}
 use Rattle.matter_idl.specs.declared.reading.Verdict.{Verdict}
 use Rattle.matter_idl.specs.declared.reading.Verdict.the-variants.{Accepted, Refused}
@@ -71,7 +71,7 @@ verdict-long u e = record { is = rw (e, verdict) refl; number = omega arith; val
 
 module _ (u : List ℕ) (e : leb (length u) text-limit ≡ true) (s : length u ≤ text-limit) where
   short-is : verdict u ≡ by-utf8 (utf8-error 0 u) (by-reply (all-items 0 u))
-  unfolding verdict
+  unfolding verdict verdict-at
   short-is = rw (e, verdict) refl
 
   -- one that is not UTF-8

@@ -1,0 +1,74 @@
+-- The survey: every section of a text is read alone, with offsets of the whole text.
+use Prim.Native.Nat.{ℕ, _+_}
+use mathlib.Core.Bool.{true, false}
+use mathlib.Core.List.{List, [], _∷_, _++_, map}
+use lib.Dec.{leb}
+use lib.ListN.{length}
+use Rattle.lexing.specs.outcomes.{Outcome, refused, written}
+use Rattle.items.specs.items.{Item}
+use Rattle.items.specs.records.{Bits, bits, each}
+use Rattle.items.specs.layout.{Layout, packed, words-bytes, catalogue-bytes, text-limit}
+use Rattle.matter_idl.specs.hoisting.{no-ids, hoisted}
+use Rattle.matter_idl.specs.reading.{Verdict, accepted, turned-down, verdict-at}
+use Rattle.matter_idl.specs.sections.{sections}
+
+-- a refused section has no items
+unfoldable pub items-of : Verdict → List Item
+items-of (accepted l) = l
+items-of (turned-down k v) = []
+
+-- the accepted sections' items in text order; the first section starts at b
+unfoldable pub accepted-items : ℕ → List (List ℕ) → List Item
+accepted-items b [] = []
+accepted-items b (s ∷ ss) = items-of (verdict-at b s) ++ accepted-items (b + length s) ss
+
+-- document 01's report says of a section its start and length, and of a refused one its number and place too
+pub data Entry : Type 0 where
+  sound : (start size : ℕ) → Entry
+  spoilt : (start size number place : ℕ) → Entry
+
+unfoldable pub entry : (start size : ℕ) → Verdict → Entry
+entry b n (accepted l) = sound b n
+entry b n (turned-down k p) = spoilt b n k p
+
+unfoldable pub entries : ℕ → List (List ℕ) → List Entry
+entries b [] = []
+entries b (s ∷ ss) = entry b (length s) (verdict-at b s) ∷ entries (b + length s) ss
+
+-- how an entry is laid out in words
+abbrev pub ReportLayout : Type 0
+ReportLayout = Entry → List (List Bits)
+
+-- document 01's: start 20, length 20, number 4 (0 accepted), place 20 (0 if accepted)
+unfoldable pub report-20 : ReportLayout
+report-20 (sound b n) = (bits 20 b ∷ bits 20 n ∷ bits 4 0 ∷ bits 20 0 ∷ []) ∷ []
+report-20 (spoilt b n k p) = (bits 20 b ∷ bits 20 n ∷ bits 4 k ∷ bits 20 p ∷ []) ∷ []
+
+unfoldable pub entry-words : ReportLayout → Entry → List ℕ
+entry-words R e = map (packed 0) (R e)
+
+unfoldable pub report-bytes : ReportLayout → List Entry → List ℕ
+report-bytes R l = words-bytes (each (entry-words R) l)
+
+-- refused by a number with the value that goes with it, or the bytes of both buffers
+pub data Surveyed : Type 0 where
+  not-surveyed : (number value : ℕ) → Surveyed
+  surveyed : (catalogue report : List ℕ) → Surveyed
+
+-- what it comes to for each buffer; the result speaks of the catalogue
+unfoldable pub for-catalogue : Surveyed → Outcome
+for-catalogue (not-surveyed k v) = refused k v
+for-catalogue (surveyed c r) = written c
+
+unfoldable pub for-report : Surveyed → Outcome
+for-report (not-surveyed k v) = refused k v
+for-report (surveyed c r) = written r
+
+-- 8, then 7, for a catalogue of n bytes and a report of m
+unfoldable pub into-buffers : (n m : ℕ) → (catalogue report : List ℕ) → Surveyed
+into-buffers n m c r = elim (leb (length r) m) [ true ↦ elim (leb (length c) n) [ true ↦ surveyed c r | false ↦ not-surveyed 7 (length c) ] | false ↦ not-surveyed 8 (length r) ]
+
+-- 1, then 8, then 7; what sections are refused by goes into the report
+unfoldable pub survey : Layout → ReportLayout → List ℕ → (n m : ℕ) → Surveyed
+survey L R u n m =
+    elim (leb (length u) text-limit) [ true ↦ into-buffers n m (catalogue-bytes L (hoisted no-ids (accepted-items 0 (sections u)))) (report-bytes R (entries 0 (sections u))) | false ↦ not-surveyed 1 text-limit ]
