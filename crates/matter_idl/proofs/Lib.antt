@@ -6,3 +6,5 @@ pub mod KnownAnswers
 pub mod AllItems
 -- the places of records
 pub mod Places
+-- cutting a text into sections
+pub mod Sections

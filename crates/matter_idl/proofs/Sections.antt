@@ -1,0 +1,93 @@
+-- Cutting a text: the sections make up the text, and all but the last end at a cut.
+use Prim.Native.Nat.{ℕ}
+use mathlib.Core.Path.{_≡_, refl, sym, _∙_, ap}
+use mathlib.Core.Bool.{Bool, true, false, _&&_, false≢true}
+use mathlib.Core.List.{List, [], _∷_, _++_, append-assoc}
+use lib.Dec.{eqb}
+use Rattle.lexing.proofs.Tests.{eq-of, and-left, and-right}
+use Rattle.lexing.proofs.Runs.{Cut}
+use Rattle.matter_idl.specs.sections.{line-feed, closing-brace, cut-after, before-first, cut-from, sections, joined}
+
+pub joined-append : (xs ys : List (List ℕ)) → joined (xs ++ ys) ≡ joined xs ++ joined ys
+unfolding joined
+joined-append [] ys = refl
+joined-append (s ∷ xs) ys = rw (joined-append xs ys) (sym (append-assoc s (joined xs) (joined ys)))
+
+-- the sections make up the text
+joined-first : (x : ℕ) (ss : List (List ℕ)) → joined (before-first x ss) ≡ x ∷ joined ss
+unfolding before-first joined
+joined-first x [] = refl
+joined-first x (s ∷ ss) = refl
+
+joined-cut : (p : Bool) (u : List ℕ) → joined (cut-from p u) ≡ u
+unfolding cut-from joined
+joined-cut p [] = refl
+joined-cut p (x ∷ u) = go (cut-after p x) refl (λ q. joined-cut q u)
+  where
+    go : (t : Bool) → cut-after p x ≡ t → ((q : Bool) → joined (cut-from q u) ≡ u) → joined (cut-from p (x ∷ u)) ≡ x ∷ u
+    go true e ih = rw (e, cut-from) (ap (λ l. x ∷ l) (ih false))
+    go false e ih = rw (e, cut-from) (joined-first x (cut-from (eqb x line-feed) u) ∙ ap (λ l. x ∷ l) (ih (eqb x line-feed)))
+
+pub sections-joined : (u : List ℕ) → joined (sections u) ≡ u
+unfolding sections
+sections-joined u = joined-cut false u
+
+-- bytes that end at a cut; p says of the byte before them whether it is LF
+abbrev CutFrom : Bool → List ℕ → Type 0
+CutFrom p [] = ⊥
+CutFrom p (x ∷ []) = (p ≡ true) × (x ≡ closing-brace)
+CutFrom p (x ∷ y ∷ u) = CutFrom (eqb x line-feed) (y ∷ u)
+
+-- there is a section, and all but the last end at a cut
+abbrev CutsFrom : Bool → List (List ℕ) → Type 0
+CutsFrom p [] = ⊥
+CutsFrom p (s ∷ []) = Unit {0}
+CutsFrom p (s ∷ t ∷ ss) = CutFrom p s × CutsFrom false (t ∷ ss)
+
+cuts-longer : (p : Bool) (x : ℕ) (ss : List (List ℕ)) → CutsFrom (eqb x line-feed) ss → CutsFrom p (before-first x ss)
+unfolding before-first
+cuts-longer p x [] h = absurd h
+cuts-longer p x (s ∷ []) h = tt
+cuts-longer p x ([] ∷ t ∷ ss) h = absurd (h .0)
+cuts-longer p x ((y ∷ s) ∷ t ∷ ss) h = (h .0, h .1)
+
+cuts-more : (p : Bool) (x : ℕ) (ss : List (List ℕ)) → p ≡ true → x ≡ closing-brace → CutsFrom false ss → CutsFrom p ((x ∷ []) ∷ ss)
+cuts-more p x [] e d h = absurd h
+cuts-more p x (s ∷ ss) e d h = ((e, d), h)
+
+cuts-from : (p : Bool) (u : List ℕ) → CutsFrom p (cut-from p u)
+unfolding cut-from
+cuts-from p [] = tt
+cuts-from p (x ∷ u) = go (cut-after p x) refl (λ q. cuts-from q u)
+  where
+    stands : cut-after p x ≡ true → (p && eqb x closing-brace) ≡ true
+    stands e = unfold cut-after in e
+
+    go : (t : Bool) → cut-after p x ≡ t → ((q : Bool) → CutsFrom q (cut-from q u)) → CutsFrom p (cut-from p (x ∷ u))
+    go true e ih = rw (e, cut-from) (cuts-more p x (cut-from false u) (and-left p (eqb x closing-brace) (stands e)) (eq-of x closing-brace (and-right p (eqb x closing-brace) (stands e))) (ih false))
+    go false e ih = rw (e, cut-from) (cuts-longer p x (cut-from (eqb x line-feed) u) (ih (eqb x line-feed)))
+
+-- as the laws of locality say it
+cut-behind : (x : ℕ) (u : List ℕ) → CutFrom (eqb x line-feed) u → Cut (x ∷ u)
+cut-behind x [] c = absurd c
+cut-behind x (y ∷ []) c = (eq-of x line-feed (c .0), c .1)
+cut-behind x (y ∷ z ∷ u) c = cut-behind y (z ∷ u) c
+
+cut-of : (s : List ℕ) → CutFrom false s → Cut s
+cut-of [] c = absurd c
+cut-of (x ∷ []) c = absurd (false≢true (c .0))
+cut-of (x ∷ y ∷ u) c = cut-behind x (y ∷ u) c
+
+abbrev pub Cuts : List (List ℕ) → Type 0
+Cuts [] = ⊥
+Cuts (s ∷ []) = Unit {0}
+Cuts (s ∷ t ∷ ss) = Cut s × Cuts (t ∷ ss)
+
+cuts-of : (ss : List (List ℕ)) → CutsFrom false ss → Cuts ss
+cuts-of [] h = h
+cuts-of (s ∷ []) h = tt
+cuts-of (s ∷ t ∷ ss) h = (cut-of s (h .0), cuts-of (t ∷ ss) (h .1))
+
+pub sections-cut : (u : List ℕ) → Cuts (sections u)
+unfolding sections
+sections-cut u = cuts-of (cut-from false u) (cuts-from false u)
