@@ -8,3 +8,5 @@ pub mod AllItems
 pub mod Places
 -- cutting a text into sections
 pub mod Sections
+-- texts one behind the other
+pub mod Join
