@@ -10,3 +10,5 @@ pub mod Places
 pub mod Sections
 -- texts one behind the other
 pub mod Join
+-- a section alone and where it stands
+pub mod SectionsAlone
