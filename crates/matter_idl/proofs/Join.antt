@@ -121,10 +121,10 @@ joined-reading b u s l c r d e =
     let z : c ≡ b + length u = omega (arith, reads-ends k) in
     rw z at (reads-all (reads-continued s d k))
 
--- what is read in a part is true of the part
-pub reads-true : (s : ℕ) (t : List ℕ) {b e : ℕ} {u v : List ℕ} {l : List Item} → Rest s t b u → Reads e v b u l → All (ItemTrue s t (s + length t)) l
-reads-true s t h none = tt
-reads-true s t h (more {b = b} {u = u} {i = i} q k) =
+-- what is read in a part that ends at `end` or before is true of the part
+pub reads-true : (s : ℕ) (t : List ℕ) (end : ℕ) → s + length t ≤ end → {b e : ℕ} {u v : List ℕ} {l : List Item} → Rest s t b u → Reads e v b u l → All (ItemTrue s t end) l
+reads-true s t end f h none = tt
+reads-true s t end f h (more {b = b} {u = u} {i = i} q k) =
     let p = rw q at (item-walks .onward b u) in
     let g = rest-on i h p in
-    (item-true s t (s + length t) h q (omega (arith, g .size)), reads-true s t g k)
+    (item-true s t end h q (omega (arith, g .size, f)), reads-true s t end f g k)

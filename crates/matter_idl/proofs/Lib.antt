@@ -12,3 +12,5 @@ pub mod Sections
 pub mod Join
 -- a section alone and where it stands
 pub mod SectionsAlone
+-- a text and its sections
+pub mod Whole

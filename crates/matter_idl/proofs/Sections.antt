@@ -79,12 +79,16 @@ cut-of (x ∷ []) c = absurd (false≢true (c .0))
 cut-of (x ∷ y ∷ u) c = cut-behind x (y ∷ u) c
 
 abbrev pub Cuts : List (List ℕ) → Type 0
-Cuts [] = ⊥
+Cuts [] = Unit {0}
 Cuts (s ∷ []) = Unit {0}
 Cuts (s ∷ t ∷ ss) = Cut s × Cuts (t ∷ ss)
 
+pub cuts-tail : (s : List ℕ) (ss : List (List ℕ)) → Cuts (s ∷ ss) → Cuts ss
+cuts-tail s [] h = tt
+cuts-tail s (t ∷ ss) h = h .1
+
 cuts-of : (ss : List (List ℕ)) → CutsFrom false ss → Cuts ss
-cuts-of [] h = h
+cuts-of [] h = tt
 cuts-of (s ∷ []) h = tt
 cuts-of (s ∷ t ∷ ss) h = (cut-of s (h .0), cuts-of (t ∷ ss) (h .1))
 
