@@ -14,3 +14,5 @@ pub mod Join
 pub mod SectionsAlone
 -- a text and its sections
 pub mod Whole
+-- the records that the survey hands out
+pub mod HandedOut
