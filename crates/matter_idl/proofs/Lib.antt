@@ -16,3 +16,7 @@ pub mod SectionsAlone
 pub mod Whole
 -- the records that the survey hands out
 pub mod HandedOut
+-- a section replaced
+pub mod Replacing
+-- demand 3
+pub mod Demand3
