@@ -92,8 +92,21 @@ demand-3 L R u n m h k =
       replaced = λ v before s behind r middle q. replacing L R q;
     }
 
--- a report of document 01's layout has 8 bytes a section
-one-word : (e : Entry) → length (entry-words report-20 e) ≡ 1
-unfolding entry-words report-20
-one-word (sound b n) = refl
-one-word (spoilt b n k p) = refl
+-- Document 01's layouts: a report has 8 bytes a section.
+words-20 : (l : List Entry) → length (each (entry-words report-20) l) ≡ length l
+unfolding each entry-words report-20
+words-20 [] = refl
+words-20 (sound b n ∷ l) = ap suc (words-20 l)
+words-20 (spoilt b n k p ∷ l) = ap suc (words-20 l)
+
+entries-count : (b : ℕ) (ss : List (List ℕ)) → length (entries-alone b ss) ≡ length ss
+unfolding entries-alone
+entries-count b [] = refl
+entries-count b (s ∷ ss) = ap suc (entries-count (b + length s) ss)
+
+pub report-length : (u : List ℕ) → length (report-for report-20 u) ≡ 8 * length (sections u)
+unfolding report-for report-bytes
+report-length u = words-bytes-length (each (entry-words report-20) (entries-alone 0 (sections u))) ∙ ap (λ n. 8 * n) (words-20 (entries-alone 0 (sections u)) ∙ entries-count 0 (sections u))
+
+pub demand-3-now : Demand3Now
+demand-3-now u n m h k j = demand-3 layout-20 report-20 u n m h (record { catalogue = k; report = rw (report-length u) j })

@@ -20,3 +20,5 @@ pub mod HandedOut
 pub mod Replacing
 -- demand 3
 pub mod Demand3
+-- what the survey writes fits its bits
+pub mod ReportFits

@@ -25,7 +25,7 @@ use Rattle.items.specs.answers.{CountTo, countLost}
 use Rattle.items.specs.answers.items.{unhoisted-item}
 use Rattle.items.specs.declared.counts.Count.{Count}
 use Rattle.items.specs.declared.counts.Count.the-variants.{Words, NoCount}
-use Rattle.items.proofs.Onward.{onward-ret, onward-bind, rest-whole}
+use Rattle.items.proofs.Onward.{onward-ret, onward-bind}
 use Rattle.items.proofs.RefusedPlaces.{RefusedIn, Placed, placed-ret, placed-bind, item-in}
 use Rattle.items.proofs.counts.Laws.{count-value, count-none}
 use Rattle.items.proofs.items.Laws.{item-walks}
@@ -50,19 +50,19 @@ all-on : Onward all-items
 unfolding all-items
 all-on = record { onward = λ b u. within-on (length u) .onward b u }
 
-module _ (t : List ℕ) where
-  within-placed : (n : ℕ) → Placed 0 t (itemsWithin n)
+module _ (s : ℕ) (t : List ℕ) where
+  within-placed : (n : ℕ) → Placed s t (itemsWithin n)
   unfolding itemsWithin unless-ended
-  within-placed zero = placed-ret 0 t []
+  within-placed zero = placed-ret s t []
   within-placed (suc n) = record { places = λ b u h. go (within-placed n) u b h }
     where
-      go : Placed 0 t (itemsWithin n) → (u : List ℕ) (b : ℕ) → Rest 0 t b u → RefusedIn 0 t (itemsWithin (suc n) b u)
+      go : Placed s t (itemsWithin n) → (u : List ℕ) (b : ℕ) → Rest s t b u → RefusedIn s t (itemsWithin (suc n) b u)
       go w [] b h = tt
-      go w (x ∷ v) b h = placed-bind 0 t item-walks (item-in 0 t) (λ i _. placed-bind 0 t (within-on n) w (λ l _. placed-ret 0 t (i ∷ l))) .places b (x ∷ v) h
+      go w (x ∷ v) b h = placed-bind s t item-walks (item-in s t) (λ i _. placed-bind s t (within-on n) w (λ l _. placed-ret s t (i ∷ l))) .places b (x ∷ v) h
 
-  all-refused : RefusedIn 0 t (all-items 0 t)
+  pub all-refused : RefusedIn s t (all-items s t)
   unfolding all-items
-  all-refused = within-placed (length t) .places 0 t (rest-whole t 0 (omega arith))
+  all-refused = within-placed (length t) .places s t (rest-self s t)
 
 -- a text that is too long
 pub verdict-long : (u : List ℕ) → leb (length u) text-limit ≡ false → RefusedTo 1 text-limit u
@@ -88,8 +88,8 @@ module _ (u : List ℕ) (e : leb (length u) text-limit ≡ true) (s : length u �
 
     lost-fits : (l : Lost) → lostReply l ≡ all-items 0 u → VerdictTo (refusedBy l) u
     unfolding by-reply
-    lost-fits (Fail p) z = let k = rw (← z) at (all-refused u) in record { is = read-is ∙ ap by-reply (sym z); number = omega arith; value = omega (arith, k .before, s) }
-    lost-fits (Stop n p) z = let k = rw (← z) at (all-refused u) in record { is = read-is ∙ ap by-reply (sym z); number = omega (arith, k .2); value = omega (arith, k .0 .before, s) }
+    lost-fits (Fail p) z = let k = rw (← z) at (all-refused 0 u) in record { is = read-is ∙ ap by-reply (sym z); number = omega arith; value = omega (arith, k .before, s) }
+    lost-fits (Stop n p) z = let k = rw (← z) at (all-refused 0 u) in record { is = read-is ∙ ap by-reply (sym z); number = omega (arith, k .2); value = omega (arith, k .0 .before, s) }
 
     pub verdict-lost : (r : Count) (l l' : Lost) → CountTo (each unhoisted-item) all-items r 0 u → r ≡ NoCount l → l' ≡ countLost r → (v : Verdict) → v ≡ refusedBy l' → VerdictTo v u
     verdict-lost r l l' c x y v w = subst (λ (o : Verdict). VerdictTo o u) (sym w) (lost-fits l' (count-none y x 0 u c))
