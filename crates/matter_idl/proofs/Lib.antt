@@ -22,3 +22,4 @@ pub mod Replacing
 pub mod Demand3
 -- what the survey writes fits its bits
 pub mod ReportFits
+pub mod Demand3Examples

@@ -14,7 +14,7 @@ use Rattle.lexing.proofs.utf8.Laws.{utf8-inside}
 use Rattle.items.specs.items.{Item}
 use Rattle.items.specs.records.{each}
 use Rattle.items.specs.layout.{layout-20, packed, width, catalogue-words, text-limit}
-use Rattle.items.proofs.RecordsFit.{WordFits, Word64, word-less, layout-20-fits, catalogue-fits, all-map, all-each}
+use Rattle.items.proofs.RecordsFit.{RecordFits, WordFits, Word64, word-less, layout-20-fits, catalogue-fits, all-map, all-each}
 use Rattle.items.proofs.RefusedPlaces.{RefusedIn}
 use Rattle.items.proofs.Truth.{All}
 use Rattle.matter_idl.specs.hoisting.{no-ids, hoisted}
@@ -61,13 +61,18 @@ module _ (n : ℕ) (limit : n ≤ text-limit) where
   entry-fits (sound b k) h = (record { fit = (omega arith, (omega arith, (lit< tt, (lit< tt, tt)))); full = refl }, tt)
   entry-fits (spoilt b k i p) h = (record { fit = (omega (arith, h .0), (omega (arith, h .0), (omega (arith, h .1), (omega (arith, h .2), tt)))); full = refl }, tt)
 
-  entry-words-fit : (e : Entry) → EntryIn n e → All Word64 (entry-words report-20 e)
-  unfolding entry-words
-  entry-words-fit e h = all-map WordFits Word64 (packed 0) word-less (report-20 e) (entry-fits e h)
+-- no value of the report spills over its bits
+pub report-fits : (u : List ℕ) → length u ≤ text-limit → All WordFits (each report-20 (entries 0 (sections u)))
+report-fits u h = all-each (EntryIn (length u)) WordFits report-20 (entry-fits (length u) h) (entries 0 (sections u)) (survey-entries-in u)
 
-pub report-fits : (u : List ℕ) → length u ≤ text-limit → All Word64 (each (entry-words report-20) (entries 0 (sections u)))
-report-fits u h = all-each (EntryIn (length u)) Word64 (entry-words report-20) (entry-words-fit (length u) h) (entries 0 (sections u)) (survey-entries-in u)
+-- so its words are below 2^64
+pub report-words-fit : (u : List ℕ) → length u ≤ text-limit → All Word64 (each (entry-words report-20) (entries 0 (sections u)))
+unfolding entry-words
+report-words-fit u h = all-each (EntryIn (length u)) Word64 (entry-words report-20) (λ e k. all-map WordFits Word64 (packed 0) word-less (report-20 e) (entry-fits (length u) h e k)) (entries 0 (sections u)) (survey-entries-in u)
 
--- the survey's catalogue
-pub survey-fits : (u : List ℕ) → length u ≤ text-limit → All Word64 (catalogue-words layout-20 (hoisted no-ids (accepted-items 0 (sections u))))
-survey-fits u h = catalogue-fits (layout-20-fits (length u) h) (hoisted no-ids (accepted-items 0 (sections u))) (hoisted-fits u (length u) no-ids (accepted-items 0 (sections u)) (survey-true u))
+-- the records that the survey hands out fit, and their words are below 2^64
+pub survey-fits : (u : List ℕ) → All (RecordFits (length u)) (hoisted no-ids (accepted-items 0 (sections u)))
+survey-fits u = hoisted-fits u (length u) no-ids (accepted-items 0 (sections u)) (survey-true u)
+
+pub survey-words-fit : (u : List ℕ) → length u ≤ text-limit → All Word64 (catalogue-words layout-20 (hoisted no-ids (accepted-items 0 (sections u))))
+survey-words-fit u h = catalogue-fits (layout-20-fits (length u) h) (hoisted no-ids (accepted-items 0 (sections u))) (survey-fits u)
