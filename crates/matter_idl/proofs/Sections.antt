@@ -95,3 +95,50 @@ cuts-of (s ∷ t ∷ ss) h = (cut-of s (h .0), cuts-of (t ∷ ss) (h .1))
 pub sections-cut : (u : List ℕ) → Cuts (sections u)
 unfolding sections
 sections-cut u = cuts-of (cut-from false u) (cuts-from false u)
+
+-- A text that goes on behind sections: they stay, and what follows is cut as it is alone.
+abbrev Some : List (List ℕ) → Type 0
+Some [] = ⊥
+Some (s ∷ ss) = Unit {0}
+
+record First (p : Bool) (x : List ℕ) (ss : List (List ℕ)) : Type 0 where
+  goes-on : (t : List ℕ) → cut-from p (x ++ t) ≡ x ∷ cut-from false t
+  alone : cut-from false (joined ss) ≡ ss
+
+first-longer : (p : Bool) (c : ℕ) (x : List ℕ) (ss : List (List ℕ)) → cut-after p c ≡ false → Some ss → (l : List (List ℕ)) → before-first c l ≡ x ∷ ss → ((z : List ℕ) → l ≡ z ∷ ss → First (eqb c line-feed) z ss) → First p x ss
+unfolding before-first cut-from
+first-longer p c x ss d h [] e ih = let z : ss ≡ [] = cc in absurd (rw z at h)
+first-longer p c x ss d h (z ∷ l) e ih =
+    let k : l ≡ ss = cc in
+    let f = ih z (ap (λ m. z ∷ m) k) in
+    let q : x ≡ c ∷ z = cc in
+    rw q (record { goes-on = λ t. rw (d, cut-from) (ap (before-first c) (f .goes-on t)); alone = f .alone })
+
+first : (p : Bool) (u x : List ℕ) (ss : List (List ℕ)) → Some ss → cut-from p u ≡ x ∷ ss → First p x ss
+unfolding cut-from
+first p [] x ss h e = let z : ss ≡ [] = cc in absurd (rw z at h)
+first p (c ∷ u) x ss h e = go (cut-after p c) refl (λ x. first (eqb c line-feed) u x ss h)
+  where
+    go : (t : Bool) → cut-after p c ≡ t → ((x : List ℕ) → cut-from (eqb c line-feed) u ≡ x ∷ ss → First (eqb c line-feed) x ss) → First p x ss
+    go true d ih =
+        let k : (c ∷ []) ∷ cut-from false u ≡ x ∷ ss = rw (d, cut-from) at e in
+        let q : x ≡ c ∷ [] = cc in
+        let z : cut-from false u ≡ ss = cc in
+        rw q (record { goes-on = λ t. rw (d, cut-from) refl; alone = ap (λ l. cut-from false (joined l)) (sym z) ∙ (ap (cut-from false) (joined-cut false u) ∙ z) })
+    go false d ih = first-longer p c x ss d h (cut-from (eqb c line-feed) u) (rw (d, cut-from) at e) ih
+
+some-behind : (before : List (List ℕ)) (s : List ℕ) (behind : List (List ℕ)) → Some (before ++ (s ∷ behind))
+some-behind [] s behind = tt
+some-behind (x ∷ before) s behind = tt
+
+pub record Continues (before : List (List ℕ)) (s : List ℕ) (behind : List (List ℕ)) : Type 0 where
+  pub goes-on : (t : List ℕ) → sections (joined before ++ t) ≡ before ++ sections t
+  pub alone : sections (joined (s ∷ behind)) ≡ s ∷ behind
+
+pub continues : (u : List ℕ) (before : List (List ℕ)) (s : List ℕ) (behind : List (List ℕ)) → sections u ≡ before ++ (s ∷ behind) → Continues before s behind
+unfolding sections joined
+continues u [] s behind e = record { goes-on = λ t. refl; alone = ap (λ l. cut-from false (joined l)) (sym e) ∙ (ap (cut-from false) (joined-cut false u) ∙ e) }
+continues u (x ∷ before) s behind e =
+    let f = first false u x (before ++ (s ∷ behind)) (some-behind before s behind) e in
+    let c = continues (joined (before ++ (s ∷ behind))) before s behind (f .alone) in
+    record { goes-on = λ t. ap (cut-from false) (append-assoc x (joined before) t) ∙ (f .goes-on (joined before ++ t) ∙ ap (λ l. x ∷ l) (c .goes-on t)); alone = c .alone }
