@@ -17,6 +17,7 @@ use Rattle.matter_idl.specs.sections.{sections}
 use Rattle.matter_idl.specs.survey.{items-of, accepted-items, Entry, sound, spoilt, entries, ReportLayout, report-20, entry-words, report-bytes, Surveyed, surveyed, for-catalogue, into-buffers, survey}
 use Rattle.matter_idl.specs.demand_3.{alone, own-records, own-moved, fed, handed-out, save-places, globals, entries-alone, catalogue-for, report-for, LongEnough, EachAccepted, moved-entry, extent-of, Replacement, Replaced, Demand3, Demand3Over, Demand3Now}
 use Rattle.matter_idl.proofs.HandedOut.{handed-own, handed-places, handed-hoisted, handed-ids}
+use Rattle.matter_idl.proofs.hoisting.Types.{hoisted-globals}
 use Rattle.matter_idl.proofs.Replacing.{moved-by, entries-along, entries-moved, numbers-same, saved-own, saved-along, saved-moved, old-along, new-along}
 use Rattle.matter_idl.proofs.Sections.{sections-joined}
 use Rattle.matter_idl.proofs.SectionsAlone.{each-short, entries-as-alone}
@@ -86,6 +87,7 @@ demand-3 L R u n m h k =
       places = handed-places (sections u);
       nothing = nothing-of;
       global = ap globals (handed-hoisted u h);
+      types = rw (handed-hoisted u h) (hoisted-globals no-ids (accepted-items 0 (sections u)));
       ids = handed-ids u h;
       whole = whole L R u h n (k .catalogue);
       same-bytes = same-bytes L R u h n m k;

@@ -1,17 +1,18 @@
 -- One section is replaced: what the survey says of the others stays, and moves by the change in length.
-use Prim.Native.Nat.{ℕ, _+_}
+use Prim.Native.Nat.{ℕ, _+_, _≤_}
 use mathlib.Core.Path.{_≡_, refl, sym, _∙_, ap}
 use mathlib.Core.List.{List, [], _∷_, _++_, map, map-append, append-nil, append-assoc, append-cancel-left, append-cancel-right}
 use native.Mathlib.Omega.{arith}
 use lib.ListN.{length, length-append}
 use Rattle.items.specs.records.{Extent, absent, at, Further, value, spanned, Record, moved-extent, moved-further, moved}
+use Rattle.items.specs.layout.{text-limit}
 use Rattle.matter_idl.specs.reading.{Verdict, accepted, turned-down, verdict}
 use Rattle.matter_idl.specs.sections.{sections, joined}
 use Rattle.matter_idl.specs.survey.{Entry, sound, spoilt}
 use Rattle.matter_idl.specs.demand_3.{own-records, own-moved, handed-out, save-places, entry-alone, entries-alone, moved-entry, number-of, MovedBy, extent-of, Replacement}
 use Rattle.matter_idl.proofs.HandedOut.{save-moved, handed-own}
 use Rattle.matter_idl.proofs.Places.{save-append}
-use Rattle.matter_idl.proofs.Sections.{joined-append, sections-joined}
+use Rattle.matter_idl.proofs.Sections.{joined-append, sections-joined, Continues, continues}
 
 -- What is said of sections one by one, at their starts.
 pub record Along {A : Type 0} (f : ℕ → List (List ℕ) → List A) : Type 0 where
@@ -143,3 +144,30 @@ module _ {u v : List ℕ} {before : List (List ℕ)} {s : List ℕ} {behind : Li
 
     pub new-along : f 0 (sections v) ≡ f 0 before ++ (f (extent-of before) middle ++ f (extent-of before + length r) behind)
     new-along = ap (f 0) (R .unchanged) ∙ along-three f a before middle behind (length r) middle-extent
+
+-- Which replacements there are. For the last section: any bytes.
+module _ (u r : List ℕ) (before : List (List ℕ)) (s : List ℕ) where
+  pub last-replaced : sections u ≡ before ++ (s ∷ []) → length (joined before ++ (r ++ joined [])) ≤ text-limit → Replacement u (joined before ++ (r ++ joined [])) before s [] r (sections r)
+  unfolding joined
+  last-replaced e h = record { old = e; new = refl; unchanged = rw (append-nil r, append-nil (sections r)) (continues u before s [] e .goes-on r); short = h }
+
+  -- for any other: bytes that are empty or end at a cut, that is, whose last section is empty
+  module _ (t : List ℕ) (behind middle : List (List ℕ)) (e : sections u ≡ before ++ (s ∷ (t ∷ behind))) (c : sections r ≡ middle ++ ([] ∷ [])) where
+    bytes-of : joined middle ≡ r
+    unfolding joined
+    bytes-of = sym (append-nil (joined middle)) ∙ (sym (joined-append middle ([] ∷ [])) ∙ (ap joined (sym c) ∙ sections-joined r))
+
+    behind-alone : sections (joined (t ∷ behind)) ≡ t ∷ behind
+    behind-alone = continues u (before ++ (s ∷ [])) t behind (e ∙ sym (append-assoc before (s ∷ []) (t ∷ behind))) .alone
+
+    middle-found : (z : List ℕ) → sections (r ++ z) ≡ middle ++ sections z
+    middle-found z = ap (λ x. sections (x ++ z)) (sym bytes-of) ∙ continues r middle [] [] c .goes-on z
+
+    pub replaced-by : length (joined before ++ (r ++ joined (t ∷ behind))) ≤ text-limit → Replacement u (joined before ++ (r ++ joined (t ∷ behind))) before s (t ∷ behind) r middle
+    replaced-by h =
+        record {
+          old = e;
+          new = refl;
+          unchanged = continues u before s (t ∷ behind) e .goes-on (r ++ joined (t ∷ behind)) ∙ ap (λ l. before ++ l) (middle-found (joined (t ∷ behind)) ∙ ap (λ l. middle ++ l) behind-alone);
+          short = h;
+        }

@@ -5,3 +5,4 @@ pub mod Marks
 pub mod Laws
 pub mod Marking
 pub mod Moved
+pub mod Types

@@ -2,6 +2,7 @@
 use Prim.Native.Nat.{ℕ, _+_, _*_, _≤_}
 use mathlib.Core.Path.{_≡_}
 use mathlib.Core.Bool.{true, false}
+use mathlib.Core.Logic.{_⊎_}
 use mathlib.Core.List.{List, [], _∷_, _++_, map}
 use lib.Dec.{eqb}
 use lib.ListN.{length}
@@ -9,6 +10,7 @@ use Rattle.lexing.specs.outcomes.{Outcome, refused, written}
 use Rattle.items.specs.items.{Item}
 use Rattle.items.specs.records.{Record, moved, each}
 use Rattle.items.specs.layout.{Layout, layout-20, catalogue-bytes, text-limit}
+use Rattle.items.proofs.Truth.{All}
 use Rattle.matter_idl.specs.hoisting.{Tables, no-ids, held, after-items, hoisted}
 use Rattle.matter_idl.specs.inner.hoisting.{found, with-place}
 use Rattle.matter_idl.specs.reading.{Verdict, accepted, turned-down, verdict, reading}
@@ -54,6 +56,10 @@ handed-out ss = with-places (places-once ss) (own-moved 0 ss)
 -- records, save place marks
 unfoldable pub save-places : List Record → List Record
 save-places l = map (with-place 0) l
+
+-- enum, bitmap, struct
+abbrev pub IsType : Record → Type 0
+IsType r = (r .kind ≡ 2) ⊎ ((r .kind ≡ 3) ⊎ (r .kind ≡ 5))
 
 -- the globals are the types marked 1
 unfoldable pub globals : List Record → List Record
@@ -153,9 +159,10 @@ pub record Demand3 (L : Layout) (R : ReportLayout) (u : List ℕ) (n m : ℕ) : 
   -- "a refused section hands out nothing;" nor does it feed hoisting.
   -- Refused: a survey that hands out the items in front of the place where a section is refused, or keeps their ids.
   pub nothing : (s : List ℕ) (k p : ℕ) → verdict s ≡ turned-down k p → (own-records s ≡ []) × (fed (s ∷ []) ≡ [])
-  -- "the globals are what hoisting gives over the accepted sections": the types that it marks 1 ..
+  -- "the globals are what hoisting gives over the accepted sections": what it marks 1, types and nothing else ..
   -- Refused: a survey that marks types of clusters global by another rule than reading.
   pub global : globals (handed-out (sections u)) ≡ globals (hoisted no-ids (accepted-items 0 (sections u)))
+  pub types : All IsType (globals (handed-out (sections u)))
   -- .. and their ids, which are the names' bytes in the text, are those in hoisting's tables at the end.
   -- Refused: a survey whose globals have offsets at which other bytes stand, or that keeps the ids of a refused section.
   pub ids : GlobalIds u (handed-out (sections u)) (after-items no-ids (fed (sections u)))
