@@ -1,21 +1,18 @@
 -- Demand 3, proved: for all layouts, every text within the limit and all buffers long enough.
 use Prim.Native.Nat.{ℕ, suc, _+_, _*_, _≤_}
 use mathlib.Core.Path.{_≡_, refl, sym, _∙_, ap}
-use mathlib.Core.Bool.{true, false}
-use mathlib.Core.List.{List, [], _∷_, _++_, map}
-use native.Mathlib.Omega.{arith}
-use lib.Dec.{leb}
+use mathlib.Core.List.{List, [], _∷_}
 use lib.ListN.{length}
 use borrow.Author.Tests.{le-leb}
-use Rattle.lexing.specs.outcomes.{Outcome, refused, written, fitted}
-use Rattle.items.specs.records.{Record, moved, each}
-use Rattle.items.specs.layout.{Layout, layout-20, packed, catalogue-bytes, text-limit}
+use Rattle.lexing.specs.outcomes.{written, fitted}
+use Rattle.items.specs.records.{moved, each}
+use Rattle.items.specs.layout.{Layout, layout-20, catalogue-bytes, text-limit}
 use Rattle.items.proofs.RecordWords.{words-bytes-length}
 use Rattle.matter_idl.specs.hoisting.{no-ids, hoisted}
 use Rattle.matter_idl.specs.reading.{Verdict, accepted, turned-down, verdict, into-catalogue, reading}
 use Rattle.matter_idl.specs.sections.{sections}
-use Rattle.matter_idl.specs.survey.{items-of, accepted-items, Entry, sound, spoilt, entries, ReportLayout, report-20, entry-words, report-bytes, Surveyed, surveyed, for-catalogue, into-buffers, survey}
-use Rattle.matter_idl.specs.demand_3.{alone, own-records, own-moved, fed, handed-out, save-places, globals, entries-alone, catalogue-for, report-for, LongEnough, EachAccepted, moved-entry, extent-of, Replacement, Replaced, Demand3, Demand3Over, Demand3Now}
+use Rattle.matter_idl.specs.survey.{items-of, accepted-items, Entry, sound, spoilt, ReportLayout, report-20, entry-words, report-bytes, surveyed, for-catalogue, into-buffers, survey}
+use Rattle.matter_idl.specs.demand_3.{alone, own-records, fed, globals, entries-alone, catalogue-for, report-for, LongEnough, EachAccepted, moved-entry, extent-of, Replacement, Replaced, Demand3Over, Demand3Now}
 use Rattle.matter_idl.proofs.HandedOut.{handed-own, handed-places, handed-hoisted, handed-ids}
 use Rattle.matter_idl.proofs.hoisting.Types.{hoisted-globals}
 use Rattle.matter_idl.proofs.Replacing.{moved-by, entries-along, entries-moved, numbers-same, saved-own, saved-along, saved-moved, old-along, new-along}

@@ -1,12 +1,9 @@
 -- Replacements that demand 3 speaks of, on the text of document 01's case 12: a section changed, taken out, and two put in its place.
 use Prim.Native.Nat.{ℕ}
-use mathlib.Core.Path.{_≡_, refl}
-use mathlib.Core.Bool.{_&&_}
-use mathlib.Core.List.{List, [], _∷_, _++_}
+use mathlib.Core.Path.{refl}
+use mathlib.Core.List.{List, [], _∷_}
 use lib.Dec.{lit≤}
-use lib.ListN.{length}
 use Rattle.lexing.specs.bytes.{ascii}
-use Rattle.items.specs.layout.{text-limit}
 use Rattle.matter_idl.specs.sections.{cut-after, before-first, cut-from, sections, joined}
 use Rattle.matter_idl.specs.demand_3.{Replacement}
 

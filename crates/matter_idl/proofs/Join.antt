@@ -1,19 +1,17 @@
 -- Items that are read one behind the other. A text that ends at a cut and is accepted is read so whatever stands behind it.
 use Prim.Native.Nat.{ℕ, zero, suc, _+_, _≤_, _<_}
-use mathlib.Core.Path.{_≡_, refl, sym, _∙_, ap, subst}
+use mathlib.Core.Path.{_≡_, refl, sym, _∙_, ap}
 use mathlib.Core.List.{List, [], _∷_, _++_}
 use native.Mathlib.Omega.{arith}
 use lib.ListN.{length}
 use Rattle.lexing.specs.reply.{Reply, ok, fail, stop, prepend, manyWithin, many0}
 use Rattle.lexing.specs.answers.{Rest}
 use Rattle.lexing.proofs.Runs.{Cut, Suf, suf-cut}
-use Rattle.lexing.proofs.Chain.{To, here, Clean, to-trans, to-suf, resume, Moves, ext}
-use Rattle.lexing.proofs.Locality.{Local, OnChain, Consumes}
-use Rattle.lexing.proofs.Onward.{Ends, Onward}
+use Rattle.lexing.proofs.Chain.{here, Clean, to-trans, to-suf, resume, ext}
 use Rattle.lexing.proofs.Repetition.{before}
 use Rattle.items.specs.items.{Item, item}
 use Rattle.items.proofs.Locality.{item-local, item-consumes}
-use Rattle.items.proofs.Onward.{ends-up, rest-on}
+use Rattle.items.proofs.Onward.{rest-on}
 use Rattle.items.proofs.Truth.{All, ItemTrue, item-true}
 use Rattle.items.proofs.items.Laws.{item-walks}
 use Rattle.matter_idl.specs.reading.{all-items}

@@ -9,10 +9,10 @@ use Rattle.items.specs.layout.{text-limit}
 use Rattle.matter_idl.specs.reading.{Verdict, accepted, turned-down, verdict}
 use Rattle.matter_idl.specs.sections.{sections, joined}
 use Rattle.matter_idl.specs.survey.{Entry, sound, spoilt}
-use Rattle.matter_idl.specs.demand_3.{own-records, own-moved, handed-out, save-places, entry-alone, entries-alone, moved-entry, number-of, MovedBy, extent-of, Replacement}
-use Rattle.matter_idl.proofs.HandedOut.{save-moved, handed-own}
+use Rattle.matter_idl.specs.demand_3.{own-records, own-moved, save-places, entry-alone, entries-alone, moved-entry, number-of, MovedBy, extent-of, Replacement}
+use Rattle.matter_idl.proofs.HandedOut.{save-moved}
 use Rattle.matter_idl.proofs.Places.{save-append}
-use Rattle.matter_idl.proofs.Sections.{joined-append, sections-joined, Continues, continues}
+use Rattle.matter_idl.proofs.Sections.{joined-append, sections-joined, continues}
 
 -- What is said of sections one by one, at their starts.
 pub record Along {A : Type 0} (f : ℕ → List (List ℕ) → List A) : Type 0 where

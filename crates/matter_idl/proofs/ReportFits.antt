@@ -1,15 +1,13 @@
 -- No value of the survey's report and catalogue spills over its bits, and every word is below 2^64.
-use Prim.Native.Nat.{ℕ, _+_, _^_, _≤_, _<_}
-use mathlib.Core.Path.{_≡_, refl, sym, _∙_, ap}
-use mathlib.Core.Bool.{Bool, true, false}
-use mathlib.Core.List.{List, [], _∷_, _++_, map}
+use Prim.Native.Nat.{ℕ, _+_, _≤_}
+use mathlib.Core.Path.{_≡_, refl, ap}
+use mathlib.Core.List.{List, [], _∷_}
 use mathlib.Core.Option.{Option, none, some}
 use native.Mathlib.Omega.{arith}
-use lib.Dec.{leb, lit<}
+use lib.Dec.{lit<}
 use lib.ListN.{length, length-append}
 use Rattle.lexing.specs.reply.{Reply, ok, fail, stop}
 use Rattle.lexing.specs.utf8.{utf8-error}
-use Rattle.lexing.proofs.Slicing.{rest-self}
 use Rattle.lexing.proofs.utf8.Laws.{utf8-inside}
 use Rattle.items.specs.items.{Item}
 use Rattle.items.specs.records.{each}
@@ -18,7 +16,7 @@ use Rattle.items.proofs.RecordsFit.{RecordFits, WordFits, Word64, word-less, la
 use Rattle.items.proofs.RefusedPlaces.{RefusedIn}
 use Rattle.items.proofs.Truth.{All}
 use Rattle.matter_idl.specs.hoisting.{no-ids, hoisted}
-use Rattle.matter_idl.specs.reading.{all-items, Verdict, accepted, turned-down, by-reply, by-utf8, verdict-at}
+use Rattle.matter_idl.specs.reading.{all-items, by-reply, by-utf8, verdict-at}
 use Rattle.matter_idl.specs.sections.{sections, joined}
 use Rattle.matter_idl.specs.survey.{accepted-items, Entry, sound, spoilt, entry, entries, report-20, entry-words}
 use Rattle.matter_idl.proofs.Sections.{sections-joined}

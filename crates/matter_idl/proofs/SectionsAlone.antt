@@ -1,11 +1,9 @@
 -- A section that is read where it stands is the section read alone, moved by its start.
 use Prim.Native.Nat.{ℕ, zero, suc, _+_, _≤_}
 use mathlib.Core.Path.{_≡_, refl, sym, _∙_, ap}
-use mathlib.Core.Bool.{true, false}
 use mathlib.Core.Option.{Option, none, some}
 use mathlib.Core.List.{List, [], _∷_, _++_, map}
 use native.Mathlib.Omega.{arith}
-use lib.Dec.{leb}
 use lib.ListN.{length, length-append}
 use borrow.Author.Tests.{le-leb}
 use Rattle.lexing.specs.reply.{Reply, ok, fail, stop, Parser, ret, _>>=_}
@@ -17,7 +15,7 @@ use Rattle.items.specs.layout.{text-limit}
 use Rattle.items.proofs.Shift.{shiftItem, shift-item}
 use Rattle.matter_idl.specs.reading.{unless-ended, itemsWithin, all-items, Verdict, accepted, turned-down, by-reply, by-utf8, verdict-at, verdict}
 use Rattle.matter_idl.specs.sections.{joined}
-use Rattle.matter_idl.specs.survey.{items-of, accepted-items, Entry, entry, entries}
+use Rattle.matter_idl.specs.survey.{items-of, accepted-items, entry, entries}
 use Rattle.matter_idl.specs.demand_3.{entry-alone, entries-alone}
 
 unfoldable pub shiftVerdict : ℕ → Verdict → Verdict

@@ -1,15 +1,14 @@
 -- A text is read as its sections are: if each is accepted, so is the text, with their items. What the accepted ones hold is true of the text.
 use Prim.Native.Nat.{ℕ, _+_, _≤_}
-use mathlib.Core.Path.{_≡_, refl, sym, _∙_, ap}
+use mathlib.Core.Path.{_≡_, refl, _∙_}
 use mathlib.Core.Option.{Option, none, some}
-use mathlib.Core.List.{List, [], _∷_, _++_, map, append-nil, append-assoc}
+use mathlib.Core.List.{List, [], _∷_, _++_, append-nil, append-assoc}
 use native.Mathlib.Omega.{arith}
 use lib.ListN.{length, length-append}
 use lib.Seq.{drop-at}
 use Rattle.lexing.specs.reply.{Reply, ok, fail, stop, ret}
 use Rattle.lexing.specs.answers.{Rest}
 use Rattle.lexing.specs.utf8.{run, fault, utf8-error}
-use Rattle.lexing.proofs.Repetition.{before}
 use Rattle.lexing.proofs.utf8.Laws.{utf8-append}
 use Rattle.items.specs.items.{Item}
 use Rattle.items.specs.layout.{text-limit}

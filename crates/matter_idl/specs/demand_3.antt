@@ -15,7 +15,7 @@ use Rattle.matter_idl.specs.hoisting.{Tables, no-ids, held, after-items,
 use Rattle.matter_idl.specs.inner.hoisting.{found, with-place}
 use Rattle.matter_idl.specs.reading.{Verdict, accepted, turned-down, verdict, reading}
 use Rattle.matter_idl.specs.sections.{sections, joined}
-use Rattle.matter_idl.specs.survey.{items-of, accepted-items, Entry, sound, spoilt, ReportLayout, report-20, report-bytes, Surveyed, surveyed, for-catalogue, survey}
+use Rattle.matter_idl.specs.survey.{items-of, accepted-items, Entry, sound, spoilt, ReportLayout, report-20, report-bytes, surveyed, for-catalogue, survey}
 
 -- Document 01's words.
 
@@ -142,37 +142,37 @@ pub record Replaced (L : Layout) (R : ReportLayout) (u v : List ℕ) (before : L
   -- behind it their offsets move by the change in length
   pub records : MovedBy moved (length s) (length r) (save-places (own-moved (extent-of before + length s) behind)) (save-places (own-moved (extent-of before + length r) behind))
 
--- Demand 3 of a text u, a catalogue of n bytes and a report of m bytes that are long enough. Each field has the sentence that it says, and the surveys that it refuses.
+-- Demand 3 of a text u, a catalogue of n bytes and a report of m bytes that are long enough. Each field has the sentence that it says, and the surveys that it rules out.
 pub record Demand3 (L : Layout) (R : ReportLayout) (u : List ℕ) (n m : ℕ) : Type 0 where
   -- "Alone: reading is given just the section's bytes and a catalogue long enough; accepted, refused by which number and where, and a section's own records are what demand 2's definition names for those bytes."
-  -- Refused: a survey whose sections are read by rules of its own; the verdict, by which all that follows is said, is reading's.
+  -- Rules out a survey whose sections are read by rules of its own; the verdict, by which all that follows is said, is reading's.
   pub alone-reads : (s : List ℕ) (k : ℕ) → length (catalogue-bytes L (own-records s)) ≤ k → reading L s k ≡ alone L (verdict s)
   -- "The survey accepts; its report gives each section's start, length, number and place as alone, moved by its start; its catalogue is the accepted sections' own records ..": both buffers' bytes.
-  -- Refused: a survey that always says 8, or 7, or that writes nothing; one that reports every section as refused, or gives its own numbers or places; one that leaves offsets as the section alone has them.
+  -- Rules out a survey that always says 8, or 7, or that writes nothing; one that reports every section as refused, or gives its own numbers or places; one that leaves offsets as the section alone has them.
   pub accepts : survey L R u n m ≡ surveyed (catalogue-for L u) (report-for R u)
   -- ".. exactly the accepted sections' own records in order, offsets moved by each section's start ..": giving them place marks drops none and changes nothing else.
-  -- Refused: a survey that repeats one section's items, drops an accepted section between two refused ones, or puts them in another order.
+  -- Rules out a survey that repeats one section's items, drops an accepted section between two refused ones, or puts them in another order.
   pub records : save-places (handed-out (sections u)) ≡ save-places (own-moved 0 (sections u))
   -- ".. place marks from hoisting once over all of them;"
-  -- Refused: a survey that hoists every section anew, so that a type shared by two sections is global twice.
+  -- Rules out a survey that hoists every section anew, so that a type shared by two sections is global twice.
   pub places : map place-of (handed-out (sections u)) ≡ places-once (sections u)
   -- "a refused section hands out nothing;" nor does it feed hoisting.
-  -- Refused: a survey that hands out the items in front of the place where a section is refused, or keeps their ids.
+  -- Rules out a survey that hands out the items in front of the place where a section is refused, or keeps their ids.
   pub nothing : (s : List ℕ) (k p : ℕ) → verdict s ≡ turned-down k p → (own-records s ≡ []) × (fed (s ∷ []) ≡ [])
   -- "the globals are what hoisting gives over the accepted sections": what it marks 1, types and nothing else ..
-  -- Refused: a survey that marks types of clusters global by another rule than reading.
+  -- Rules out a survey that marks types of clusters global by another rule than reading.
   pub global : globals (handed-out (sections u)) ≡ globals (hoisted no-ids (accepted-items 0 (sections u)))
   pub types : All IsType (globals (handed-out (sections u)))
   -- .. and their ids, which are the names' bytes in the text, are those in hoisting's tables at the end.
-  -- Refused: a survey whose globals have offsets at which other bytes stand, or that keeps the ids of a refused section.
+  -- Rules out a survey whose globals have offsets at which other bytes stand, or that keeps the ids of a refused section.
   pub ids : GlobalIds u (handed-out (sections u)) (after-items no-ids (fed (sections u)))
   -- "If each section is accepted alone, reading accepts the whole ..
-  -- Refused: a survey that accepts what reading refuses, as a comment or a declaration that is cut in two.
+  -- Rules out a survey that accepts what reading refuses, as a comment or a declaration that is cut in two.
   pub whole : EachAccepted (sections u) → reading L u n ≡ written (catalogue-for L u)
   -- .. and writes the same bytes as the survey."
   pub same-bytes : EachAccepted (sections u) → reading L u n ≡ for-catalogue (survey L R u n m)
   -- "Any one section of a text is replaced by any bytes so that cutting the new text finds all other sections unchanged. Then each of those is accepted, or refused by the same number, as before; the survey hands out its records as before, save place marks; and offsets behind the change move by the change in length, in catalogue and report."
-  -- Refused: a survey that gives up behind the first refused section, or whose answer for one section leans on the bytes of another.
+  -- Rules out a survey that gives up behind the first refused section, or whose answer for one section leans on the bytes of another.
   pub replaced : (v : List ℕ) (before : List (List ℕ)) (s : List ℕ) (behind : List (List ℕ)) (r : List ℕ) (middle : List (List ℕ)) → Replacement u v before s behind r middle → Replaced L R u v before s behind r middle
 
 -- for every text within the limit and buffers long enough

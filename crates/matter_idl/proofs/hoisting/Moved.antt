@@ -1,5 +1,5 @@
 -- Hoisting looks at names' bytes and at no offset: items that are moved are marked as before, and hand out their records moved.
-use Prim.Native.Nat.{ℕ, _+_}
+use Prim.Native.Nat.{ℕ}
 use mathlib.Core.Path.{_≡_, refl, sym, _∙_, ap}
 use mathlib.Core.List.{List, [], _∷_, _++_, map, map-append}
 use Rattle.lexing.specs.words.{Word, word, bytesOf}
@@ -8,7 +8,7 @@ use Rattle.items.specs.entries.{Choice}
 use Rattle.items.specs.structs.{Struct}
 use Rattle.items.specs.clusters.{Member, revision, bitmap, enum, struct, attribute, command, event}
 use Rattle.items.specs.items.{Item, cluster-item, endpoint-item, enum-item, bitmap-item, struct-item, blank-item}
-use Rattle.items.specs.records.{Record, moved, item-records}
+use Rattle.items.specs.records.{moved, item-records}
 use Rattle.items.proofs.Shift.{shiftChoice, shiftStruct, shiftMember, shiftCluster, shiftItem}
 use Rattle.items.proofs.RecordsMoved.{item-records-moved}
 use Rattle.matter_idl.specs.hoisting.{Tables, choice-id, struct-id, place-by, after-member, after-members, after-item, after-items, hoisted}
