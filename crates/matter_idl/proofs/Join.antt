@@ -23,7 +23,7 @@ pub data Reads (e : ℕ) (v : List ℕ) : ℕ → List ℕ → List Item → Typ
   more : {b c : ℕ} {u r : List ℕ} {i : Item} {l : List Item} → item b u ≡ ok i c r → Reads e v c r l → Reads e v b u (i ∷ l)
 
 -- an accepted text is read to its end
-pub data Split (i : Item) (l : List Item) (c : ℕ) (r : List ℕ) (x : Reply (List Item)) : Type 0 where
+data Split (i : Item) (l : List Item) (c : ℕ) (r : List ℕ) (x : Reply (List Item)) : Type 0 where
   split : (k : List Item) → x ≡ ok k c r → l ≡ i ∷ k → Split i l c r x
 
 prepended : (i : Item) (l : List Item) (c : ℕ) (r : List ℕ) (x : Reply (List Item)) → prepend i x ≡ ok l c r → Split i l c r x
