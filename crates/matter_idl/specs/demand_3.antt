@@ -87,7 +87,7 @@ catalogue-for L u = catalogue-bytes L (handed-out (sections u))
 unfoldable pub report-for : ReportLayout → List ℕ → List ℕ
 report-for R u = report-bytes R (entries-alone 0 (sections u))
 
--- long enough: 7 and 8 don't apply
+-- long enough: 7 and 8 don't apply. It is said by the bytes needed and not by the survey's answer, so that a survey that always says 8 is ruled out
 pub record LongEnough (L : Layout) (R : ReportLayout) (u : List ℕ) (n m : ℕ) : Type 0 where
   pub catalogue : length (catalogue-for L u) ≤ n
   pub report : length (report-for R u) ≤ m
