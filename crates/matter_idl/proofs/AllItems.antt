@@ -147,6 +147,10 @@ all-is : (b : ℕ) (u : List ℕ) → all-items b u ≡ finished (many0 item b u
 unfolding all-items
 all-is b u = all-within (length u) b u (omega arith)
 
+-- an item, and then all items behind it
+pub all-more : (b : ℕ) (u : List ℕ) (i : Item) (c : ℕ) (r : List ℕ) → item b u ≡ ok i c r → all-items b u ≡ prepend i (all-items c r)
+all-more b u i c r e = all-is b u ∙ (ap finished (many0-more item item-consumes b u i c r e) ∙ (sym (prepend-finished i (many0 item c r)) ∙ ap (prepend i) (sym (all-is c r))))
+
 -- what is accepted is the whole text
 never-read : (x : Reply Item) {l : List Item} {c : ℕ} {r : List ℕ} → ok l c r ≡ unread x → ⊥
 unfolding unread

@@ -8,3 +8,20 @@ pub mod AllItems
 pub mod Places
 -- truth of a part and of its text
 pub mod Around
+-- cutting a text into sections
+pub mod Sections
+-- texts one behind the other
+pub mod Join
+-- a section alone and where it stands
+pub mod SectionsAlone
+-- a text and its sections
+pub mod Whole
+-- the records that the survey hands out
+pub mod HandedOut
+-- a section replaced
+pub mod Replacing
+-- demand 3
+pub mod Demand3
+-- what the survey writes fits its bits
+pub mod ReportFits
+pub mod Demand3Examples

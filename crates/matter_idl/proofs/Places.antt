@@ -1,6 +1,6 @@
 -- Hoisting changes the places of records and nothing else.
 use mathlib.Core.Path.{_≡_, refl, sym, ap, _∙_}
-use mathlib.Core.List.{List, [], _∷_, _++_, map, append-assoc, append-nil}
+use mathlib.Core.List.{List, [], _∷_, _++_, map, map-append}
 use Prim.Native.Nat.{ℕ}
 use native.Mathlib.Omega.{arith}
 use lib.ListN.{length-append}
@@ -14,38 +14,32 @@ use Rattle.items.specs.answers.clusters.{unhoisted-records}
 use Rattle.items.specs.answers.items.{unhoisted-item}
 use Rattle.matter_idl.specs.hoisting.{Tables, place-by, after-item, hoisted}
 use Rattle.matter_idl.specs.inner.hoisting.{with-place}
+use Rattle.matter_idl.specs.demand_3.{save-places}
 
 -- records that differ in their places alone
-unplaced : List Record → List Record
-unplaced l = map (with-place 0) l
-
 pub record Alike (k l : List Record) : Type 0 where
-  same : unplaced k ≡ unplaced l
+  pub same : save-places k ≡ save-places l
 
 alike : (l : List Record) → Alike l l
 alike l = record { same = refl }
 
-map-append : {A B : Type 0} (f : A → B) (k l : List A) → map f (k ++ l) ≡ map f k ++ map f l
-map-append f [] l = refl
-map-append f (a ∷ k) l = ap (λ x. f a ∷ x) (map-append f k l)
+pub save-append : (k l : List Record) → save-places (k ++ l) ≡ save-places k ++ save-places l
+unfolding save-places
+save-append k l = map-append (with-place 0) k l
 
-unplaced-append : (k l : List Record) → unplaced (k ++ l) ≡ unplaced k ++ unplaced l
-unfolding unplaced
-unplaced-append k l = map-append (with-place 0) k l
-
-alike-append : {k k' l l' : List Record} → Alike k k' → Alike l l' → Alike (k ++ l) (k' ++ l')
-alike-append {k} {k'} {l} {l'} e f = record { same = rw (unplaced-append k l, unplaced-append k' l', e .same, f .same) refl }
+pub alike-append : {k k' l l' : List Record} → Alike k k' → Alike l l' → Alike (k ++ l) (k' ++ l')
+alike-append {k} {k'} {l} {l'} e f = record { same = rw (save-append k l, save-append k' l', e .same, f .same) refl }
 
 alike-more : (r : Record) {k l : List Record} → Alike k l → Alike (r ∷ k) (r ∷ l)
 alike-more r e = alike-append (alike (r ∷ [])) e
 
 -- the same records, whatever the places
 alike-choice : (k p q : ℕ) (c : Choice) → Alike (choice-records k p c) (choice-records k q c)
-unfolding unplaced with-place choice-records documented
+unfolding save-places with-place choice-records documented
 alike-choice k p q c = record { same = refl }
 
 alike-struct : (p q : ℕ) (s : Struct) → Alike (struct-records p s) (struct-records q s)
-unfolding unplaced with-place struct-records documented
+unfolding save-places with-place struct-records documented
 alike-struct p q s = record { same = refl }
 
 module _ (f g : Member → ℕ) where
@@ -79,13 +73,13 @@ alike-hoisted t [] = alike []
 alike-hoisted t (i ∷ l) = alike-append (alike-item _ _ 1 1 i) (alike-hoisted (after-item t i) l)
 
 -- they take as many words
-words-unplaced : (l : List Record) → word-count (unplaced l) ≡ word-count l
-unfolding unplaced with-place word-count catalogue-words each record-words layout-20
-words-unplaced [] = refl
-words-unplaced (r ∷ l) = omega (arith, length-append (record-words layout-20 r) (each (record-words layout-20) l), length-append (record-words layout-20 (with-place 0 r)) (each (record-words layout-20) (map (with-place 0) l)), words-unplaced l)
+words-saved : (l : List Record) → word-count (save-places l) ≡ word-count l
+unfolding save-places with-place word-count catalogue-words each record-words layout-20
+words-saved [] = refl
+words-saved (r ∷ l) = omega (arith, length-append (record-words layout-20 r) (each (record-words layout-20) l), length-append (record-words layout-20 (with-place 0 r)) (each (record-words layout-20) (map (with-place 0) l)), words-saved l)
 
 pub alike-words : {k l : List Record} → Alike k l → word-count k ≡ word-count l
-alike-words {k} {l} e = sym (words-unplaced k) ∙ (ap word-count (e .same) ∙ words-unplaced l)
+alike-words {k} {l} e = sym (words-saved k) ∙ (ap word-count (e .same) ∙ words-saved l)
 
 pub item-words : (p q : ℕ) (f g : Member → ℕ) (i : Item) → word-count (item-records p f i) ≡ word-count (item-records q g i)
 item-words p q f g i = alike-words (alike-item f g p q i)

@@ -4,3 +4,5 @@ pub mod Walk
 pub mod Marks
 pub mod Laws
 pub mod Marking
+pub mod Moved
+pub mod Types

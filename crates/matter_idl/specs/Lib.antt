@@ -3,6 +3,7 @@ pub mod hoisting
 pub mod reading
 pub mod sections
 pub mod survey
+pub mod demand_3
 pub mod interface
 pub mod answers
 pub mod inner

@@ -79,6 +79,11 @@ after-item t (bitmap-item c) = record { enums = t .enums; bitmaps = choice-id c 
 after-item t (struct-item s) = record { enums = t .enums; bitmaps = t .bitmaps; structs = struct-id s ∷ t .structs }
 after-item t blank-item = t
 
+-- the tables behind items
+unfoldable pub after-items : Tables → List Item → Tables
+after-items t [] = t
+after-items t (i ∷ l) = after-items (after-item t i) l
+
 -- the records of items in text order; a type at the top is marked 1
 unfoldable pub hoisted : Tables → List Item → List Record
 hoisted t [] = []

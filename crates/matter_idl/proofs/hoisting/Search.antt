@@ -17,7 +17,7 @@ use Rattle.items.specs.items.{Item, cluster-item, endpoint-item, enum-item, bit
 use Rattle.items.specs.records.{Record, plain, documented, entry-record, choice-records, field-record, struct-records, attribute-records, command-record, event-records, each, member-records, cluster-records, instance-record, part-records, endpoint-records, item-records, word-extent}
 use Rattle.items.proofs.Truth.{All, WordTrue, ChoiceTrue, true-choice, StructTrue, true-struct, MemberTrue, true-cluster, ItemTrue}
 use Rattle.items.proofs.RecordsFit.{name-whole}
-use Rattle.matter_idl.specs.hoisting.{Tables, no-ids, held, mark, join, choice-id, struct-id, is-shared, place-by, after-member, after-members, after-item, hoisted}
+use Rattle.matter_idl.specs.hoisting.{Tables, no-ids, held, mark, join, choice-id, struct-id, is-shared, place-by, after-member, after-members, after-item, after-items, hoisted}
 use Rattle.matter_idl.specs.inner.hoisting.{bytes-at, hits, found}
 
 or-nil : (a : Bool) → (a || false) ≡ a
@@ -60,11 +60,6 @@ unfoldable with-table : Kind → List (List ℕ) → Tables → Tables
 with-table enums l t = record { enums = l; bitmaps = t .bitmaps; structs = t .structs }
 with-table bitmaps l t = record { enums = t .enums; bitmaps = l; structs = t .structs }
 with-table structs l t = record { enums = t .enums; bitmaps = t .bitmaps; structs = l }
-
--- the tables behind items
-unfoldable pub after-items : Tables → List Item → Tables
-after-items t [] = t
-after-items t (i ∷ l) = after-items (after-item t i) l
 
 join-held : (i : List ℕ) (p : ℕ) (j : List ℕ) (t : List (List ℕ)) → held i (join p j t) ≡ (held i t || (eqb p 1 && same-bytes i j))
 unfolding join held

@@ -58,7 +58,7 @@ module _ (b : ℕ) (t : List ℕ) where
       go w [] c h = tt
       go w (x ∷ v) c h = placed-bind b t item-walks (item-in b t) (λ i _. placed-bind b t (within-on n) w (λ l _. placed-ret b t (i ∷ l))) .places c (x ∷ v) h
 
-  all-refused : RefusedIn b t (all-items b t)
+  pub all-refused : RefusedIn b t (all-items b t)
   unfolding all-items
   all-refused = within-placed (length t) .places b t (rest-self b t)
 

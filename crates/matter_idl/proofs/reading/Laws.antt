@@ -36,10 +36,9 @@ use Rattle.items.proofs.counts.Laws.{Counting, counting-start, counting-more, c
 use Rattle.items.proofs.items.Laws.{item-is, declaration-walks, item-walks, item-words, item-lost, item-blank}
 use Rattle.items.proofs.items.Ends.{item-cases}
 use Rattle.items.proofs.writing.Laws.{Writing, writing-start, writing-start-seen, writing-same, writing-fits, writing-more, writing-more-seen, no-room, put-nothing, put-length, put-on}
-use Rattle.matter_idl.specs.hoisting.{Tables, place-by, hoisted}
+use Rattle.matter_idl.specs.hoisting.{Tables, place-by, after-items, hoisted}
 use Rattle.matter_idl.specs.reading.{all-items}
 use Rattle.matter_idl.proofs.Places.{hoisted-words, item-words as words-of-places}
-use Rattle.matter_idl.proofs.hoisting.Search.{after-items}
 use Rattle.matter_idl.proofs.hoisting.Marks.{hoisted-more}
 use Rattle.matter_idl.proofs.AllItems.{clear-blank, no-declaration, accepted-many, all-ended, all-lost}
 

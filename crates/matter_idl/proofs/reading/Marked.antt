@@ -18,13 +18,12 @@ use Rattle.items.specs.declared.writing.Wrote.{Wrote}
 use Rattle.items.proofs.Truth.{All, ItemTrue}
 use Rattle.items.proofs.RecordsFit.{all-append}
 use Rattle.items.proofs.RecordWords.{catalogue-bytes-none, catalogue-bytes-append, catalogue-bytes-length, word-count-none, word-count-append, word-count-more, each-elementwise}
-use Rattle.matter_idl.specs.hoisting.{Tables, no-ids, hoisted}
+use Rattle.matter_idl.specs.hoisting.{Tables, no-ids, after-items, hoisted}
 use Rattle.matter_idl.specs.reading.{all-items}
 use Rattle.matter_idl.specs.inner.hoisting.{Unhoisted, HoistedTo}
 use Rattle.matter_idl.specs.inner.reading.{PartOf, HoistedFront, HoistedBehind, HoistedItemsTo}
 use Rattle.matter_idl.proofs.Around.{item-whole, items-whole}
 use Rattle.matter_idl.proofs.Places.{hoisted-words}
-use Rattle.matter_idl.proofs.hoisting.Search.{after-items}
 use Rattle.matter_idl.proofs.hoisting.Marks.{hoisted-append}
 use Rattle.matter_idl.proofs.reading.Laws.{HoistingItems, hoisting-start, hoisting-place, hoisting-written, hoisting-true, hoisting-more, hoisting-ends}
 

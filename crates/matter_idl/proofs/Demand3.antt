@@ -1,0 +1,111 @@
+-- Demand 3, proved: for all layouts, every text within the limit and all buffers long enough.
+use Prim.Native.Nat.{ℕ, suc, _+_, _*_, _≤_}
+use mathlib.Core.Path.{_≡_, refl, sym, _∙_, ap}
+use mathlib.Core.List.{List, [], _∷_}
+use lib.ListN.{length}
+use borrow.Author.Tests.{le-leb}
+use Rattle.lexing.specs.outcomes.{written, fitted}
+use Rattle.items.specs.records.{moved, each}
+use Rattle.items.specs.layout.{Layout, layout-20, catalogue-bytes, text-limit}
+use Rattle.items.proofs.RecordWords.{words-bytes-length}
+use Rattle.matter_idl.specs.hoisting.{no-ids, hoisted}
+use Rattle.matter_idl.specs.reading.{Verdict, accepted, turned-down, verdict, into-catalogue, reading}
+use Rattle.matter_idl.specs.sections.{sections}
+use Rattle.matter_idl.specs.survey.{items-of, accepted-items, Entry, sound, spoilt, ReportLayout, report-20, entry-words, report-bytes, surveyed, for-catalogue, into-buffers, survey}
+use Rattle.matter_idl.specs.demand_3.{alone, own-records, fed, globals, entries-alone, catalogue-for, report-for, LongEnough, EachAccepted, moved-entry, extent-of, Replacement, Replaced, Demand3Over, Demand3Now}
+use Rattle.matter_idl.proofs.HandedOut.{handed-own, handed-places, handed-hoisted, handed-ids}
+use Rattle.matter_idl.proofs.hoisting.Types.{hoisted-globals}
+use Rattle.matter_idl.proofs.Replacing.{moved-by, entries-along, entries-moved, numbers-same, saved-own, saved-along, saved-moved, old-along, new-along}
+use Rattle.matter_idl.proofs.Sections.{sections-joined}
+use Rattle.matter_idl.proofs.SectionsAlone.{each-short, entries-as-alone}
+use Rattle.matter_idl.proofs.Whole.{whole-verdict}
+
+-- a buffer that is long enough
+fitted-in : (k n : ℕ) (l : List ℕ) → length l ≤ n → fitted k n l ≡ written l
+unfolding fitted
+fitted-in k n l h = rw (le-leb (length l) n h, fitted) refl
+
+both-in : (n m : ℕ) (c r : List ℕ) → length c ≤ n → length r ≤ m → into-buffers n m c r ≡ surveyed c r
+unfolding into-buffers
+both-in n m c r h k = rw (le-leb (length r) m k, into-buffers) (rw (le-leb (length c) n h) refl)
+
+-- a section alone
+reads-alone : (L : Layout) (s : List ℕ) (n : ℕ) → length (catalogue-bytes L (own-records s)) ≤ n → reading L s n ≡ alone L (verdict s)
+unfolding reading into-catalogue alone own-records items-of
+reads-alone L s n h = go (verdict s) h
+  where
+    go : (v : Verdict) → length (catalogue-bytes L (hoisted no-ids (items-of v))) ≤ n → into-catalogue L n v ≡ alone L v
+    go (accepted l) k = fitted-in 7 n (catalogue-bytes L (hoisted no-ids l)) k
+    go (turned-down i p) k = refl
+
+nothing-of : (s : List ℕ) (k p : ℕ) → verdict s ≡ turned-down k p → (own-records s ≡ []) × (fed (s ∷ []) ≡ [])
+unfolding own-records fed each items-of hoisted
+nothing-of s k p e = rw e (refl, refl)
+
+module _ (L : Layout) (R : ReportLayout) (u : List ℕ) (h : length u ≤ text-limit) where
+  -- the survey by the sections alone, whatever the buffers' lengths
+  pub survey-is : (n m : ℕ) → survey L R u n m ≡ into-buffers n m (catalogue-for L u) (report-for R u)
+  unfolding survey catalogue-for report-for
+  survey-is n m =
+      rw (le-leb (length u) text-limit h, survey)
+      (rw (sym (handed-hoisted u h), entries-as-alone 0 (sections u) (each-short (sections u) (rw (sections-joined u) h))) refl)
+
+  accepts : (n m : ℕ) → LongEnough L R u n m → survey L R u n m ≡ surveyed (catalogue-for L u) (report-for R u)
+  accepts n m k = survey-is n m ∙ both-in n m (catalogue-for L u) (report-for R u) (k .catalogue) (k .report)
+
+  whole : (n : ℕ) → length (catalogue-for L u) ≤ n → EachAccepted (sections u) → reading L u n ≡ written (catalogue-for L u)
+  unfolding reading into-catalogue catalogue-for
+  whole n k e = rw (whole-verdict u h e, sym (handed-hoisted u h)) (fitted-in 7 n (catalogue-for L u) k)
+
+  same-bytes : (n m : ℕ) → LongEnough L R u n m → EachAccepted (sections u) → reading L u n ≡ for-catalogue (survey L R u n m)
+  unfolding for-catalogue
+  same-bytes n m k e = whole n (k .catalogue) e ∙ sym (ap for-catalogue (accepts n m k))
+
+replacing : (L : Layout) (R : ReportLayout) {u v : List ℕ} {before : List (List ℕ)} {s : List ℕ} {behind : List (List ℕ)} {r : List ℕ} {middle : List (List ℕ)} → Replacement u v before s behind r middle → Replaced L R u v before s behind r middle
+unfolding saved-own
+replacing L R {u} {v} {before} {s} {behind} {r} {middle} q =
+    record {
+      accepts = λ n m k. accepts L R v (q .short) n m k;
+      old-report = old-along q entries-alone entries-along;
+      new-report = new-along q entries-alone entries-along;
+      numbers = numbers-same _ _ behind;
+      report = moved-by moved-entry (λ b. entries-alone b behind) (λ d b. entries-moved d b behind) (extent-of before) (length s) (length r);
+      old-records = handed-own (sections u) ∙ old-along q saved-own saved-along;
+      new-records = handed-own (sections v) ∙ new-along q saved-own saved-along;
+      records = moved-by moved (λ b. saved-own b behind) (λ d b. saved-moved d b behind) (extent-of before) (length s) (length r);
+    }
+
+pub demand-3 : (L : Layout) (R : ReportLayout) → Demand3Over L R
+demand-3 L R u n m h k =
+    record {
+      alone-reads = reads-alone L;
+      accepts = accepts L R u h n m k;
+      records = handed-own (sections u);
+      places = handed-places (sections u);
+      nothing = nothing-of;
+      global = ap globals (handed-hoisted u h);
+      types = rw (handed-hoisted u h) (hoisted-globals no-ids (accepted-items 0 (sections u)));
+      ids = handed-ids u h;
+      whole = whole L R u h n (k .catalogue);
+      same-bytes = same-bytes L R u h n m k;
+      replaced = λ v before s behind r middle q. replacing L R q;
+    }
+
+-- Document 01's layouts: a report has 8 bytes a section.
+words-20 : (l : List Entry) → length (each (entry-words report-20) l) ≡ length l
+unfolding each entry-words report-20
+words-20 [] = refl
+words-20 (sound b n ∷ l) = ap suc (words-20 l)
+words-20 (spoilt b n k p ∷ l) = ap suc (words-20 l)
+
+entries-count : (b : ℕ) (ss : List (List ℕ)) → length (entries-alone b ss) ≡ length ss
+unfolding entries-alone
+entries-count b [] = refl
+entries-count b (s ∷ ss) = ap suc (entries-count (b + length s) ss)
+
+pub report-length : (u : List ℕ) → length (report-for report-20 u) ≡ 8 * length (sections u)
+unfolding report-for report-bytes
+report-length u = words-bytes-length (each (entry-words report-20) (entries-alone 0 (sections u))) ∙ ap (λ n. 8 * n) (words-20 (entries-alone 0 (sections u)) ∙ entries-count 0 (sections u))
+
+pub demand-3-now : Demand3Now
+demand-3-now u n m h k j = demand-3 layout-20 report-20 u n m h (record { catalogue = k; report = rw (report-length u) j })
