@@ -8,8 +8,7 @@ use Rattle.items.specs.items.{Item}
 use Rattle.items.specs.records.{Record, moved, each}
 use Rattle.items.specs.layout.{text-limit}
 use Rattle.items.proofs.Shift.{shiftItem}
-use Rattle.matter_idl.specs.hoisting.{Tables, no-ids, held, after-items, hoisted}
-use Rattle.matter_idl.specs.inner.hoisting.{found, with-place}
+use Rattle.matter_idl.specs.hoisting.{Tables, no-ids, held, after-items, hoisted, found, with-place}
 use Rattle.matter_idl.specs.reading.{verdict}
 use Rattle.matter_idl.specs.sections.{sections}
 use Rattle.matter_idl.specs.survey.{items-of, accepted-items}

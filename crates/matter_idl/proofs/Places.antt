@@ -12,8 +12,7 @@ use Rattle.items.specs.records.{Record, each, documented, choice-records, struc
 use Rattle.items.specs.layout.{layout-20, record-words, catalogue-words, word-count}
 use Rattle.items.specs.answers.clusters.{unhoisted-records}
 use Rattle.items.specs.answers.items.{unhoisted-item}
-use Rattle.matter_idl.specs.hoisting.{Tables, place-by, after-item, hoisted}
-use Rattle.matter_idl.specs.inner.hoisting.{with-place}
+use Rattle.matter_idl.specs.hoisting.{Tables, place-by, after-item, hoisted, with-place}
 use Rattle.matter_idl.specs.demand_3.{save-places}
 
 -- records that differ in their places alone

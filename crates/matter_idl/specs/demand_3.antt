@@ -10,9 +10,7 @@ use Rattle.lexing.specs.outcomes.{Outcome, refused, written}
 use Rattle.items.specs.items.{Item}
 use Rattle.items.specs.records.{Record, moved, each}
 use Rattle.items.specs.layout.{Layout, layout-20, catalogue-bytes, text-limit}
-use Rattle.items.proofs.Truth.{All}
-use Rattle.matter_idl.specs.hoisting.{Tables, no-ids, held, after-items, hoisted}
-use Rattle.matter_idl.specs.inner.hoisting.{found, with-place}
+use Rattle.matter_idl.specs.hoisting.{Tables, no-ids, held, after-items, hoisted, found, with-place}
 use Rattle.matter_idl.specs.reading.{Verdict, accepted, turned-down, verdict, reading}
 use Rattle.matter_idl.specs.sections.{sections, joined}
 use Rattle.matter_idl.specs.survey.{items-of, accepted-items, Entry, sound, spoilt, ReportLayout, report-20, report-bytes, surveyed, for-catalogue, survey}
@@ -60,6 +58,10 @@ save-places l = map (with-place 0) l
 -- enum, bitmap, struct
 abbrev pub IsType : Record → Type 0
 IsType r = (r .kind ≡ 2) ⊎ ((r .kind ≡ 3) ⊎ (r .kind ≡ 5))
+
+abbrev pub EachType : List Record → Type 0
+EachType [] = Unit {0}
+EachType (r ∷ l) = IsType r × EachType l
 
 -- the globals are the types marked 1
 unfoldable pub globals : List Record → List Record
@@ -162,7 +164,7 @@ pub record Demand3 (L : Layout) (R : ReportLayout) (u : List ℕ) (n m : ℕ) : 
   -- "the globals are what hoisting gives over the accepted sections": what it marks 1, types and nothing else ..
   -- Rules out a survey that marks types of clusters global by another rule than reading.
   pub global : globals (handed-out (sections u)) ≡ globals (hoisted no-ids (accepted-items 0 (sections u)))
-  pub types : All IsType (globals (handed-out (sections u)))
+  pub types : EachType (globals (handed-out (sections u)))
   -- .. and their ids, which are the names' bytes in the text, are those in hoisting's tables at the end.
   -- Rules out a survey whose globals have offsets at which other bytes stand, or that keeps the ids of a refused section.
   pub ids : GlobalIds u (handed-out (sections u)) (after-items no-ids (fed (sections u)))

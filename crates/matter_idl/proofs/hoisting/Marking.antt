@@ -16,8 +16,8 @@ use Rattle.items.specs.answers.items.{unhoisted-item}
 use Rattle.items.proofs.Truth.{All, ItemTrue}
 use Rattle.items.proofs.RecordWords.{big-endian-length, catalogue-bytes-append, catalogue-bytes-length, catalogue-bytes-none}
 use Rattle.items.proofs.RecordsFit.{RecordFits, first-bits, first-word, item-fits, all-append}
-use Rattle.matter_idl.specs.hoisting.{Tables, no-ids, held, mark, place-by, after-item, hoisted}
-use Rattle.matter_idl.specs.inner.hoisting.{bytes-at, found, is-unmarked, mark-after, new-place, with-place, marked, Catalogue, Marking, MarkedTo, Unhoisted}
+use Rattle.matter_idl.specs.hoisting.{Tables, no-ids, held, mark, place-by, after-item, hoisted, bytes-at, found, with-place}
+use Rattle.matter_idl.specs.inner.hoisting.{is-unmarked, mark-after, new-place, marked, Catalogue, Marking, MarkedTo, Unhoisted}
 use Rattle.matter_idl.proofs.hoisting.Walk.{Walk, FirstOf, first-less, kind-of, place-of, flags-of, offset-of, size-of, word-count-one, further-bytes, record-bytes, walk-length, walk-word, walk-bytes, walk-first, walk-behind, Standing, stands-room, stands-inside, walk-stands, walk-over}
 use Rattle.matter_idl.proofs.hoisting.Marks.{marking}
 use Rattle.matter_idl.proofs.hoisting.Laws.{unmarked-place}

@@ -16,8 +16,8 @@ use Rattle.items.specs.records.{bits, value, spanned, Record, response-of, flag
 use Rattle.items.specs.layout.{packed, width, from-top}
 use Rattle.items.specs.answers.items.{unhoisted-item}
 use Rattle.items.proofs.Truth.{All, WordTrue, ChoiceTrue, true-choice, StructTrue, true-struct, MemberTrue, true-cluster, ItemTrue}
-use Rattle.matter_idl.specs.hoisting.{Tables, no-ids, held, mark, choice-id, struct-id, is-shared, place-by, after-item, after-items, hoisted}
-use Rattle.matter_idl.specs.inner.hoisting.{found, flags-shared, is-unmarked, mark-after, new-place, with-place, marked}
+use Rattle.matter_idl.specs.hoisting.{Tables, no-ids, held, mark, choice-id, struct-id, is-shared, place-by, after-item, after-items, hoisted, found, with-place}
+use Rattle.matter_idl.specs.inner.hoisting.{flags-shared, is-unmarked, mark-after, new-place, marked}
 use Rattle.matter_idl.proofs.hoisting.Search.{Kind, enums, bitmaps, structs, number-of, table-of, name-is, by-search}
 
 cons-same : {A : Type 0} {a b : A} {k l : List A} → a ≡ b → k ≡ l → a ∷ k ≡ b ∷ l

@@ -17,8 +17,7 @@ use Rattle.items.specs.items.{Item, cluster-item, endpoint-item, enum-item, bit
 use Rattle.items.specs.records.{Record, plain, documented, entry-record, choice-records, field-record, struct-records, attribute-records, command-record, event-records, each, member-records, cluster-records, instance-record, part-records, endpoint-records, item-records, word-extent}
 use Rattle.items.proofs.Truth.{All, WordTrue, ChoiceTrue, true-choice, StructTrue, true-struct, MemberTrue, true-cluster, ItemTrue}
 use Rattle.items.proofs.RecordsFit.{name-whole}
-use Rattle.matter_idl.specs.hoisting.{Tables, no-ids, held, mark, join, choice-id, struct-id, is-shared, place-by, after-member, after-members, after-item, after-items, hoisted}
-use Rattle.matter_idl.specs.inner.hoisting.{bytes-at, hits, found}
+use Rattle.matter_idl.specs.hoisting.{Tables, no-ids, held, mark, join, choice-id, struct-id, is-shared, place-by, after-member, after-members, after-item, after-items, hoisted, bytes-at, hits, found}
 
 or-nil : (a : Bool) → (a || false) ≡ a
 or-nil true = refl

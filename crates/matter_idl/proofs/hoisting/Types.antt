@@ -16,7 +16,7 @@ use Rattle.items.specs.records.{Record, plain, documented, entry-record, choice
 use Rattle.items.proofs.RecordsFit.{all-append}
 use Rattle.items.proofs.Truth.{All}
 use Rattle.matter_idl.specs.hoisting.{Tables, place-by, after-item, hoisted}
-use Rattle.matter_idl.specs.demand_3.{IsType, globals}
+use Rattle.matter_idl.specs.demand_3.{IsType, EachType, globals}
 
 -- in its parent, or a type
 abbrev Typed : Record → Type 0
@@ -82,14 +82,14 @@ typed-global : (r : Record) → eqb (r .place) 1 ≡ true → Typed r → IsType
 typed-global r e (inl z) = absurd (omega (arith, z, eq-of (r .place) 1 e))
 typed-global r e (inr h) = h
 
-globals-typed : (l : List Record) → All Typed l → All IsType (globals l)
+globals-typed : (l : List Record) → All Typed l → EachType (globals l)
 unfolding globals
 globals-typed [] h = tt
 globals-typed (r ∷ l) h = go (eqb (r .place) 1) refl (globals-typed l (h .1))
   where
-    go : (b : Bool) → eqb (r .place) 1 ≡ b → All IsType (globals l) → All IsType (globals (r ∷ l))
+    go : (b : Bool) → eqb (r .place) 1 ≡ b → EachType (globals l) → EachType (globals (r ∷ l))
     go true e ih = rw (e, globals) (typed-global r e (h .0), ih)
     go false e ih = rw (e, globals) ih
 
-pub hoisted-globals : (t : Tables) (l : List Item) → All IsType (globals (hoisted t l))
+pub hoisted-globals : (t : Tables) (l : List Item) → EachType (globals (hoisted t l))
 hoisted-globals t l = globals-typed (hoisted t l) (hoisted-typed t l)

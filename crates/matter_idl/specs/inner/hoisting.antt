@@ -12,19 +12,7 @@ use Rattle.items.specs.items.{Item}
 use Rattle.items.specs.answers.items.{unhoisted-item}
 use Rattle.items.proofs.Truth.{All, ItemTrue}
 use Rattle.items.proofs.RecordsFit.{RecordFits, first-word}
-use Rattle.matter_idl.specs.hoisting.{no-ids, hoisted}
-
--- the bytes of a name in the text
-unfoldable pub bytes-at : List ℕ → Extent → List ℕ
-bytes-at t e = take (size e) (drop (offset e) t)
-
--- a global type of kind k with the id i
-unfoldable pub hits : List ℕ → ℕ → List ℕ → Record → Bool
-hits t k i r = eqb (r .place) 1 && (eqb (r .kind) k && same-bytes i (bytes-at t (r .name)))
-
-unfoldable pub found : List ℕ → ℕ → List ℕ → List Record → Bool
-found t k i [] = false
-found t k i (r ∷ l) = hits t k i r || found t k i l
+use Rattle.matter_idl.specs.hoisting.{no-ids, hoisted, with-place, bytes-at, found}
 
 -- the name of a record's first word w lies in a text of n bytes
 abbrev pub NameIn : ℕ → ℕ → Type 0
@@ -60,19 +48,6 @@ mark-after t before k e = elim (found t k (bytes-at t e) before) [ true ↦ 2 | 
 
 unfoldable pub new-place : List ℕ → List Record → Record → ℕ
 new-place t before r = elim (is-unmarked (r .kind) (r .place) (from-top 7 (r .flags))) [ true ↦ mark-after t before (r .kind) (r .name) | false ↦ r .place ]
-
-unfoldable pub with-place : ℕ → Record → Record
-with-place p r = record {
-  kind = r .kind;
-  place = p;
-  maturity = r .maturity;
-  doc-present = r .doc-present;
-  flags = r .flags;
-  name = r .name;
-  first-privilege = r .first-privilege;
-  second-privilege = r .second-privilege;
-  further = r .further;
-}
 
 unfoldable pub marked : List ℕ → List Record → Record → Record
 marked t before r = with-place (new-place t before r) r
