@@ -1,5 +1,5 @@
-// Replays stored texts: a line of standard input is a text's bytes in hexadecimal, then `=` and the bytes of its catalogue, or `!` and the result of its refusal. A line
-// whose answer is another comes back; last come the number of texts and of those that differ.
+// Replays stored texts: a line of standard input is a text's bytes in hexadecimal, then `=` and the bytes of its catalogue, or `!` and the result of its refusal, or, for
+// a survey, `@` and the bytes of its catalogue, then `+` and those of its report. A line whose answer is another comes back; last come the number of texts and of those that differ.
 ghost use Prim.Native.Nat.{_≤_};
 ghost use lib.ListN.{length};
 
@@ -38,21 +38,29 @@ fn decode(digits: &[u8], out: &mut [u8]) -> usize {
     n
 }
 
-// How many bytes stand before the sign between text and answer.
-fn text_digits(line: &[u8]) -> usize
+// How many digits stand at the front: up to the sign behind a text or a catalogue.
+fn digits_length(line: &[u8]) -> usize
     ensures { λ r. ⌜ r ≤ length (now (line .entry)) ⌝ }
 {
     let mut i = 0;
     while i < line.len() {
+        if line[i] < b'0' {
+            return i;
+        }
         if line[i] == b'=' {
             return i;
         }
-        if line[i] == b'!' {
+        if line[i] == b'@' {
             return i;
         }
         i += 1;
     }
     i
+}
+
+// What stands behind the digits at the front and the sign.
+fn behind_digits(line: &[u8]) -> &[u8] {
+    lexing::parts::after(lexing::parts::after(line, digits_length(line)), 1)
 }
 
 fn same(a: &[u8], b: &[u8]) -> bool {
@@ -102,7 +110,8 @@ fn is_refused(result: u64, catalogue: &[u8], wanted: &[u8]) -> bool {
     false
 }
 
-fn is_answer(text: &[u8], sign: u8, wanted: &[u8]) -> bool {
+// Reading: a catalogue or a refusal is wanted.
+fn is_read(text: &[u8], sign: u8, wanted: &[u8]) -> bool {
     let mut catalogue = [FILL; 512];
     let result = matter_idl::interface::matter_idl_read(text, &mut catalogue);
     if sign == b'=' {
@@ -114,16 +123,33 @@ fn is_answer(text: &[u8], sign: u8, wanted: &[u8]) -> bool {
     false
 }
 
+// The survey: the digits of a catalogue and a report are wanted.
+fn is_surveyed(text: &[u8], digits: &[u8]) -> bool {
+    let mut catalogue = [FILL; 1024];
+    let mut report = [FILL; 40960];
+    let mut wanted = [0u8; 40960];
+    let result = matter_idl::interface::matter_idl_survey(text, &mut catalogue, &mut report);
+    let n = decode(lines::front(digits, digits_length(digits)), &mut wanted);
+    if !is_accepted(result, &catalogue, lines::front(&wanted, n)) {
+        return false;
+    }
+    let m = decode(behind_digits(digits), &mut wanted);
+    is_accepted(m as u64, &report, lines::front(&wanted, m))
+}
+
 // A line without its line feed.
 fn holds(line: &[u8]) -> bool {
-    let mut text = [0u8; 128];
+    let mut text = [0u8; 16384];
     let mut wanted = [0u8; 512];
-    let at = text_digits(line);
+    let at = digits_length(line);
     let size = decode(lines::front(line, at), &mut text);
     let sign = lexing::parts::peek(line, at);
-    let behind = lexing::parts::after(lexing::parts::after(line, at), 1);
+    let behind = behind_digits(line);
+    if sign == b'@' {
+        return is_surveyed(lines::front(&text, size), behind);
+    }
     let n = decode(behind, &mut wanted);
-    is_answer(lines::front(&text, size), sign, lines::front(&wanted, n))
+    is_read(lines::front(&text, size), sign, lines::front(&wanted, n))
 }
 
 // How many lines differ: 1 or 0.
@@ -163,7 +189,7 @@ fn replay_lines(input: &[u8]) {
 }
 
 fn main() {
-    let mut input = [0u8; 524288];
+    let mut input = [0u8; 1048576];
     let n = io::read_full(0, &mut input);
     replay_lines(&input[..n]);
 }

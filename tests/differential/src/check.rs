@@ -111,7 +111,7 @@ fn spans(records: &[Record]) -> Vec<Span> {
     all
 }
 
-fn each_span(r: &mut Record, f: &mut impl FnMut(&mut Span)) {
+pub fn each_span(r: &mut Record, f: &mut impl FnMut(&mut Span)) {
     r.name.as_mut().map(&mut *f);
     r.doc.as_mut().map(&mut *f);
     match &mut r.kind {

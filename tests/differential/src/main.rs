@@ -11,6 +11,7 @@ mod run;
 mod shrink;
 #[cfg(feature = "library")]
 mod speed;
+mod survey;
 #[cfg(test)]
 mod tests;
 mod tree;
@@ -26,6 +27,7 @@ const USAGE: &str = "words [FILE]                            the words for the R
 check [SEED [COUNT]]                    the papers' texts and all generated ones: the Rust beside the locator
 compare PROGRAM [SEED [COUNT [EVERY]]]  a program like the lister beside the Rust, on one text of EVERY
 library [SEED [COUNT [EVERY]]]          the same with the static library (build with MATTER_IDL_LIB set)
+survey [SEED [COUNT]]                   the static library's survey on texts of many sections, and with one section replaced
 vectors [SEED]                          the stored list of short texts with answers
 speed FILE ..                           the Rust and the static library on each text, in turn";
 
@@ -55,6 +57,8 @@ fn command(arguments: &[&str]) -> Result<usize, String> {
         }
         #[cfg(feature = "library")]
         "library" => compare(&mut reader::Library, rest, 1),
+        #[cfg(feature = "library")]
+        "survey" => Ok(survey::library::run(number(rest, 0, 1)?, number(rest, 1, 100_000)? as usize)),
         #[cfg(feature = "library")]
         "speed" => rest.iter().try_for_each(|file| speed::compare(file)).map(|()| 0),
         "vectors" => {

@@ -61,7 +61,7 @@ extern "C" {
 
 #[cfg(feature = "library")]
 impl Library {
-    const FILL: u8 = 0xa5;
+    pub const FILL: u8 = 0xa5;
 
     /// Number, value and the buffer afterwards.
     fn call(text: &[u8], len: usize) -> (u64, usize, Vec<u8>) {
@@ -70,7 +70,7 @@ impl Library {
         (result >> 56, (result & ((1 << 56) - 1)) as usize, catalogue)
     }
 
-    fn untouched(bytes: &[u8]) -> bool {
+    pub fn untouched(bytes: &[u8]) -> bool {
         bytes.iter().all(|&b| b == Self::FILL)
     }
 }

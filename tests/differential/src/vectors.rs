@@ -1,11 +1,12 @@
 //! The stored list of short texts with the Rust's answers.
 //!
 //! A line is a text's bytes in hexadecimal, then `=` and the catalogue's bytes in hexadecimal, or `!` and the result of a refusal as 16
-//! hexadecimal digits: number * 2^56 + place. Digits are in lower case; every line ends in a line feed.
+//! hexadecimal digits: number * 2^56 + place. Surveys stand behind them. Digits are in lower case; every line ends in a line feed.
 use crate::catalogue::{decode, encode, Record};
 use crate::check::{answer, Answer};
 use crate::generate::*;
 use crate::known;
+use crate::survey::{stored, survey, Survey};
 use std::collections::{BTreeMap, HashSet};
 
 /// The longest text and catalogue in the list, in bytes, so that a program can hold any line's in fixed buffers.
@@ -117,7 +118,15 @@ fn record_traits(r: &Record) -> Vec<String> {
     all
 }
 
-/// The list as a file, with a count by answer on standard error.
+/// A survey: the text's bytes, then `@` and the catalogue's bytes, then `+` and the report's.
+fn survey_line(text: &[u8]) -> String {
+    let Survey { catalogue, report } = survey(text);
+    let digits: String = text.iter().map(|b| format!("{b:02x}")).collect();
+    let words = |words: Vec<u64>| words.iter().map(|w| format!("{w:016x}")).collect::<String>();
+    digits + "@" + &words(catalogue) + "+" + &words(report)
+}
+
+/// The list as a file, surveys last, with a count by answer on standard error.
 pub fn print(seed: u64) {
     let list = vectors(seed);
     let mut figures: BTreeMap<u64, usize> = BTreeMap::new();
@@ -125,6 +134,8 @@ pub fn print(seed: u64) {
         println!("{}", line(text, answer));
         *figures.entry(number_of(answer)).or_default() += 1;
     }
+    let surveys = stored(seed);
+    surveys.iter().for_each(|text| println!("{}", survey_line(text)));
     let short = list.iter().filter(|(text, _)| text.len() < 80).count();
-    eprintln!("{} texts, {short} of them under 80 bytes; by number, 0 accepted: {figures:?}", list.len());
+    eprintln!("{} texts, {short} of them under 80 bytes; by number, 0 accepted: {figures:?}; {} surveys", list.len(), surveys.len());
 }
