@@ -1,2 +1,3 @@
 -- What private functions promise. No public contract rests on it.
 pub mod hoisting
+pub mod sections

@@ -2,3 +2,4 @@
 mod hoisting;
 pub mod interface;
 pub mod reading;
+mod sections;
