@@ -8,7 +8,7 @@ ghost use Rattle.items.specs.answers.items.{unhoisted-item};
 ghost use mathlib.Core.Path.{_≡_};
 ghost use Rattle.matter_idl.specs.hoisting.{no-ids, hoisted};
 ghost use Rattle.matter_idl.specs.reading.{all-items};
-ghost use Rattle.matter_idl.specs.answers.reading.{refusedBy, VerdictTo};
+ghost use Rattle.matter_idl.specs.answers.reading.{refusedBy, VerdictAtTo, VerdictTo};
 use crate::hoisting::mark_item;
 use items::counts::Count;
 use items::counts::count_lost;
@@ -59,22 +59,30 @@ fn refused_by(l: Lost) -> Verdict
     }
 }
 
-// The limit, UTF-8, then the first pass.
+// UTF-8, then the first pass.
+pub fn verdict_at(part: &[u8], base: usize) -> Verdict
+    requires { ⌜ base + length (now part) ≤ text-limit ⌝ }
+    ensures { λ r. ⌜ VerdictAtTo r base (now (part .entry)) ⌝ }
+{
+    let u = utf8_error(part, base);
+    if let Utf8::IllFormed(p) = u {
+        return Verdict::Refused(2, p);
+    }
+    let r = count_items(part, base);
+    let Count::Words(n, _) = r else {
+        return refused_by(count_lost(r));
+    };
+    Verdict::Accepted(n)
+}
+
+// The limit before them, for a whole text.
 pub fn verdict_on(text: &[u8]) -> Verdict
     ensures { λ r. ⌜ VerdictTo r (now (text .entry)) ⌝ }
 {
     if 1048575 < text.len() {
         return Verdict::Refused(1, 1048575);
     }
-    let u = utf8_error(text, 0);
-    if let Utf8::IllFormed(p) = u {
-        return Verdict::Refused(2, p);
-    }
-    let r = count_items(text, 0);
-    let Count::Words(n, _) = r else {
-        return refused_by(count_lost(r));
-    };
-    Verdict::Accepted(n)
+    verdict_at(text, 0)
 }
 
 // The second pass over all items of a text: each item's records, behind those before it, are marked as soon as they are written.

@@ -53,11 +53,11 @@ refused-outcome u n h = ap (into-catalogue layout-20 n) (h .is)
 
 module _ (u : List ℕ) (n : ℕ) {m : ℕ} (h : AcceptedTo m u) where
   bytes-now : List ℕ
-  bytes-now = catalogue-bytes layout-20 (hoisted no-ids (h .items))
+  bytes-now = catalogue-bytes layout-20 (hoisted no-ids (h .whole .items))
 
   size-now : length bytes-now ≡ 8 * m
   unfolding bytes-now
-  size-now = omega (arith, catalogue-bytes-length (hoisted no-ids (h .items)), h .words)
+  size-now = omega (arith, catalogue-bytes-length (hoisted no-ids (h .whole .items)), h .whole .words no-ids)
 
   fitted-now : read-20 u n ≡ fitted 7 n bytes-now
   unfolding reading into-catalogue bytes-now
@@ -72,14 +72,8 @@ module _ (u : List ℕ) (n : ℕ) {m : ℕ} (h : AcceptedTo m u) where
   unfolding fitted
   written-outcome e = let f : leb (length bytes-now) n ≡ true = ap (λ (i : ℕ). leb i n) size-now ∙ e in fitted-now ∙ rw (f, fitted) refl
 
-  -- there is room for the second pass
-  pub read-room : 8 * m ≤ n → Room (each unhoisted-item) all-items 0 u 0 n
-  read-room l =
-      let z : h .next - 0 ≡ h .next = omega arith in
-      record { value = h .items; next = h .next; is = rw z (h .reads); fits = omega (arith, hoisted-words no-ids (h .items), h .words, l) }
-
   pub hoisted-room : 8 * m ≤ n → Room (hoisted no-ids) all-items 0 u 0 n
-  hoisted-room l = let z : h .next - 0 ≡ h .next = omega arith in record { value = h .items; next = h .next; is = rw z (h .reads); fits = omega (arith, h .words, l) }
+  hoisted-room l = record { value = h .whole .items; next = h .whole .next; is = h .whole .reads; fits = omega (arith, h .whole .words no-ids, l) }
 
   pub written-result : leb (8 * m) n ≡ true → {x : ℕ} → x ≡ 0 * number-unit + 8 * m → x ≡ result (read-20 u n)
   unfolding result returned
@@ -90,8 +84,6 @@ module _ (u : List ℕ) (n : ℕ) {m : ℕ} (h : AcceptedTo m u) where
   pub written-left : leb (8 * m) n ≡ true → {w : Wrote} {old new : List ℕ} → Written (hoisted no-ids) all-items 0 u 0 w old new → new ≡ afterwards (read-20 u n) old
   unfolding afterwards bytes-now
   written-left e {w} {old} {new} g =
-      let z : h .next - 0 ≡ h .next = omega arith in
-      let y : ok (h .items) (h .next) (drop (h .next - 0) u) ≡ all-items 0 u = rw z (h .reads) in
-      let x = y ∙ sym (g .is) in
-      let v : g .value ≡ h .items = cc in
+      let x = h .whole .reads ∙ sym (g .is) in
+      let v : g .value ≡ h .whole .items = cc in
       g .bytes ∙ (ap (λ (l : List Item). put 0 (catalogue-bytes layout-20 (hoisted no-ids l)) old) v ∙ (put-front bytes-now old ∙ ap (λ (o : Outcome). afterwards o old) (sym (written-outcome e))))

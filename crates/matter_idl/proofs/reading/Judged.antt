@@ -1,4 +1,4 @@
--- The verdict on a text: its limit, UTF-8, and then the first pass over its items.
+-- The verdict on a part: UTF-8, and then the first pass over its items; and that on a whole text, with its limit before them.
 use mathlib.Core.Path.{_≡_, refl, sym, ap, _∙_, subst}
 use mathlib.Core.Bool.{true, false}
 use mathlib.Core.Option.{Option, none, some}
@@ -21,22 +21,22 @@ use Rattle.lexing.proofs.utf8.Laws.{utf8-inside}
 use Rattle.items.specs.items.{Item, item}
 use Rattle.items.specs.records.{each}
 use Rattle.items.specs.layout.{word-count, text-limit}
-use Rattle.items.specs.answers.{CountTo, countLost}
+use Rattle.items.specs.answers.{CountTo, countLost, Room}
 use Rattle.items.specs.answers.items.{unhoisted-item}
 use Rattle.items.specs.declared.counts.Count.{Count}
 use Rattle.items.specs.declared.counts.Count.the-variants.{Words, NoCount}
-use Rattle.items.proofs.Onward.{onward-ret, onward-bind, rest-whole}
+use Rattle.items.proofs.Onward.{onward-ret, onward-bind}
 use Rattle.items.proofs.RefusedPlaces.{RefusedIn, Placed, placed-ret, placed-bind, item-in}
 use Rattle.items.proofs.counts.Laws.{count-value, count-none}
 use Rattle.items.proofs.items.Laws.{item-walks}
 use Rattle.matter_idl.specs.hoisting.{no-ids, hoisted}
 use Rattle.matter_idl.specs.reading.{unless-ended, itemsWithin, all-items, Verdict as VerdictOf, accepted, turned-down, by-reply, by-utf8, verdict-at, verdict}
-use Rattle.matter_idl.specs.answers.reading.{refusedBy, AcceptedTo, RefusedTo, VerdictTo}
+use Rattle.matter_idl.specs.answers.reading.{refusedBy, AcceptedAt, RefusedAt, VerdictAtTo, RefusedTo, VerdictTo}
 use Rattle.matter_idl.specs.declared.reading.Verdict.{Verdict}
 use Rattle.matter_idl.specs.declared.reading.Verdict.the-variants.{Accepted, Refused}
 use Rattle.matter_idl.proofs.Places.{hoisted-words}
 
--- the place of every refusal lies in the text, and a stop's number is 4, 5 or 6
+-- the place of every refusal lies in the part, and a stop's number is 4, 5 or 6
 within-on : (n : ℕ) → Onward (itemsWithin n)
 unfolding itemsWithin unless-ended
 within-on zero = onward-ret []
@@ -50,55 +50,62 @@ all-on : Onward all-items
 unfolding all-items
 all-on = record { onward = λ b u. within-on (length u) .onward b u }
 
-module _ (t : List ℕ) where
-  within-placed : (n : ℕ) → Placed 0 t (itemsWithin n)
+module _ (b : ℕ) (t : List ℕ) where
+  within-placed : (n : ℕ) → Placed b t (itemsWithin n)
   unfolding itemsWithin unless-ended
-  within-placed zero = placed-ret 0 t []
-  within-placed (suc n) = record { places = λ b u h. go (within-placed n) u b h }
+  within-placed zero = placed-ret b t []
+  within-placed (suc n) = record { places = λ c u h. go (within-placed n) u c h }
     where
-      go : Placed 0 t (itemsWithin n) → (u : List ℕ) (b : ℕ) → Rest 0 t b u → RefusedIn 0 t (itemsWithin (suc n) b u)
-      go w [] b h = tt
-      go w (x ∷ v) b h = placed-bind 0 t item-walks (item-in 0 t) (λ i _. placed-bind 0 t (within-on n) w (λ l _. placed-ret 0 t (i ∷ l))) .places b (x ∷ v) h
+      go : Placed b t (itemsWithin n) → (u : List ℕ) (c : ℕ) → Rest b t c u → RefusedIn b t (itemsWithin (suc n) c u)
+      go w [] c h = tt
+      go w (x ∷ v) c h = placed-bind b t item-walks (item-in b t) (λ i _. placed-bind b t (within-on n) w (λ l _. placed-ret b t (i ∷ l))) .places c (x ∷ v) h
 
-  all-refused : RefusedIn 0 t (all-items 0 t)
+  all-refused : RefusedIn b t (all-items b t)
   unfolding all-items
-  all-refused = within-placed (length t) .places 0 t (rest-whole t 0 (omega arith))
+  all-refused = within-placed (length t) .places b t (rest-self b t)
 
--- a text that is too long
+module _ (b : ℕ) (u : List ℕ) where
+  -- a part that is not UTF-8
+  pub verdict-ill : (a : Utf8) (p : ℕ) → errorOf a ≡ utf8-error b u → a ≡ IllFormed p → RefusedAt 2 p b u
+  unfolding verdict-at by-utf8
+  verdict-ill a p h d =
+      let z : utf8-error b u ≡ some p = sym h ∙ ap errorOf d in
+      let i = utf8-inside b u p z in
+      record { is = ap (λ (o : Option ℕ). by-utf8 o (by-reply (all-items b u))) z; number-from = omega arith; number = omega arith; from = i .0; inside = omega (arith, i .1) }
+
+  module _ (a : Utf8) (h : errorOf a ≡ utf8-error b u) (d : a ≡ WellFormed) where
+    read-is : verdict-at b u ≡ by-reply (all-items b u)
+    unfolding verdict-at by-utf8
+    read-is = ap (λ (o : Option ℕ). by-utf8 o (by-reply (all-items b u))) (sym h ∙ ap errorOf d)
+
+    lost-fits : (l : Lost) → lostReply l ≡ all-items b u → VerdictAtTo (refusedBy l) b u
+    unfolding by-reply
+    lost-fits (Fail p) z = let k = rw (← z) at (all-refused b u) in record { is = read-is ∙ ap by-reply (sym z); number-from = omega arith; number = omega arith; from = k .after; inside = k .before }
+    lost-fits (Stop n p) z =
+        let k = rw (← z) at (all-refused b u) in
+        record { is = read-is ∙ ap by-reply (sym z); number-from = omega (arith, k .1); number = omega (arith, k .2); from = k .0 .after; inside = k .0 .before }
+
+    pub verdict-lost : (r : Count) (l l' : Lost) → CountTo (each unhoisted-item) all-items r b u → r ≡ NoCount l → l' ≡ countLost r → (v : Verdict) → v ≡ refusedBy l' → VerdictAtTo v b u
+    verdict-lost r l l' c x y v w = subst (λ (o : Verdict). VerdictAtTo o b u) (sym w) (lost-fits l' (count-none y x b u c))
+
+    pub verdict-read : (r : Count) (n c : ℕ) → CountTo (each unhoisted-item) all-items r b u → r ≡ Words n c → AcceptedAt n b u
+    unfolding by-reply
+    verdict-read r n c k x =
+        let g : CountTo (each unhoisted-item) all-items (Words n c) b u = subst (λ (o : Count). CountTo (each unhoisted-item) all-items o b u) x k in
+        let o = count-value (each unhoisted-item) all-items b u n c g in
+        let t = took all-on (rest-self b u) (o .is) in
+        record { items = o .value; next = c; is = read-is ∙ ap by-reply (sym (o .is)); reads = o .is; words = λ t. hoisted-words t (o .value) ∙ o .words; few = omega (arith, g .few, t .inside) }
+
+-- there is room for the second pass where the words fit
+pub accepted-room : {n b : ℕ} {u : List ℕ} (h : AcceptedAt n b u) {at size : ℕ} → at + 8 * n ≤ size → Room (each unhoisted-item) all-items b u at size
+accepted-room h l = record { value = h .items; next = h .next; is = h .reads; fits = omega (arith, hoisted-words no-ids (h .items), h .words no-ids, l) }
+
+-- a whole text that is too long, and one that is not
 pub verdict-long : (u : List ℕ) → leb (length u) text-limit ≡ false → RefusedTo 1 text-limit u
 unfolding verdict
 verdict-long u e = record { is = rw (e, verdict) refl; number = omega arith; value = omega arith }
 
-module _ (u : List ℕ) (e : leb (length u) text-limit ≡ true) (s : length u ≤ text-limit) where
-  short-is : verdict u ≡ by-utf8 (utf8-error 0 u) (by-reply (all-items 0 u))
-  unfolding verdict verdict-at
-  short-is = rw (e, verdict) refl
-
-  -- one that is not UTF-8
-  pub verdict-ill : (a : Utf8) (p : ℕ) → errorOf a ≡ utf8-error 0 u → a ≡ IllFormed p → RefusedTo 2 p u
-  unfolding by-utf8
-  verdict-ill a p h d =
-      let z : utf8-error 0 u ≡ some p = sym h ∙ ap errorOf d in
-      record { is = short-is ∙ ap (λ (o : Option ℕ). by-utf8 o (by-reply (all-items 0 u))) z; number = omega arith; value = omega (arith, utf8-inside 0 u p z, s) }
-
-  module _ (a : Utf8) (h : errorOf a ≡ utf8-error 0 u) (d : a ≡ WellFormed) where
-    read-is : verdict u ≡ by-reply (all-items 0 u)
-    unfolding by-utf8
-    read-is = short-is ∙ ap (λ (o : Option ℕ). by-utf8 o (by-reply (all-items 0 u))) (sym h ∙ ap errorOf d)
-
-    lost-fits : (l : Lost) → lostReply l ≡ all-items 0 u → VerdictTo (refusedBy l) u
-    unfolding by-reply
-    lost-fits (Fail p) z = let k = rw (← z) at (all-refused u) in record { is = read-is ∙ ap by-reply (sym z); number = omega arith; value = omega (arith, k .before, s) }
-    lost-fits (Stop n p) z = let k = rw (← z) at (all-refused u) in record { is = read-is ∙ ap by-reply (sym z); number = omega (arith, k .2); value = omega (arith, k .0 .before, s) }
-
-    pub verdict-lost : (r : Count) (l l' : Lost) → CountTo (each unhoisted-item) all-items r 0 u → r ≡ NoCount l → l' ≡ countLost r → (v : Verdict) → v ≡ refusedBy l' → VerdictTo v u
-    verdict-lost r l l' c x y v w = subst (λ (o : Verdict). VerdictTo o u) (sym w) (lost-fits l' (count-none y x 0 u c))
-
-    pub verdict-read : (r : Count) (n c : ℕ) → CountTo (each unhoisted-item) all-items r 0 u → r ≡ Words n c → AcceptedTo n u
-    unfolding by-reply
-    verdict-read r n c k x =
-        let g : CountTo (each unhoisted-item) all-items (Words n c) 0 u = subst (λ (o : Count). CountTo (each unhoisted-item) all-items o 0 u) x k in
-        let o = count-value (each unhoisted-item) all-items 0 u n c g in
-        let t = took all-on (rest-self 0 u) (o .is) in
-        let z : c - 0 ≡ c = omega arith in
-        record { items = o .value; next = c; is = read-is ∙ ap by-reply (sym (o .is)); reads = rw z at (o .is); short = s; words = hoisted-words no-ids (o .value) ∙ o .words; few = omega (arith, g .few, t .inside, s) }
+pub verdict-short : (u : List ℕ) → leb (length u) text-limit ≡ true → length u ≤ text-limit → (v : Verdict) → VerdictAtTo v 0 u → VerdictTo v u
+unfolding verdict
+verdict-short u e s (Accepted n) h = record { short = s; whole = h; is = rw (e, verdict) (h .is) }
+verdict-short u e s (Refused k p) h = record { is = rw (e, verdict) (h .is); number = h .number; value = omega (arith, h .inside, s) }

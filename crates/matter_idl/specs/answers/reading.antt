@@ -1,5 +1,5 @@
--- What the verdict on a text says, as that of the definition.
-use Prim.Native.Nat.{ℕ, _*_, _≤_, _<_}
+-- What the verdict on a part and on a whole text says, as that of the definition.
+use Prim.Native.Nat.{ℕ, _+_, _-_, _*_, _≤_, _<_}
 use mathlib.Core.Path.{_≡_}
 use mathlib.Core.List.{List, []}
 use lib.ListN.{length, drop}
@@ -8,8 +8,8 @@ use Rattle.lexing.specs.declared.answers.Lost.{Lost}
 use Rattle.lexing.specs.declared.answers.Lost.the-variants.{Fail, Stop}
 use Rattle.items.specs.items.{Item}
 use Rattle.items.specs.layout.{word-count, text-limit}
-use Rattle.matter_idl.specs.hoisting.{no-ids, hoisted}
-use Rattle.matter_idl.specs.reading.{all-items, Verdict as VerdictOf, accepted, turned-down, verdict}
+use Rattle.matter_idl.specs.hoisting.{Tables, hoisted}
+use Rattle.matter_idl.specs.reading.{all-items, Verdict as VerdictOf, accepted, turned-down, verdict-at, verdict}
 use Rattle.matter_idl.specs.declared.reading.Verdict.{Verdict}
 use Rattle.matter_idl.specs.declared.reading.Verdict.the-variants.{Accepted, Refused}
 
@@ -18,17 +18,34 @@ abbrev pub refusedBy : Lost → Verdict
 refusedBy (Fail p) = Refused 3 p
 refusedBy (Stop n p) = Refused n p
 
--- accepted, with the words of the catalogue
-pub record AcceptedTo (n : ℕ) (u : List ℕ) : Type 0 where
+-- a part from the offset b on is accepted, with the words of its items, whatever ids were met before them
+pub record AcceptedAt (n b : ℕ) (u : List ℕ) : Type 0 where
   pub items : List Item
   pub next : ℕ
-  pub is : verdict u ≡ accepted items
-  pub reads : ok items next (drop next u) ≡ all-items 0 u
-  pub short : length u ≤ text-limit
-  pub words : word-count (hoisted no-ids items) ≡ n
-  pub few : n ≤ 8 * text-limit
+  pub is : verdict-at b u ≡ accepted items
+  pub reads : ok items next (drop (next - b) u) ≡ all-items b u
+  pub words : (t : Tables) → word-count (hoisted t items) ≡ n
+  pub few : n ≤ 8 * length u
 
--- refused, by a number and a value that a result has room for
+-- or it is refused, by 2 to 6, at a place in it
+pub record RefusedAt (k v b : ℕ) (u : List ℕ) : Type 0 where
+  pub is : verdict-at b u ≡ turned-down k v
+  pub number-from : 1 < k
+  pub number : k < 7
+  pub from : b ≤ v
+  pub inside : v ≤ b + length u
+
+abbrev pub VerdictAtTo : Verdict → ℕ → List ℕ → Type 0
+VerdictAtTo (Accepted n) b u = AcceptedAt n b u
+VerdictAtTo (Refused k v) b u = RefusedAt k v b u
+
+-- a whole text is accepted within the limit
+pub record AcceptedTo (n : ℕ) (u : List ℕ) : Type 0 where
+  pub short : length u ≤ text-limit
+  pub whole : AcceptedAt n 0 u
+  pub is : verdict u ≡ accepted (whole .items)
+
+-- or it is refused, by a number and a value that a result has room for
 pub record RefusedTo (k v : ℕ) (u : List ℕ) : Type 0 where
   pub is : verdict u ≡ turned-down k v
   pub number : k < 7

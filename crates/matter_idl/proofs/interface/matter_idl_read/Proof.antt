@@ -6,7 +6,8 @@ use mathlib.Core.Path.{refl}
 use native.Mathlib.Omega.{arith}
 use lib.ListN.{length}
 use Rattle.items.proofs.writing.Laws.{written-same}
-use Rattle.matter_idl.proofs.interface.Outcomes.{refused-result, refused-left, told-refused, told-accepted, refused-outcome, short-outcome, read-room, hoisted-room, written-result, written-left}
+use Rattle.matter_idl.proofs.interface.Outcomes.{refused-result, refused-left, told-refused, told-accepted, refused-outcome, short-outcome, hoisted-room, written-result, written-left}
+use Rattle.matter_idl.proofs.reading.Judged.{accepted-room}
 
 verdict-on-requires : tie.Need-verdict-on-requires
 verdict-on-requires c κs = tt
@@ -21,25 +22,25 @@ enum-known-v-2 : tie.Need-enum-known-v-2
 enum-known-v-2 c = c .match .keys2
 
 mul-if1 : tie.Need-mul-if1
-mul-if1 c = let a = (told-accepted (c .before .before .before .verdict-on .result) (c .before .before .before .before .before .before .args .text .now) (c .before .before .before .verdict-on .ensures) (c .before .v2 .given .1)) in omega (arith, a .few)
+mul-if1 c = let a = (told-accepted (c .before .before .before .verdict-on .result) (c .before .before .before .before .before .before .args .text .now) (c .before .before .before .verdict-on .ensures) (c .before .v2 .given .1)) in omega (arith, a .whole .few, a .short)
 
 mul-packed : tie.Need-mul-packed
-mul-packed c = let a = (told-accepted (c .before .before .before .before .verdict-on .result) (c .before .before .before .before .before .before .before .args .text .now) (c .before .before .before .before .verdict-on .ensures) (c .before .before .v2 .given .1)) in omega (arith, a .few)
+mul-packed c = let a = (told-accepted (c .before .before .before .before .verdict-on .result) (c .before .before .before .before .before .before .before .args .text .now) (c .before .before .before .before .verdict-on .ensures) (c .before .before .v2 .given .1)) in omega (arith, a .whole .few, a .short)
 
 packed-requires-2 : tie.Need-packed-requires-2
-packed-requires-2 c κs = (omega arith, let a = (told-accepted (c .before .before .before .before .verdict-on .result) (c .before .before .before .before .before .before .before .args .text .now) (c .before .before .before .before .verdict-on .ensures) (c .before .before .v2 .given .1)) in omega (arith, a .few))
+packed-requires-2 c κs = (omega arith, let a = (told-accepted (c .before .before .before .before .verdict-on .result) (c .before .before .before .before .before .before .before .args .text .now) (c .before .before .before .before .verdict-on .ensures) (c .before .before .v2 .given .1)) in omega (arith, a .whole .few, a .short))
 
 returns : tie.Need-returns
 returns c = (refused-result (c .before .before .before .before .before .before .before .before .args .text .now) (length (now (c .before .before .before .before .before .before .before .before .args .catalogue))) (short-outcome (c .before .before .before .before .before .before .before .before .args .text .now) (length (now (c .before .before .before .before .before .before .before .before .args .catalogue))) (told-accepted (c .before .before .before .before .before .verdict-on .result) (c .before .before .before .before .before .before .before .before .args .text .now) (c .before .before .before .before .before .verdict-on .ensures) (c .before .before .before .v2 .given .1)) (lt-leb _ _ (c .before .if1 .taken))) (c .packed2 .ensures), refused-left (c .before .before .before .before .before .before .before .before .args .text .now) (length (now (c .before .before .before .before .before .before .before .before .args .catalogue))) (short-outcome (c .before .before .before .before .before .before .before .before .args .text .now) (length (now (c .before .before .before .before .before .before .before .before .args .catalogue))) (told-accepted (c .before .before .before .before .before .verdict-on .result) (c .before .before .before .before .before .before .before .before .args .text .now) (c .before .before .before .before .before .verdict-on .ensures) (c .before .before .before .v2 .given .1)) (lt-leb _ _ (c .before .if1 .taken))) (now (c .before .before .before .before .before .before .before .before .args .catalogue)))
 
 write-hoisted-requires : tie.Need-write-hoisted-requires
-write-hoisted-requires c κs = ((told-accepted (c .before .before .before .before .before .verdict-on .result) (c .before .before .before .before .before .before .before .before .args .text .now) (c .before .before .before .before .before .verdict-on .ensures) (c .before .before .before .v2 .given .1)) .short, read-room (c .before .before .before .before .before .before .before .before .args .text .now) (length (now (c .before .before .before .before .before .before .before .before .args .catalogue))) (told-accepted (c .before .before .before .before .before .verdict-on .result) (c .before .before .before .before .before .before .before .before .args .text .now) (c .before .before .before .before .before .verdict-on .ensures) (c .before .before .before .v2 .given .1)) (c .before .if1 .left))
+write-hoisted-requires c κs = ((told-accepted (c .before .before .before .before .before .verdict-on .result) (c .before .before .before .before .before .before .before .before .args .text .now) (c .before .before .before .before .before .verdict-on .ensures) (c .before .before .before .v2 .given .1)) .short, accepted-room ((told-accepted (c .before .before .before .before .before .verdict-on .result) (c .before .before .before .before .before .before .before .before .args .text .now) (c .before .before .before .before .before .verdict-on .ensures) (c .before .before .before .v2 .given .1)) .whole) (omega (arith, c .before .if1 .left)))
 
 mul-packed-2 : tie.Need-mul-packed-2
-mul-packed-2 c = let a = (told-accepted (c .before .before .before .before .before .before .before .before .verdict-on .result) (c .before .before .before .before .before .before .before .before .before .before .before .args .text .now) (c .before .before .before .before .before .before .before .before .verdict-on .ensures) (c .before .before .before .before .before .before .v2 .given .1)) in omega (arith, a .few)
+mul-packed-2 c = let a = (told-accepted (c .before .before .before .before .before .before .before .before .verdict-on .result) (c .before .before .before .before .before .before .before .before .before .before .before .args .text .now) (c .before .before .before .before .before .before .before .before .verdict-on .ensures) (c .before .before .before .before .before .before .v2 .given .1)) in omega (arith, a .whole .few, a .short)
 
 packed-requires-3 : tie.Need-packed-requires-3
-packed-requires-3 c κs = (omega arith, let a = (told-accepted (c .before .before .before .before .before .before .before .before .verdict-on .result) (c .before .before .before .before .before .before .before .before .before .before .before .args .text .now) (c .before .before .before .before .before .before .before .before .verdict-on .ensures) (c .before .before .before .before .before .before .v2 .given .1)) in omega (arith, a .few))
+packed-requires-3 c κs = (omega arith, let a = (told-accepted (c .before .before .before .before .before .before .before .before .verdict-on .result) (c .before .before .before .before .before .before .before .before .before .before .before .args .text .now) (c .before .before .before .before .before .before .before .before .verdict-on .ensures) (c .before .before .before .before .before .before .v2 .given .1)) in omega (arith, a .whole .few, a .short))
 
 returns-2 : tie.Need-returns-2
 returns-2 c = (refused-result (c .before .before .before .before .before .before .before .args .text .now) (length (now (c .before .before .before .before .before .before .before .args .catalogue))) (refused-outcome (c .before .before .before .before .before .before .before .args .text .now) (length (now (c .before .before .before .before .before .before .before .args .catalogue))) (told-refused (c .before .before .before .before .verdict-on .result) (c .before .before .before .before .before .before .before .args .text .now) (c .before .before .before .before .verdict-on .ensures) (c .before .before .v .given .1))) (c .packed .ensures), refused-left (c .before .before .before .before .before .before .before .args .text .now) (length (now (c .before .before .before .before .before .before .before .args .catalogue))) (refused-outcome (c .before .before .before .before .before .before .before .args .text .now) (length (now (c .before .before .before .before .before .before .before .args .catalogue))) (told-refused (c .before .before .before .before .verdict-on .result) (c .before .before .before .before .before .before .before .args .text .now) (c .before .before .before .before .verdict-on .ensures) (c .before .before .v .given .1))) (now (c .before .before .before .before .before .before .before .args .catalogue)))
