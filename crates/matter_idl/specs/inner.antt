@@ -1,3 +1,4 @@
 -- What private functions promise. No public contract rests on it.
 pub mod hoisting
 pub mod sections
+pub mod survey

@@ -3,3 +3,4 @@ mod hoisting;
 pub mod interface;
 pub mod reading;
 mod sections;
+mod survey;

@@ -2,7 +2,7 @@
 ghost use mathlib.Core.Path.{_≡_};
 ghost use Prim.Native.Nat.{_+_, _-_, _≤_, _<_};
 ghost use lib.Dec.{eqb};
-ghost use lib.ListN.{length, getD};
+ghost use lib.ListN.{length, take, drop, getD};
 ghost use Rattle.matter_idl.specs.sections.{line-feed, cut-after, sections};
 ghost use Rattle.matter_idl.specs.inner.sections.{FirstSection};
 
@@ -47,4 +47,13 @@ pub fn count_sections(text: &[u8]) -> usize
         i += 1;
     }
     n
+}
+
+// The bytes between two offsets of a text.
+pub fn section_at(text: &[u8], start: usize, end: usize) -> &[u8]
+    requires { ⌜ start ≤ end ⌝ }
+    requires { ⌜ end ≤ length (now text) ⌝ }
+    ensures { λ r. ⌜ now r ≡ take (end - start) (drop start (now (text .entry))) ⌝ }
+{
+    &text[start..end]
 }
