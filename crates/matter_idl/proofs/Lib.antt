@@ -6,3 +6,5 @@ pub mod KnownAnswers
 pub mod AllItems
 -- the places of records
 pub mod Places
+-- truth of a part and of its text
+pub mod Around

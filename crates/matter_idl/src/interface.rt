@@ -8,7 +8,7 @@ ghost use Rattle.matter_idl.specs.reading.{reading};
 ghost use Rattle.matter_idl.specs.interface.{value-limit, number-unit, result, unescaping};
 use crate::reading::Verdict;
 use crate::reading::verdict_on;
-use crate::reading::write_hoisted;
+use crate::reading::write_items;
 use lexing::unescaping::Unescaping;
 use lexing::unescaping::unescape;
 
@@ -32,7 +32,7 @@ pub extern "C" fn matter_idl_read(text: &[u8], catalogue: &mut [u8]) -> u64
             if catalogue.len() < 8 * n {
                 return packed(7, 8 * n);
             }
-            write_hoisted(text, catalogue);
+            write_items(text, text, 0, catalogue, 0);
             packed(0, 8 * n)
         }
     }

@@ -3,12 +3,12 @@ ghost use Prim.Native.Nat.{_+_, _≤_};
 ghost use lib.ListN.{length};
 ghost use Rattle.items.specs.layout.{text-limit};
 ghost use Rattle.items.specs.records.{each};
-ghost use Rattle.items.specs.answers.{CountTo, Room, Written};
+ghost use Rattle.items.specs.answers.{CountTo, Room};
 ghost use Rattle.items.specs.answers.items.{unhoisted-item};
 ghost use mathlib.Core.Path.{_≡_};
-ghost use Rattle.matter_idl.specs.hoisting.{no-ids, hoisted};
 ghost use Rattle.matter_idl.specs.reading.{all-items};
 ghost use Rattle.matter_idl.specs.answers.reading.{refusedBy, VerdictAtTo, VerdictTo};
+ghost use Rattle.matter_idl.specs.inner.reading.{PartOf, HoistedFront, HoistedItemsTo};
 use crate::hoisting::mark_item;
 use items::counts::Count;
 use items::counts::count_lost;
@@ -85,22 +85,25 @@ pub fn verdict_on(text: &[u8]) -> Verdict
     verdict_at(text, 0)
 }
 
-// The second pass over all items of a text: each item's records, behind those before it, are marked as soon as they are written.
-pub fn write_hoisted(text: &[u8], out: &mut [u8]) -> Wrote
+// The second pass over all items of a part of the text, behind the records of earlier items: each item's records are marked as soon as they are written.
+pub fn write_items(text: &[u8], part: &[u8], base: usize, out: &mut [u8], at: usize) -> Wrote
     requires { ⌜ length (now text) ≤ text-limit ⌝ }
-    requires { ⌜ Room (each unhoisted-item) all-items 0 (now text) 0 (length (now out)) ⌝ }
-    ensures { λ r. ⌜ Written (hoisted no-ids) all-items 0 (now (text .entry)) 0 r (now (out .entry)) (now (out .exit)) ⌝ }
+    requires { ⌜ PartOf (now text) base (now part) ⌝ }
+    requires { ⌜ Room (each unhoisted-item) all-items base (now part) at (length (now out)) ⌝ }
+    requires { ⌜ HoistedFront (now text) (now out) at ⌝ }
+    ensures { λ r. ⌜ HoistedItemsTo (now (out .exit)) (now (text .entry)) (now (out .entry)) at base (now (part .entry)) r ⌝ }
 {
-    let mut c = 0;
-    let mut to = 0;
+    let end = base + part.len();
+    let mut c = base;
+    let mut to = at;
     loop {
-        let w = whitespace0(rest_at(text, 0, c), c);
+        let w = whitespace0(rest_at(part, base, c), c);
         let start = w.next;
-        if start == text.len() {
+        if start == end {
             return Wrote { next: start, to };
         }
         let doc = w.doc;
-        let wrote = write_declaration(rest_at(text, 0, start), start, doc, out, to);
+        let wrote = write_declaration(rest_at(part, base, start), start, doc, out, to);
         mark_item(text, out, to, wrote.to);
         c = wrote.next;
         to = wrote.to;

@@ -134,11 +134,15 @@ module _ (text : List ℕ) (n : ℕ) (before : List Record) (t : Tables) (agree 
   item-marked (struct-item s) h = struct-kept s
   item-marked blank-item h = refl
 
--- hoisting one item more
-pub hoisted-more : (t : Tables) (l : List Item) (i : Item) → hoisted t (l ++ (i ∷ [])) ≡ hoisted t l ++ item-records 1 (place-by (after-items t l)) i
+-- hoisting goes on with the tables of the items before, and one item more
+pub hoisted-append : (t : Tables) (k l : List Item) → hoisted t (k ++ l) ≡ hoisted t k ++ hoisted (after-items t k) l
 unfolding hoisted after-items
-hoisted-more t [] i = append-nil _
-hoisted-more t (x ∷ l) i = rw (hoisted-more (after-item t x) l i) (sym (append-assoc (item-records 1 (place-by t) x) _ _))
+hoisted-append t [] l = refl
+hoisted-append t (x ∷ k) l = rw (hoisted-append (after-item t x) k l) (sym (append-assoc (item-records 1 (place-by t) x) _ _))
+
+pub hoisted-more : (t : Tables) (l : List Item) (i : Item) → hoisted t (l ++ (i ∷ [])) ≡ hoisted t l ++ item-records 1 (place-by (after-items t l)) i
+unfolding hoisted
+hoisted-more t l i = hoisted-append t l (i ∷ []) ∙ ap (λ x. hoisted t l ++ x) (append-nil _)
 
 pub marking : (text : List ℕ) (n : ℕ) (l : List Item) (i : Item) → All (ItemTrue 0 text n) l → ItemTrue 0 text n i → hoisted no-ids l ++ map (marked text (hoisted no-ids l)) (unhoisted-item i) ≡ hoisted no-ids (l ++ (i ∷ []))
 marking text n l i h k = ap (λ x. hoisted no-ids l ++ x) (item-marked text n (hoisted no-ids l) (after-items no-ids l) (λ K j. by-search text n j K l h) i k) ∙ sym (hoisted-more no-ids l i)

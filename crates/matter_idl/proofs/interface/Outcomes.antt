@@ -9,11 +9,7 @@ use lib.ListN.{length, take, drop}
 use Rattle.lexing.specs.reply.{ok}
 use Rattle.lexing.specs.outcomes.{Outcome, refused, written, fitted, returned, afterwards}
 use Rattle.items.specs.items.{Item}
-use Rattle.items.specs.records.{each}
 use Rattle.items.specs.layout.{layout-20, catalogue-bytes, word-count, text-limit}
-use Rattle.items.specs.buffers.{put}
-use Rattle.items.specs.answers.{Room, Written}
-use Rattle.items.specs.answers.items.{unhoisted-item}
 use Rattle.items.specs.declared.writing.Wrote.{Wrote}
 use Rattle.items.proofs.RecordWords.{catalogue-bytes-length}
 use Rattle.matter_idl.specs.hoisting.{no-ids, hoisted}
@@ -22,14 +18,11 @@ use Rattle.matter_idl.specs.interface.{number-unit, value-limit, result}
 use Rattle.matter_idl.specs.answers.reading.{AcceptedTo, RefusedTo, VerdictTo}
 use Rattle.matter_idl.specs.declared.reading.Verdict.{Verdict}
 use Rattle.matter_idl.specs.declared.reading.Verdict.the-variants.{Accepted, Refused}
-use Rattle.matter_idl.proofs.Places.{hoisted-words}
+use Rattle.matter_idl.specs.inner.reading.{HoistedItemsTo}
+use Rattle.matter_idl.proofs.reading.Marked.{hoisted-alone}
 
 abbrev pub read-20 : List ℕ → ℕ → Outcome
 read-20 u n = reading layout-20 u n
-
-pub put-front : (xs l : List ℕ) → put 0 xs l ≡ xs ++ drop (length xs) l
-unfolding put
-put-front xs l = let z : 0 + length xs ≡ length xs = omega arith in rw z refl
 
 -- a refusal, of a known outcome: number and value, and the buffer is as it was
 module _ (u : List ℕ) (n : ℕ) {k v : ℕ} (e : read-20 u n ≡ refused k v) where
@@ -72,18 +65,12 @@ module _ (u : List ℕ) (n : ℕ) {m : ℕ} (h : AcceptedTo m u) where
   unfolding fitted
   written-outcome e = let f : leb (length bytes-now) n ≡ true = ap (λ (i : ℕ). leb i n) size-now ∙ e in fitted-now ∙ rw (f, fitted) refl
 
-  pub hoisted-room : 8 * m ≤ n → Room (hoisted no-ids) all-items 0 u 0 n
-  hoisted-room l = record { value = h .whole .items; next = h .whole .next; is = h .whole .reads; fits = omega (arith, h .whole .words no-ids, l) }
-
   pub written-result : leb (8 * m) n ≡ true → {x : ℕ} → x ≡ 0 * number-unit + 8 * m → x ≡ result (read-20 u n)
   unfolding result returned
   written-result e {x} d =
       let z : x ≡ 0 * number-unit + length bytes-now = omega (arith, d, size-now) in
       z ∙ ap result (sym (written-outcome e))
 
-  pub written-left : leb (8 * m) n ≡ true → {w : Wrote} {old new : List ℕ} → Written (hoisted no-ids) all-items 0 u 0 w old new → new ≡ afterwards (read-20 u n) old
+  pub written-left : leb (8 * m) n ≡ true → {w : Wrote} {old new : List ℕ} → HoistedItemsTo new u old 0 0 u w → new ≡ afterwards (read-20 u n) old
   unfolding afterwards bytes-now
-  written-left e {w} {old} {new} g =
-      let x = h .whole .reads ∙ sym (g .is) in
-      let v : g .value ≡ h .whole .items = cc in
-      g .bytes ∙ (ap (λ (l : List Item). put 0 (catalogue-bytes layout-20 (hoisted no-ids l)) old) v ∙ (put-front bytes-now old ∙ ap (λ (o : Outcome). afterwards o old) (sym (written-outcome e))))
+  written-left e {old = old} g = hoisted-alone g (h .whole .reads) ∙ (ap (λ (k : ℕ). bytes-now ++ drop k old) (sym (catalogue-bytes-length (hoisted no-ids (h .whole .items)))) ∙ ap (λ (o : Outcome). afterwards o old) (sym (written-outcome e)))

@@ -27,6 +27,7 @@ use Rattle.items.specs.declared.writing.Wrote.{Wrote}
 use Rattle.items.specs.declared.counts.Count.{Count}
 use Rattle.items.specs.declared.counts.Count.the-variants.{Words, NoCount}
 use Rattle.items.proofs.Locality.{item-consumes}
+use Rattle.items.proofs.RecordsFit.{all-append}
 use Rattle.items.proofs.RecordWords.{Elementwise, each-elementwise, catalogue-bytes-none, catalogue-bytes-append, catalogue-bytes-length}
 use Rattle.items.proofs.Braces.{rest-is}
 use Rattle.items.proofs.Tries.{then-ok, then-fail}
@@ -35,7 +36,7 @@ use Rattle.items.proofs.counts.Laws.{Counting, counting-start, counting-more, c
 use Rattle.items.proofs.items.Laws.{item-is, declaration-walks, item-walks, item-words, item-lost, item-blank}
 use Rattle.items.proofs.items.Ends.{item-cases}
 use Rattle.items.proofs.writing.Laws.{Writing, writing-start, writing-start-seen, writing-same, writing-fits, writing-more, writing-more-seen, no-room, put-nothing, put-length, put-on}
-use Rattle.matter_idl.specs.hoisting.{no-ids, place-by, hoisted}
+use Rattle.matter_idl.specs.hoisting.{Tables, place-by, hoisted}
 use Rattle.matter_idl.specs.reading.{all-items}
 use Rattle.matter_idl.proofs.Places.{hoisted-words, item-words as words-of-places}
 use Rattle.matter_idl.proofs.hoisting.Search.{after-items}
@@ -191,30 +192,26 @@ module _ (b : ℕ) (u : List ℕ) (at : ℕ) (old : List ℕ) (room : Room (each
             find (fail p) y = absurd (lost (Fail p) (sym y))
             find (stop k p) y = absurd (lost (Stop k p) (sym y))
 
--- The second pass with hoisting: the records of the items so far stand in the buffer, marked. Had none been marked, another buffer would stand there, of which the laws above speak.
-pub record HoistingItems (b : ℕ) (u : List ℕ) (c at : ℕ) (old new : List ℕ) (to : ℕ) : Type 0 where
+-- The second pass with hoisting, from the tables ts of earlier items on: the records of the items so far stand in the buffer, marked. Had none been marked, another buffer would stand there, of which the laws above speak.
+pub record HoistingItems (ts : Tables) (b : ℕ) (u : List ℕ) (c at : ℕ) (old new : List ℕ) (to : ℕ) : Type 0 where
   pub plain : List ℕ
   pub writing : WritingItems b u c at old plain to
   pub true-items : All (ItemTrue b u (b + length u)) (writing .seen)
-  pub bytes : new ≡ put at (catalogue-bytes layout-20 (hoisted no-ids (writing .seen))) old
-
-all-more : {A : Type 0} (Q : A → Type 0) (l : List A) (a : A) → All Q l → Q a → All Q (l ++ (a ∷ []))
-all-more Q [] a h k = (k, tt)
-all-more Q (x ∷ l) a h k = (h .0, all-more Q l a (h .1) k)
+  pub bytes : new ≡ put at (catalogue-bytes layout-20 (hoisted ts (writing .seen))) old
 
 -- an item without words changes nothing
-wordless : (seen : List Item) (x : Item) → word-count (unhoisted-item x) ≡ 0 → catalogue-bytes layout-20 (hoisted no-ids (seen ++ (x ∷ []))) ≡ catalogue-bytes layout-20 (hoisted no-ids seen)
-wordless seen x e =
-    let f = place-by (after-items no-ids seen) in
+wordless : (ts : Tables) (seen : List Item) (x : Item) → word-count (unhoisted-item x) ≡ 0 → catalogue-bytes layout-20 (hoisted ts (seen ++ (x ∷ []))) ≡ catalogue-bytes layout-20 (hoisted ts seen)
+wordless ts seen x e =
+    let f = place-by (after-items ts seen) in
     let z : catalogue-bytes layout-20 (item-records 1 f x) ≡ [] = nothing-left _ (omega (arith, catalogue-bytes-length (item-records 1 f x), words-of-places 1 1 f (λ m. 0) x, e)) in
-    ap (catalogue-bytes layout-20) (hoisted-more no-ids seen x) ∙ (catalogue-bytes-append layout-20 (hoisted no-ids seen) (item-records 1 f x) ∙ (ap (λ l. catalogue-bytes layout-20 (hoisted no-ids seen) ++ l) z ∙ append-nil _))
+    ap (catalogue-bytes layout-20) (hoisted-more ts seen x) ∙ (catalogue-bytes-append layout-20 (hoisted ts seen) (item-records 1 f x) ∙ (ap (λ l. catalogue-bytes layout-20 (hoisted ts seen) ++ l) z ∙ append-nil _))
 
-module _ (b : ℕ) (u : List ℕ) (at : ℕ) (old : List ℕ) (room : Room (each unhoisted-item) all-items b u at (length old)) where
+module _ (ts : Tables) (b : ℕ) (u : List ℕ) (at : ℕ) (old : List ℕ) (room : Room (each unhoisted-item) all-items b u at (length old)) where
   start-seen : placing-start b u at old room .seen ≡ []
   unfolding placing-start
   start-seen = writing-start-seen items-one item b u at old (many b u at old room)
 
-  pub hoisting-start : HoistingItems b u b at old old at
+  pub hoisting-start : HoistingItems ts b u b at old old at
   unfolding hoisted
   hoisting-start =
       let e = start-seen in
@@ -222,18 +219,22 @@ module _ (b : ℕ) (u : List ℕ) (at : ℕ) (old : List ℕ) (room : Room (each
         plain = old;
         writing = placing-start b u at old room;
         true-items = subst (λ (l : List Item). All (ItemTrue b u (b + length u)) l) (sym e) tt;
-        bytes = sym (ap (λ (l : List Item). put at (catalogue-bytes layout-20 (hoisted no-ids l)) old) e ∙ rw (catalogue-bytes-none layout-20) (put-nothing at old));
+        bytes = sym (ap (λ (l : List Item). put at (catalogue-bytes layout-20 (hoisted ts l)) old) e ∙ rw (catalogue-bytes-none layout-20) (put-nothing at old));
       }
 
-  module _ {c : ℕ} {new : List ℕ} {to : ℕ} (i : HoistingItems b u c at old new to) where
+  module _ {c : ℕ} {new : List ℕ} {to : ℕ} (i : HoistingItems ts b u c at old new to) where
     abbrev seen-now : List Item
     seen-now = i .writing .seen
 
-    pub hoisting-place : to ≡ at + 8 * word-count (hoisted no-ids seen-now)
-    hoisting-place = omega (arith, i .writing .place, hoisted-words no-ids seen-now)
+    pub hoisting-place : to ≡ at + 8 * word-count (hoisted ts seen-now)
+    hoisting-place = omega (arith, i .writing .place, hoisted-words ts seen-now)
 
     pub hoisting-same : length new ≡ length old
-    hoisting-same = ap length (i .bytes) ∙ put-length at (catalogue-bytes layout-20 (hoisted no-ids seen-now)) old (omega (arith, catalogue-bytes-length (hoisted no-ids seen-now), hoisting-place, i .writing .fits))
+    hoisting-same = ap length (i .bytes) ∙ put-length at (catalogue-bytes layout-20 (hoisted ts seen-now)) old (omega (arith, catalogue-bytes-length (hoisted ts seen-now), hoisting-place, i .writing .fits))
+
+    -- an item more is true
+    true-more : {a : Item} {n : ℕ} → Took item b u c a n → All (ItemTrue b u (b + length u)) (seen-now ++ (a ∷ []))
+    true-more {a} h = all-append (ItemTrue b u (b + length u)) seen-now (a ∷ []) (i .true-items) (item-true b u (b + length u) (rest-from b c u (i .writing .run .from) (i .writing .run .inside)) (h .goes) (h .inside), tt)
 
     module _ {r : List ℕ} (q : Rest b u c r) {t : Blank} (w : BlankTo t c r) where
       module _ {v : List ℕ} (q' : Rest b u (t .next) v) where
@@ -244,12 +245,12 @@ module _ (b : ℕ) (u : List ℕ) (at : ℕ) (old : List ℕ) (room : Room (each
 
         module _ {o : Wrote} {new' : List ℕ} (g : Written unhoisted-item (declaration (docOf (t .doc))) (t .next) v to o new new') where
           -- the item's records behind those before it, not yet marked
-          pub hoisting-written : new' ≡ put at (catalogue-bytes layout-20 (hoisted no-ids seen-now ++ unhoisted-item (g .value))) old
+          pub hoisting-written : new' ≡ put at (catalogue-bytes layout-20 (hoisted ts seen-now ++ unhoisted-item (g .value))) old
           hoisting-written =
               let x = room-left in
-              rw (catalogue-bytes-append layout-20 (hoisted no-ids seen-now) (unhoisted-item (g .value))) (
-              put-on at to (catalogue-bytes layout-20 (hoisted no-ids seen-now)) (catalogue-bytes layout-20 (unhoisted-item (g .value))) old new new'
-              (omega (arith, hoisting-place, catalogue-bytes-length (hoisted no-ids seen-now)))
+              rw (catalogue-bytes-append layout-20 (hoisted ts seen-now) (unhoisted-item (g .value))) (
+              put-on at to (catalogue-bytes layout-20 (hoisted ts seen-now)) (catalogue-bytes layout-20 (unhoisted-item (g .value))) old new new'
+              (omega (arith, hoisting-place, catalogue-bytes-length (hoisted ts seen-now)))
               (omega (arith, x, catalogue-bytes-length (unhoisted-item (g .value))))
               (i .bytes)
               (g .bytes)
@@ -270,34 +271,36 @@ module _ (b : ℕ) (u : List ℕ) (at : ℕ) (old : List ℕ) (room : Room (each
           read-here = there b u at old room (i .writing) q w q' (g .is)
 
           pub hoisting-true : All (ItemTrue b u (b + length u)) (seen-now ++ (g .value ∷ []))
-          hoisting-true = all-more (ItemTrue b u (b + length u)) seen-now (g .value) (i .true-items) (item-true b u (b + length u) (rest-from b c u (i .writing .run .from) (i .writing .run .inside)) (read-here .goes) (read-here .inside))
+          hoisting-true = true-more read-here
 
-          pub hoisting-more : {new'' : List ℕ} → new'' ≡ put at (catalogue-bytes layout-20 (hoisted no-ids (seen-now ++ (g .value ∷ [])))) old → HoistingItems b u (o .next) at old new'' (o .to) × (c < o .next)
+          pub hoisting-more : {new'' : List ℕ} → new'' ≡ put at (catalogue-bytes layout-20 (hoisted ts (seen-now ++ (g .value ∷ [])))) old → HoistingItems ts b u (o .next) at old new'' (o .to) × (c < o .next)
           hoisting-more {new''} e =
               let k = word-count (unhoisted-item (g .value)) in
               let x = writing-more items-one item b u at old (many b u at old room) (i .writing) item-consumes read-here k refl plain-next plain-is in
               let y = writing-fits items-one item b u at old (many b u at old room) (i .writing) item-consumes read-here k refl in
               let z = writing-more-seen items-one item b u at old (many b u at old room) (i .writing) item-consumes read-here k refl plain-next plain-is in
-              let h : HoistingItems b u (o .next) at old new'' (to + 8 * k) = record {
+              let h : HoistingItems ts b u (o .next) at old new'' (to + 8 * k) = record {
                 plain = plain-next;
                 writing = x;
                 true-items = subst (λ (l : List Item). All (ItemTrue b u (b + length u)) l) (sym z) hoisting-true;
-                bytes = e ∙ ap (λ (l : List Item). put at (catalogue-bytes layout-20 (hoisted no-ids l)) old) (sym z);
+                bytes = e ∙ ap (λ (l : List Item). put at (catalogue-bytes layout-20 (hoisted ts l)) old) (sym z);
               } in
-              (subst (λ (n : ℕ). HoistingItems b u (o .next) at old new'' n) (sym (g .place)) h, y .1 .0)
+              (subst (λ (n : ℕ). HoistingItems ts b u (o .next) at old new'' n) (sym (g .place)) h, y .1 .0)
 
-      -- the end of the text, behind blanks that may be an item of their own
-      pub hoisting-ends : t .next ≡ b + length u → Written (hoisted no-ids) all-items b u at (record { next = t .next; to = to }) old new
+      -- the end of the part, behind blanks that may be an item of their own
+      abbrev Ended : Type 0
+      Ended = (k : Written (hoisted ts) all-items b u at (record { next = t .next; to = to }) old new) × All (ItemTrue b u (b + length u)) (k .value)
+
+      pub hoisting-ends : t .next ≡ b + length u → Ended
       hoisting-ends e = finish (ℕ-discrete (t .next) c)
         where
-          done-with : (l : List Item) → ManyAt item b u (t .next) l → catalogue-bytes layout-20 (hoisted no-ids l) ≡ catalogue-bytes layout-20 (hoisted no-ids seen-now) → word-count (hoisted no-ids l) ≡ word-count (hoisted no-ids seen-now)
-              → Written (hoisted no-ids) all-items b u at (record { next = t .next; to = to }) old new
-          done-with l m x y = record { value = l; is = all-ended m (end-rest q w e) (end-none q w e); place = omega (arith, hoisting-place, y); bytes = i .bytes ∙ ap (λ (xs : List ℕ). put at xs old) (sym x) }
+          done-with : (l : List Item) → ManyAt item b u (t .next) l → All (ItemTrue b u (b + length u)) l → catalogue-bytes layout-20 (hoisted ts l) ≡ catalogue-bytes layout-20 (hoisted ts seen-now) → Ended
+          done-with l m h x =
+              let y : word-count (hoisted ts l) ≡ word-count (hoisted ts seen-now) = omega (arith, ap length x, catalogue-bytes-length (hoisted ts l), catalogue-bytes-length (hoisted ts seen-now)) in
+              (record { value = l; is = all-ended m (end-rest q w e) (end-none q w e); place = omega (arith, hoisting-place, y); bytes = i .bytes ∙ ap (λ (xs : List ℕ). put at xs old) (sym x) }, h)
 
-          finish : Dec (t .next ≡ c) → Written (hoisted no-ids) all-items b u at (record { next = t .next; to = to }) old new
-          finish (yes y) = done-with seen-now (subst (λ (n : ℕ). ManyAt item b u n seen-now) (sym y) (i .writing .run)) refl refl
+          finish : Dec (t .next ≡ c) → Ended
+          finish (yes y) = done-with seen-now (subst (λ (n : ℕ). ManyAt item b u n seen-now) (sym y) (i .writing .run)) (i .true-items) refl
           finish (no y) =
               let s = count-took item-walks q refl (item-blank w (rest-within q (end-rest q w e) (w .up)) (end-lost q w e) y refl refl) in
-              let l = seen-now ++ (s .value ∷ []) in
-              let z = wordless seen-now (s .value) (s .words) in
-              done-with l (many0-step item-consumes (i .writing .run) (s .step) .0) z (omega (arith, ap length z, catalogue-bytes-length (hoisted no-ids l), catalogue-bytes-length (hoisted no-ids seen-now)))
+              done-with (seen-now ++ (s .value ∷ [])) (many0-step item-consumes (i .writing .run) (s .step) .0) (true-more (s .step)) (wordless ts seen-now (s .value) (s .words))

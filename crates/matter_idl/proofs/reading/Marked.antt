@@ -1,63 +1,165 @@
--- A turn of the second pass: an item's records are written behind those before it, and then marked.
+-- The second pass behind the records of earlier items: a turn writes an item's records and then marks them, and at the end all items stand at the front of the buffer.
 use mathlib.Core.Path.{_≡_, refl, sym, ap, _∙_, subst}
-use mathlib.Core.List.{List, [], _∷_, _++_}
+use mathlib.Core.List.{List, [], _∷_, _++_, append-assoc}
 use Prim.Native.Nat.{ℕ, _+_, _-_, _*_, _≤_, _<_}
 use native.Mathlib.Omega.{arith}
-use lib.ListN.{length, drop}
+use native.Mathlib.Nat.{add-zero}
+use lib.ListN.{length, take, drop, length-append, length-drop}
+use lib.Seq.{take-at, drop-append-add}
+use Rattle.lexing.specs.reply.{ok}
 use Rattle.lexing.specs.answers.{Rest, docOf, BlankTo}
 use Rattle.lexing.specs.declared.blanks.Blank.{Blank}
 use Rattle.items.specs.items.{Item, declaration}
-use Rattle.items.specs.records.{each}
+use Rattle.items.specs.records.{Record, each}
 use Rattle.items.specs.layout.{layout-20, catalogue-bytes, word-count}
 use Rattle.items.specs.buffers.{put}
 use Rattle.items.specs.answers.{Room, Written}
 use Rattle.items.specs.answers.items.{unhoisted-item}
 use Rattle.items.specs.declared.writing.Wrote.{Wrote}
 use Rattle.items.proofs.Truth.{All, ItemTrue}
-use Rattle.items.proofs.RecordWords.{each-elementwise, word-count-more, word-count-append, catalogue-bytes-length}
-use Rattle.matter_idl.specs.hoisting.{no-ids, hoisted}
+use Rattle.items.proofs.RecordsFit.{all-append}
+use Rattle.items.proofs.RecordWords.{catalogue-bytes-none, catalogue-bytes-append, catalogue-bytes-length, word-count-none, word-count-append, word-count-more, each-elementwise}
+use Rattle.matter_idl.specs.hoisting.{Tables, no-ids, hoisted}
 use Rattle.matter_idl.specs.reading.{all-items}
 use Rattle.matter_idl.specs.inner.hoisting.{Unhoisted, HoistedTo}
+use Rattle.matter_idl.specs.inner.reading.{PartOf, HoistedFront, HoistedBehind, HoistedItemsTo}
+use Rattle.matter_idl.proofs.Around.{item-whole, items-whole}
 use Rattle.matter_idl.proofs.Places.{hoisted-words}
-use Rattle.matter_idl.proofs.interface.Outcomes.{put-front}
-use Rattle.matter_idl.proofs.reading.Laws.{HoistingItems, hoisting-place, hoisting-written, hoisting-true, hoisting-more}
+use Rattle.matter_idl.proofs.hoisting.Search.{after-items}
+use Rattle.matter_idl.proofs.hoisting.Marks.{hoisted-append}
+use Rattle.matter_idl.proofs.reading.Laws.{HoistingItems, hoisting-start, hoisting-place, hoisting-written, hoisting-true, hoisting-more, hoisting-ends}
 
 -- the last of a list that holds a predicate
 all-last : {A : Type 0} (Q : A → Type 0) (l : List A) (a : A) → All Q (l ++ (a ∷ [])) → Q a
 all-last Q [] a h = h .0
 all-last Q (x ∷ l) a h = all-last Q l a (h .1)
 
-module _ (u old : List ℕ) (room : Room (each unhoisted-item) all-items 0 u 0 (length old)) {c : ℕ} {new : List ℕ} {to : ℕ} (i : HoistingItems 0 u c 0 old new to)
-    {r : List ℕ} (q : Rest 0 u c r) {t : Blank} (w : BlankTo t c r) {v : List ℕ} (q' : Rest 0 u (t .next) v) {o : Wrote} {new' : List ℕ} (g : Written unhoisted-item (declaration (docOf (t .doc))) (t .next) v to o new new') where
-  abbrev seen : List Item
-  seen = i .writing .seen
+-- bytes written behind the first of a buffer
+put-behind : (at : ℕ) (front xs tail : List ℕ) → at ≡ length front → put at xs (front ++ tail) ≡ front ++ (xs ++ drop (length xs) tail)
+unfolding put
+put-behind at front xs tail e = rw (e, take-at front tail (length front) refl, drop-append-add front tail (length xs)) refl
 
-  whole-end : 0 + length u ≡ length u
-  whole-end = omega arith
+-- a buffer before which nothing is written
+pub front-none : (t out : List ℕ) → HoistedFront t out 0
+unfolding hoisted
+front-none t out = record { items = []; true-items = tt; tail = out; bytes = rw (catalogue-bytes-none layout-20) refl; ends = omega (arith, word-count-none) }
 
-  -- what stands in the buffer
-  before-marking : List ℕ
-  before-marking = catalogue-bytes layout-20 (hoisted no-ids seen ++ unhoisted-item (g .value))
+module _ {t old : List ℕ} {at : ℕ} (f : HoistedFront t old at) where
+  abbrev tables : Tables
+  tables = after-items no-ids (f .items)
 
-  pub mark-asks : Unhoisted u new' to (o .to)
-  unfolding before-marking
-  mark-asks = record {
-    before = seen;
-    item = g .value;
-    before-true = subst (λ (n : ℕ). All (ItemTrue 0 u n) seen) whole-end (i .true-items);
-    item-true = subst (λ (n : ℕ). ItemTrue 0 u n (g .value)) whole-end (all-last (ItemTrue 0 u (0 + length u)) seen (g .value) (hoisting-true 0 u 0 old room i q w q' g));
-    tail = drop (length before-marking) old;
-    bytes = hoisting-written 0 u 0 old room i q w q' g ∙ put-front before-marking old;
-    starts = omega (arith, hoisting-place 0 u 0 old room i);
-    ends = g .place;
-  }
+  -- records written behind the front
+  behind : (l : List Record) → put at (catalogue-bytes layout-20 l) old ≡ catalogue-bytes layout-20 (hoisted no-ids (f .items) ++ l) ++ drop (8 * word-count l) (f .tail)
+  behind l =
+      let front = catalogue-bytes layout-20 (hoisted no-ids (f .items)) in
+      let xs = catalogue-bytes layout-20 l in
+      ap (put at xs) (f .bytes) ∙ (put-behind at front xs (f .tail) (omega (arith, f .ends, catalogue-bytes-length (hoisted no-ids (f .items)))) ∙ rw (catalogue-bytes-length l, catalogue-bytes-append layout-20 (hoisted no-ids (f .items)) l) (sym (append-assoc front xs _)))
 
-  pub mark-turn : {new'' : List ℕ} → HoistedTo new'' u new' to (o .to) → HoistingItems 0 u (o .next) 0 old new'' (o .to) × (c < o .next)
-  unfolding before-marking mark-asks
-  mark-turn h =
-      let l = hoisted no-ids (seen ++ (g .value ∷ [])) in
-      let n : length before-marking ≡ length (catalogue-bytes layout-20 l) = omega (arith, catalogue-bytes-length l, catalogue-bytes-length (hoisted no-ids seen ++ unhoisted-item (g .value)), word-count-append (hoisted no-ids seen) (unhoisted-item (g .value)), hoisted-words no-ids (seen ++ (g .value ∷ [])), hoisted-words no-ids seen, each-more) in
-      hoisting-more 0 u 0 old room i q w q' g (h mark-asks ∙ (ap (λ (k : ℕ). catalogue-bytes layout-20 l ++ drop k old) n ∙ sym (put-front (catalogue-bytes layout-20 l) old)))
-    where
-      each-more : word-count (each unhoisted-item (seen ++ (g .value ∷ []))) ≡ word-count (each unhoisted-item seen) + word-count (unhoisted-item (g .value))
-      each-more = word-count-more (each-elementwise unhoisted-item) seen (g .value)
+  -- those of items are hoisted with the items of the front
+  behind-items : (l : List Item) → put at (catalogue-bytes layout-20 (hoisted tables l)) old ≡ catalogue-bytes layout-20 (hoisted no-ids (f .items ++ l)) ++ drop (8 * word-count (hoisted tables l)) (f .tail)
+  behind-items l = behind (hoisted tables l) ∙ rw (hoisted-append no-ids (f .items) l) refl
+
+  words-behind : (l : List Item) → word-count (hoisted no-ids (f .items ++ l)) ≡ word-count (hoisted no-ids (f .items)) + word-count (hoisted tables l)
+  words-behind l = ap word-count (hoisted-append no-ids (f .items) l) ∙ word-count-append (hoisted no-ids (f .items)) (hoisted tables l)
+
+-- the loop: whichever items stand at the front
+abbrev pub HoistingBehind : (t : List ℕ) (b : ℕ) (u : List ℕ) (c at : ℕ) (old new : List ℕ) (to : ℕ) → Type 0
+HoistingBehind t b u c at old new to = (f : HoistedFront t old at) → HoistingItems (tables f) b u c at old new to
+
+pub behind-start : (t : List ℕ) (b : ℕ) (u : List ℕ) (at : ℕ) (old : List ℕ) → Room (each unhoisted-item) all-items b u at (length old) → HoistingBehind t b u b at old old at
+behind-start t b u at old room f = hoisting-start (tables f) b u at old room
+
+module _ {t : List ℕ} {b : ℕ} {u : List ℕ} (p : PartOf t b u) {at : ℕ} {old : List ℕ} (room : Room (each unhoisted-item) all-items b u at (length old)) {c : ℕ} {new : List ℕ} {to : ℕ} (j : HoistingBehind t b u c at old new to)
+    {r : List ℕ} (q : Rest b u c r) {s : Blank} (w : BlankTo s c r) where
+  module _ {v : List ℕ} (q' : Rest b u (s .next) v) {o : Wrote} {new' : List ℕ} (g : Written unhoisted-item (declaration (docOf (s .doc))) (s .next) v to o new new') (f : HoistedFront t old at) where
+    abbrev i : HoistingItems (tables f) b u c at old new to
+    i = j f
+
+    abbrev seen : List Item
+    seen = i .writing .seen
+
+    abbrev before : List Item
+    before = f .items ++ seen
+
+    -- what is written of the item, and that it is as long as what hoisting makes of it
+    abbrev unmarked : List Record
+    unmarked = hoisted (tables f) seen ++ unhoisted-item (g .value)
+
+    as-long : word-count unmarked ≡ word-count (hoisted (tables f) (seen ++ (g .value ∷ [])))
+    as-long = omega (arith, word-count-append (hoisted (tables f) seen) (unhoisted-item (g .value)), hoisted-words (tables f) (seen ++ (g .value ∷ [])), hoisted-words (tables f) seen, word-count-more (each-elementwise unhoisted-item) seen (g .value))
+
+    pub mark-asks : Unhoisted t new' to (o .to)
+    mark-asks = record {
+      before = before;
+      item = g .value;
+      before-true = all-append (ItemTrue 0 t (length t)) (f .items) seen (f .true-items) (items-whole p seen (i .true-items));
+      item-true = item-whole p (g .value) (all-last (ItemTrue b u (b + length u)) seen (g .value) (hoisting-true (tables f) b u at old room i q w q' g));
+      tail = drop (8 * word-count unmarked) (f .tail);
+      bytes = hoisting-written (tables f) b u at old room i q w q' g ∙ (behind f unmarked ∙ rw (hoisted-append no-ids (f .items) seen, append-assoc (hoisted no-ids (f .items)) (hoisted (tables f) seen) (unhoisted-item (g .value))) refl);
+      starts = omega (arith, hoisting-place (tables f) b u at old room i, f .ends, words-behind f seen);
+      ends = g .place;
+    }
+
+    pub mark-turn : {new'' : List ℕ} → HoistedTo new'' t new' to (o .to) → HoistingItems (tables f) b u (o .next) at old new'' (o .to) × (c < o .next)
+    unfolding mark-asks
+    mark-turn h =
+        hoisting-more (tables f) b u at old room i q w q' g (
+        h mark-asks
+        ∙ (rw (append-assoc (f .items) seen (g .value ∷ []), as-long) refl
+        ∙ sym (behind-items f (seen ++ (g .value ∷ []))))
+        )
+
+  pub hoisted-all : s .next ≡ b + length u → HoistedItemsTo new t old at b u (record { next = s .next; to = to })
+  hoisted-all e f =
+      let k = hoisting-ends (tables f) b u at old room (j f) q w e in
+      let l = k .0 .value in
+      let n : to - at ≡ 8 * word-count (hoisted (tables f) l) = omega (arith, k .0 .place) in
+      record {
+        items = l;
+        is = k .0 .is;
+        front = record {
+          items = f .items ++ l;
+          true-items = all-append (ItemTrue 0 t (length t)) (f .items) l (f .true-items) (items-whole p l (k .1));
+          tail = drop (to - at) (f .tail);
+          bytes = k .0 .bytes ∙ (behind-items f l ∙ rw n refl);
+          ends = omega (arith, k .0 .place, f .ends, words-behind f l);
+        };
+        front-items = refl;
+        front-tail = refl;
+      }
+
+-- the buffer keeps its length
+pub behind-same : {t old new : List ℕ} {at b : ℕ} {u : List ℕ} {w : Wrote} → Room (each unhoisted-item) all-items b u at (length old) → {f : HoistedFront t old at} → HoistedBehind f b u w new → length new ≡ length old
+behind-same {old = old} {at = at} {w = w} room {f} h =
+    let z = room .is ∙ sym (h .is) in
+    let y : room .value ≡ h .items = cc in
+    let x : word-count (each unhoisted-item (room .value)) ≡ word-count (each unhoisted-item (h .items)) = ap (λ (l : List Item). word-count (each unhoisted-item l)) y in
+    let n : w .to ≡ at + 8 * word-count (hoisted (tables f) (h .items)) = omega (arith, h .front .ends, ap (λ (l : List Item). word-count (hoisted no-ids l)) (h .front-items), words-behind f (h .items), f .ends) in
+    omega (
+      arith,
+      room .fits,
+      x,
+      n,
+      hoisted-words (tables f) (h .items),
+      f .ends,
+      ap length (f .bytes),
+      length-append (catalogue-bytes layout-20 (hoisted no-ids (f .items))) (f .tail),
+      catalogue-bytes-length (hoisted no-ids (f .items)),
+      h .front .ends,
+      ap length (h .front .bytes),
+      length-append (catalogue-bytes layout-20 (hoisted no-ids (h .front .items))) (h .front .tail),
+      catalogue-bytes-length (hoisted no-ids (h .front .items)),
+      ap length (h .front-tail),
+      length-drop (w .to - at) (f .tail),
+    )
+
+-- with nothing at the front, the items of the part alone
+pub hoisted-alone : {t old new : List ℕ} {b : ℕ} {u : List ℕ} {w : Wrote} → HoistedItemsTo new t old 0 b u w → {l : List Item} {c : ℕ} {r : List ℕ} → ok l c r ≡ all-items b u → new ≡ catalogue-bytes layout-20 (hoisted no-ids l) ++ drop (8 * word-count (hoisted no-ids l)) old
+unfolding front-none
+hoisted-alone {t} {old} {w = w} g {l} e =
+    let k = g (front-none t old) in
+    let x = e ∙ sym (k .is) in
+    let y : k .items ≡ l = cc in
+    let f : k .front .items ≡ l = k .front-items ∙ y in
+    let n : w .to - 0 ≡ 8 * word-count (hoisted no-ids l) = omega (arith, k .front .ends, ap (λ (i : List Item). word-count (hoisted no-ids i)) f) in
+    k .front .bytes ∙ rw (f, k .front-tail, n) refl

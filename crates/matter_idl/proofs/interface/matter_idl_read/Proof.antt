@@ -2,12 +2,12 @@ use Rattle.matter_idl.proofs.interface.matter_idl_read.Statement.{state
 use Rattle.matter_idl.proofs.interface.matter_idl_read.Tie as tie
 use borrow.Author.Tests.{le-leb, lt-leb}
 use denote.Ref.{now}
-use mathlib.Core.Path.{refl}
 use native.Mathlib.Omega.{arith}
 use lib.ListN.{length}
-use Rattle.items.proofs.writing.Laws.{written-same}
-use Rattle.matter_idl.proofs.interface.Outcomes.{refused-result, refused-left, told-refused, told-accepted, refused-outcome, short-outcome, hoisted-room, written-result, written-left}
+use Rattle.matter_idl.proofs.interface.Outcomes.{refused-result, refused-left, told-refused, told-accepted, refused-outcome, short-outcome, written-result, written-left}
+use Rattle.matter_idl.proofs.Around.{part-whole}
 use Rattle.matter_idl.proofs.reading.Judged.{accepted-room}
+use Rattle.matter_idl.proofs.reading.Marked.{front-none, behind-same}
 
 verdict-on-requires : tie.Need-verdict-on-requires
 verdict-on-requires c κs = tt
@@ -33,8 +33,8 @@ packed-requires-2 c κs = (omega arith, let a = (told-accepted (c .before .befor
 returns : tie.Need-returns
 returns c = (refused-result (c .before .before .before .before .before .before .before .before .args .text .now) (length (now (c .before .before .before .before .before .before .before .before .args .catalogue))) (short-outcome (c .before .before .before .before .before .before .before .before .args .text .now) (length (now (c .before .before .before .before .before .before .before .before .args .catalogue))) (told-accepted (c .before .before .before .before .before .verdict-on .result) (c .before .before .before .before .before .before .before .before .args .text .now) (c .before .before .before .before .before .verdict-on .ensures) (c .before .before .before .v2 .given .1)) (lt-leb _ _ (c .before .if1 .taken))) (c .packed2 .ensures), refused-left (c .before .before .before .before .before .before .before .before .args .text .now) (length (now (c .before .before .before .before .before .before .before .before .args .catalogue))) (short-outcome (c .before .before .before .before .before .before .before .before .args .text .now) (length (now (c .before .before .before .before .before .before .before .before .args .catalogue))) (told-accepted (c .before .before .before .before .before .verdict-on .result) (c .before .before .before .before .before .before .before .before .args .text .now) (c .before .before .before .before .before .verdict-on .ensures) (c .before .before .before .v2 .given .1)) (lt-leb _ _ (c .before .if1 .taken))) (now (c .before .before .before .before .before .before .before .before .args .catalogue)))
 
-write-hoisted-requires : tie.Need-write-hoisted-requires
-write-hoisted-requires c κs = ((told-accepted (c .before .before .before .before .before .verdict-on .result) (c .before .before .before .before .before .before .before .before .args .text .now) (c .before .before .before .before .before .verdict-on .ensures) (c .before .before .before .v2 .given .1)) .short, accepted-room ((told-accepted (c .before .before .before .before .before .verdict-on .result) (c .before .before .before .before .before .before .before .before .args .text .now) (c .before .before .before .before .before .verdict-on .ensures) (c .before .before .before .v2 .given .1)) .whole) (omega (arith, c .before .if1 .left)))
+write-items-requires : tie.Need-write-items-requires
+write-items-requires c κs = ((told-accepted (c .before .before .before .before .before .verdict-on .result) (c .before .before .before .before .before .before .before .before .args .text .now) (c .before .before .before .before .before .verdict-on .ensures) (c .before .before .before .v2 .given .1)) .short, (part-whole (c .before .before .before .before .before .before .before .before .args .text .now), (accepted-room ((told-accepted (c .before .before .before .before .before .verdict-on .result) (c .before .before .before .before .before .before .before .before .args .text .now) (c .before .before .before .before .before .verdict-on .ensures) (c .before .before .before .v2 .given .1)) .whole) (omega (arith, c .before .if1 .left)), (front-none (c .before .before .before .before .before .before .before .before .args .text .now) (now (c .before .before .before .before .before .before .before .before .args .catalogue))))))
 
 mul-packed-2 : tie.Need-mul-packed-2
 mul-packed-2 c = let a = (told-accepted (c .before .before .before .before .before .before .before .before .verdict-on .result) (c .before .before .before .before .before .before .before .before .before .before .before .args .text .now) (c .before .before .before .before .before .before .before .before .verdict-on .ensures) (c .before .before .before .before .before .before .v2 .given .1)) in omega (arith, a .whole .few, a .short)
@@ -46,10 +46,10 @@ returns-2 : tie.Need-returns-2
 returns-2 c = (refused-result (c .before .before .before .before .before .before .before .args .text .now) (length (now (c .before .before .before .before .before .before .before .args .catalogue))) (refused-outcome (c .before .before .before .before .before .before .before .args .text .now) (length (now (c .before .before .before .before .before .before .before .args .catalogue))) (told-refused (c .before .before .before .before .verdict-on .result) (c .before .before .before .before .before .before .before .args .text .now) (c .before .before .before .before .verdict-on .ensures) (c .before .before .v .given .1))) (c .packed .ensures), refused-left (c .before .before .before .before .before .before .before .args .text .now) (length (now (c .before .before .before .before .before .before .before .args .catalogue))) (refused-outcome (c .before .before .before .before .before .before .before .args .text .now) (length (now (c .before .before .before .before .before .before .before .args .catalogue))) (told-refused (c .before .before .before .before .verdict-on .result) (c .before .before .before .before .before .before .before .args .text .now) (c .before .before .before .before .verdict-on .ensures) (c .before .before .v .given .1))) (now (c .before .before .before .before .before .before .before .args .catalogue)))
 
 same-length : tie.Need-same-length
-same-length c = written-same (hoisted-room (c .before .before .before .before .before .before .before .before .before .before .before .before .args .text .now) (length (now (c .before .before .before .before .before .before .before .before .before .before .before .before .args .catalogue))) (told-accepted (c .before .before .before .before .before .before .before .before .before .verdict-on .result) (c .before .before .before .before .before .before .before .before .before .before .before .before .args .text .now) (c .before .before .before .before .before .before .before .before .before .verdict-on .ensures) (c .before .before .before .before .before .before .before .v2 .given .1)) (c .before .before .before .before .before .if1 .left)) (c .before .before .before .write-hoisted .ensures) refl
+same-length c = behind-same (accepted-room ((told-accepted (c .before .before .before .before .before .before .before .before .before .verdict-on .result) (c .before .before .before .before .before .before .before .before .before .before .before .before .args .text .now) (c .before .before .before .before .before .before .before .before .before .verdict-on .ensures) (c .before .before .before .before .before .before .before .v2 .given .1)) .whole) (omega (arith, c .before .before .before .before .before .if1 .left))) (c .before .before .before .write-items .ensures (front-none (c .before .before .before .before .before .before .before .before .before .before .before .before .args .text .now) (now (c .before .before .before .before .before .before .before .before .before .before .before .before .args .catalogue))))
 
 returns-3 : tie.Need-returns-3
-returns-3 c = (written-result (c .before .before .before .before .before .before .before .before .before .before .before .before .args .text .now) (length (now (c .before .before .before .before .before .before .before .before .before .before .before .before .args .catalogue))) (told-accepted (c .before .before .before .before .before .before .before .before .before .verdict-on .result) (c .before .before .before .before .before .before .before .before .before .before .before .before .args .text .now) (c .before .before .before .before .before .before .before .before .before .verdict-on .ensures) (c .before .before .before .before .before .before .before .v2 .given .1)) (le-leb _ _ (c .before .before .before .before .before .if1 .left)) (c .packed3 .ensures), written-left (c .before .before .before .before .before .before .before .before .before .before .before .before .args .text .now) (length (now (c .before .before .before .before .before .before .before .before .before .before .before .before .args .catalogue))) (told-accepted (c .before .before .before .before .before .before .before .before .before .verdict-on .result) (c .before .before .before .before .before .before .before .before .before .before .before .before .args .text .now) (c .before .before .before .before .before .before .before .before .before .verdict-on .ensures) (c .before .before .before .before .before .before .before .v2 .given .1)) (le-leb _ _ (c .before .before .before .before .before .if1 .left)) (c .before .before .before .write-hoisted .ensures))
+returns-3 c = (written-result (c .before .before .before .before .before .before .before .before .before .before .before .before .args .text .now) (length (now (c .before .before .before .before .before .before .before .before .before .before .before .before .args .catalogue))) (told-accepted (c .before .before .before .before .before .before .before .before .before .verdict-on .result) (c .before .before .before .before .before .before .before .before .before .before .before .before .args .text .now) (c .before .before .before .before .before .before .before .before .before .verdict-on .ensures) (c .before .before .before .before .before .before .before .v2 .given .1)) (le-leb _ _ (c .before .before .before .before .before .if1 .left)) (c .packed3 .ensures), written-left (c .before .before .before .before .before .before .before .before .before .before .before .before .args .text .now) (length (now (c .before .before .before .before .before .before .before .before .before .before .before .before .args .catalogue))) (told-accepted (c .before .before .before .before .before .before .before .before .before .verdict-on .result) (c .before .before .before .before .before .before .before .before .before .before .before .before .args .text .now) (c .before .before .before .before .before .before .before .before .before .verdict-on .ensures) (c .before .before .before .before .before .before .before .v2 .given .1)) (le-leb _ _ (c .before .before .before .before .before .if1 .left)) (c .before .before .before .write-items .ensures))
 
 pub matter-idl-read-spec : {M : Type 1} → statement M
 matter-idl-read-spec =
@@ -63,7 +63,7 @@ matter-idl-read-spec =
     mul-packed
     packed-requires-2
     returns
-    write-hoisted-requires
+    write-items-requires
     mul-packed-2
     packed-requires-3
     returns-2
