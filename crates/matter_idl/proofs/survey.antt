@@ -1,2 +1,3 @@
 -- Laws of the survey's passes.
+pub mod Remembered
 pub mod Laws

@@ -20,10 +20,11 @@ use Rattle.matter_idl.specs.sections.{sections}
 use Rattle.matter_idl.specs.survey.{items-of, accepted-items, Entry, sound, spoilt, entry, entries, report-20, entry-words, report-bytes}
 use Rattle.matter_idl.specs.answers.reading.{VerdictAtTo}
 use Rattle.matter_idl.specs.inner.sections.{FirstSection}
-use Rattle.matter_idl.specs.inner.survey.{verdictWord, entryOf, PlaceFits, wordsOf}
+use Rattle.matter_idl.specs.inner.survey.{verdictWord, entryOf, PlaceFits, wordsOf, Marks, remembered, MarkTrue, Judged, SectionBehindTo}
 use Rattle.matter_idl.specs.declared.reading.Verdict.{Verdict}
 use Rattle.matter_idl.specs.declared.reading.Verdict.the-variants.{Accepted, Refused}
 use Rattle.matter_idl.proofs.Places.{hoisted-words}
+use Rattle.matter_idl.proofs.survey.Remembered.{marks-more, remembered-length, judged-of}
 
 -- The report.
 
@@ -122,29 +123,35 @@ unfolding items-of hoisted
 verdict-words (Accepted n) b u h = (rw (h .is, items-of) (h .words no-ids), h .few)
 verdict-words (Refused k p) b u h = (rw (h .is, items-of) word-count-none, omega arith)
 
-pub record CountingSections (t : List ℕ) (i c n : ℕ) : Type 0 where
+pub record CountingSections (t old : List ℕ) (i c n : ℕ) (marks : List ℕ) : Type 0 where
   pub seen : List Entry
   pub items : List Item
   pub passed : Passed t i c seen items
   pub words : n ≡ word-count (hoisted no-ids items)
   pub few : n ≤ 8 * c
+  pub true-marks : Marks marks seen
+  pub same : length marks ≡ length old
 
-pub sections-start : (t : List ℕ) → CountingSections t 0 0 0
+pub sections-start : (t : List ℕ) {marks : List ℕ} → Marks marks [] → CountingSections t marks 0 0 0 marks
 unfolding hoisted
-sections-start t = record { seen = []; items = []; passed = passed-start t; words = sym word-count-none; few = omega arith }
+sections-start t m = record { seen = []; items = []; passed = passed-start t; words = sym word-count-none; few = omega arith; true-marks = m; same = refl }
 
-module _ {t : List ℕ} {i c n : ℕ} (h : CountingSections t i c n) where
-  pub sections-more : (more : i < length (sections t)) {r : List ℕ} → Rest 0 t c r → {end : ℕ} → FirstSection end c r → {s : List ℕ} → s ≡ take (end - c) (drop c t) → (v : Verdict) → VerdictAtTo v c s → {k : ℕ} → k ≡ wordsOf v
-      → CountingSections t (i + 1) end (n + k)
-  sections-more more q f {s} e v w {k} z =
+module _ {t old : List ℕ} {i c n : ℕ} {marks : List ℕ} (h : CountingSections t old i c n marks) where
+  pub sections-more : length t ≤ text-limit → (more : i < length (sections t)) {r : List ℕ} → Rest 0 t c r → {end : ℕ} → FirstSection end c r → {s : List ℕ} → s ≡ take (end - c) (drop c t) → (v : Verdict) → VerdictAtTo v c s → {k : ℕ} → k ≡ wordsOf v → {new : List ℕ} → new ≡ remembered i v marks
+      → CountingSections t old (i + 1) end (n + k) new
+  sections-more l more q f {s} e v w {k} z {new} y =
       let x = verdict-words v c s w in
+      let o = section-ends (h .passed) more q f e in
+      let p = passed-more (h .passed) more q f e in
       record {
         seen = _;
         items = _;
-        passed = passed-more (h .passed) more q f e;
+        passed = p;
         words = omega (arith, z, x .0, h .words, words-more (h .items) (items-of (verdict-at c s)));
-        few = omega (arith, z, x .1, h .few, section-ends (h .passed) more q f e);
+        few = omega (arith, z, x .1, h .few, o);
+        true-marks = rw y (marks-more v (h .true-marks) (h .passed .number) (judged-of v c s w (omega (arith, o, p .inside))));
+        same = rw y (remembered-length i v marks ∙ h .same);
       }
 
-  pub sections-end : length (sections t) ≤ i → (n ≡ word-count (hoisted no-ids (accepted-items 0 (sections t)))) × (n ≤ 8 * length t)
-  sections-end e = (rw (all-accepted (h .passed) e) (h .words), omega (arith, h .few, h .passed .inside))
+  pub sections-end : length (sections t) ≤ i → (n ≡ word-count (hoisted no-ids (accepted-items 0 (sections t)))) × ((n ≤ 8 * length t) × Marks marks (entries 0 (sections t)))
+  sections-end e = (rw (all-accepted (h .passed) e) (h .words), (omega (arith, h .few, h .passed .inside), rw (all-seen (h .passed) e) (h .true-marks)))
