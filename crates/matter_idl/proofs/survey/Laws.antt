@@ -2,7 +2,7 @@
 use mathlib.Core.Path.{_≡_, refl, sym, ap, _∙_, subst}
 use mathlib.Core.Logic.{_⊎_, inl, inr}
 use mathlib.Core.List.{List, [], _∷_, _++_, append-assoc, append-nil}
-use Prim.Native.Nat.{ℕ, _+_, _-_, _*_, _≤_, _<_}
+use Prim.Native.Nat.{ℕ, suc, _+_, _-_, _*_, _≤_, _<_}
 use native.Mathlib.Omega.{arith}
 use lib.ListN.{length, take, drop, length-append, length-take, length-drop}
 use Rattle.lexing.specs.answers.{Rest}
@@ -37,6 +37,20 @@ words-are b n (Refused k p) = refl
 pub put-entry : (b n : ℕ) (v : Verdict) (at w : ℕ) (old new : List ℕ) → w ≡ verdictWord b n v → new ≡ put at (big-endian 8 w) old → new ≡ put at (report-bytes report-20 (entryOf b n v ∷ [])) old
 unfolding report-bytes each
 put-entry b n v at w old new e h = rw (words-are b n v, ← e) (put-one at w old new h)
+
+entry-words-count : (l : List Entry) → length (each (entry-words report-20) l) ≡ length l
+unfolding each entry-words report-20
+entry-words-count [] = refl
+entry-words-count (sound b n ∷ l) = ap suc (entry-words-count l)
+entry-words-count (spoilt b n k p ∷ l) = ap suc (entry-words-count l)
+
+pub report-length : (l : List Entry) → length (report-bytes report-20 l) ≡ 8 * length l
+unfolding report-bytes
+report-length l = words-bytes-length (each (entry-words report-20) l) ∙ ap (λ n. 8 * n) (entry-words-count l)
+
+pub report-append : (k l : List Entry) → report-bytes report-20 (k ++ l) ≡ report-bytes report-20 k ++ report-bytes report-20 l
+unfolding report-bytes
+report-append k l = rw (each-append (entry-words report-20) k l) (words-bytes-append (each (entry-words report-20) k) (each (entry-words report-20) l))
 
 pub fits-told : (v : Verdict) {k p : ℕ} → PlaceFits v → v ≡ Refused k p → (k < 16) × (p ≤ text-limit)
 fits-told v h e = subst (λ (x : Verdict). PlaceFits x) e h
@@ -86,7 +100,7 @@ module _ {t : List ℕ} {i c : ℕ} {seen : List Entry} {items : List Item} (p :
     rest-now : r ≡ drop c t
     rest-now = let z : c - 0 ≡ c = omega arith in rw z at (q .same)
 
-    left-is : p .left ≡ s ∷ f .others
+    pub left-is : p .left ≡ s ∷ f .others
     left-is = left-now ∙ rw (← rest-now) (f .is ∙ rw (rest-now, ← e) refl)
 
     pub section-ends : c + length s ≡ end
@@ -115,7 +129,7 @@ module _ {t : List ℕ} {i c : ℕ} {seen : List Entry} {items : List Item} (p :
 
 -- The first pass.
 
-words-more : (k l : List Item) → word-count (hoisted no-ids (k ++ l)) ≡ word-count (hoisted no-ids k) + word-count (hoisted no-ids l)
+pub words-more : (k l : List Item) → word-count (hoisted no-ids (k ++ l)) ≡ word-count (hoisted no-ids k) + word-count (hoisted no-ids l)
 words-more k l = rw (hoisted-words no-ids (k ++ l), hoisted-words no-ids k, hoisted-words no-ids l, each-append unhoisted-item k l) (word-count-append (each unhoisted-item k) (each unhoisted-item l))
 
 verdict-words : (v : Verdict) (b : ℕ) (u : List ℕ) → VerdictAtTo v b u → (word-count (hoisted no-ids (items-of (verdict-at b u))) ≡ wordsOf v) × (wordsOf v ≤ 8 * length u)
