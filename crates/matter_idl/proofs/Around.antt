@@ -1,14 +1,14 @@
 -- What is true of a part of a text is true of the text: names are the same bytes, and spans lie inside.
-use Prim.Native.Nat.{ℕ, _+_, _-_, _≤_}
-use mathlib.Core.Path.{_≡_, refl, sym, _∙_, ap, subst}
+use Prim.Native.Nat.{ℕ, _+_, _≤_}
+use mathlib.Core.Path.{_≡_, sym, _∙_, ap, subst}
 use mathlib.Core.Option.{Option, none, some}
 use mathlib.Core.List.{List, [], _∷_, _++_}
 use native.Mathlib.Omega.{arith}
-use lib.ListN.{length, take, drop, length-drop, take-append-drop}
-use lib.Seq.{length-take-le}
+use lib.ListN.{length, take, drop, take-append-drop}
+use lib.Seq.{length-take-le, take-length}
 use Rattle.lexing.specs.words.{Word}
 use Rattle.lexing.specs.blanks.{Doc, no-doc, doc-at}
-use Rattle.lexing.specs.strings.{Span, span}
+use Rattle.lexing.specs.strings.{span}
 use Rattle.items.specs.entries.{Entry, Choice}
 use Rattle.items.specs.structs.{Field, StructField, Struct}
 use Rattle.items.specs.members.{Event, Command, Attribute, Privileges}
@@ -18,8 +18,8 @@ use Rattle.items.specs.items.{Item, cluster-item, endpoint-item, enum-item, bit
 use Rattle.items.proofs.Truth.{All, Maybe, WordTrue, DocTrue, EntryTrue, true-entry, ChoiceTrue, true-choice, FieldTrue, true-field, StructFieldTrue, true-struct-field, StructTrue, true-struct, EventTrue, true-event, CommandTrue, true-command, PrivilegesTrue, true-privileges, AttributeTrue, true-attribute, MemberTrue, true-cluster, DeviceTrue, true-device, DefaultTrue, AttributeInstanceTrue, true-attribute-instance, InstanceTrue, InstantiationTrue, true-instantiation, PartTrue, true-endpoint, ItemTrue, word-around}
 use Rattle.matter_idl.specs.inner.reading.{PartOf}
 
--- every element of which Q holds, of which so R does
-pub all-as : {A : Type 0} (Q R : A → Type 0) → ((a : A) → Q a → R a) → (l : List A) → All Q l → All R l
+-- where Q holds of every element and implies R
+all-as : {A : Type 0} (Q R : A → Type 0) → ((a : A) → Q a → R a) → (l : List A) → All Q l → All R l
 all-as Q R f [] h = tt
 all-as Q R f (a ∷ l) h = (f a (h .0), all-as Q R f l (h .1))
 
@@ -107,11 +107,7 @@ module _ (s : ℕ) (t : List ℕ) (e s' : ℕ) (t' : List ℕ) (e' : ℕ) (befor
 
 -- a whole text is a part of itself
 pub part-whole : (t : List ℕ) → PartOf t 0 t
-part-whole t = record { inside = omega arith; same = take-all t }
-  where
-    take-all : (l : List ℕ) → take (length l) l ≡ l
-    take-all [] = refl
-    take-all (x ∷ l) = ap (λ k. x ∷ k) (take-all l)
+part-whole t = record { inside = omega arith; same = take-length t }
 
 module _ {t : List ℕ} {b : ℕ} {u : List ℕ} (p : PartOf t b u) where
   abbrev front : List ℕ

@@ -1,20 +1,18 @@
 -- What reading returns, by the verdict on its text.
 use mathlib.Core.Path.{_≡_, refl, sym, ap, _∙_, subst}
-use mathlib.Core.Bool.{Bool, true, false}
-use mathlib.Core.List.{List, [], _∷_, _++_}
-use Prim.Native.Nat.{ℕ, _+_, _-_, _*_, _≤_, _<_}
+use mathlib.Core.Bool.{true, false}
+use mathlib.Core.List.{List, _++_}
+use Prim.Native.Nat.{ℕ, _+_, _*_}
 use native.Mathlib.Omega.{arith}
 use lib.Dec.{leb}
-use lib.ListN.{length, take, drop}
-use Rattle.lexing.specs.reply.{ok}
+use lib.ListN.{length, drop}
 use Rattle.lexing.specs.outcomes.{Outcome, refused, written, fitted, returned, afterwards}
-use Rattle.items.specs.items.{Item}
-use Rattle.items.specs.layout.{layout-20, catalogue-bytes, word-count, text-limit}
+use Rattle.items.specs.layout.{layout-20, catalogue-bytes}
 use Rattle.items.specs.declared.writing.Wrote.{Wrote}
 use Rattle.items.proofs.RecordWords.{catalogue-bytes-length}
 use Rattle.matter_idl.specs.hoisting.{no-ids, hoisted}
-use Rattle.matter_idl.specs.reading.{all-items, accepted, turned-down, verdict, into-catalogue, reading}
-use Rattle.matter_idl.specs.interface.{number-unit, value-limit, result}
+use Rattle.matter_idl.specs.reading.{into-catalogue, reading}
+use Rattle.matter_idl.specs.interface.{number-unit, result}
 use Rattle.matter_idl.specs.answers.reading.{AcceptedTo, RefusedTo, VerdictTo}
 use Rattle.matter_idl.specs.declared.reading.Verdict.{Verdict}
 use Rattle.matter_idl.specs.declared.reading.Verdict.the-variants.{Accepted, Refused}

@@ -1,13 +1,12 @@
 -- The verdict on a part: UTF-8, and then the first pass over its items; and that on a whole text, with its limit before them.
 use mathlib.Core.Path.{_≡_, refl, sym, ap, _∙_, subst}
 use mathlib.Core.Bool.{true, false}
-use mathlib.Core.Option.{Option, none, some}
+use mathlib.Core.Option.{Option, some}
 use mathlib.Core.List.{List, [], _∷_}
-use Prim.Native.Nat.{ℕ, zero, suc, _+_, _-_, _*_, _≤_, _<_}
+use Prim.Native.Nat.{ℕ, zero, suc, _+_, _*_, _≤_}
 use native.Mathlib.Omega.{arith}
 use lib.Dec.{leb}
-use lib.ListN.{length, drop}
-use Rattle.lexing.specs.reply.{Reply, ok, fail, stop, Parser, ret, _>>=_}
+use lib.ListN.{length}
 use Rattle.lexing.specs.answers.{Rest, lostReply}
 use Rattle.lexing.specs.utf8.{utf8-error, errorOf}
 use Rattle.lexing.specs.declared.answers.Lost.{Lost}
@@ -18,9 +17,8 @@ use Rattle.lexing.proofs.Runs.{same}
 use Rattle.lexing.proofs.Onward.{Ends, Onward}
 use Rattle.lexing.proofs.Slicing.{rest-self, took}
 use Rattle.lexing.proofs.utf8.Laws.{utf8-inside}
-use Rattle.items.specs.items.{Item, item}
 use Rattle.items.specs.records.{each}
-use Rattle.items.specs.layout.{word-count, text-limit}
+use Rattle.items.specs.layout.{text-limit}
 use Rattle.items.specs.answers.{CountTo, countLost, Room}
 use Rattle.items.specs.answers.items.{unhoisted-item}
 use Rattle.items.specs.declared.counts.Count.{Count}
@@ -29,8 +27,8 @@ use Rattle.items.proofs.Onward.{onward-ret, onward-bind}
 use Rattle.items.proofs.RefusedPlaces.{RefusedIn, Placed, placed-ret, placed-bind, item-in}
 use Rattle.items.proofs.counts.Laws.{count-value, count-none}
 use Rattle.items.proofs.items.Laws.{item-walks}
-use Rattle.matter_idl.specs.hoisting.{no-ids, hoisted}
-use Rattle.matter_idl.specs.reading.{unless-ended, itemsWithin, all-items, Verdict as VerdictOf, accepted, turned-down, by-reply, by-utf8, verdict-at, verdict}
+use Rattle.matter_idl.specs.hoisting.{no-ids}
+use Rattle.matter_idl.specs.reading.{unless-ended, itemsWithin, all-items, by-reply, by-utf8, verdict-at, verdict}
 use Rattle.matter_idl.specs.answers.reading.{refusedBy, AcceptedAt, RefusedAt, VerdictAtTo, RefusedTo, VerdictTo}
 use Rattle.matter_idl.specs.declared.reading.Verdict.{Verdict}
 use Rattle.matter_idl.specs.declared.reading.Verdict.the-variants.{Accepted, Refused}

@@ -232,9 +232,12 @@ module _ (ts : Tables) (b : ℕ) (u : List ℕ) (at : ℕ) (old : List ℕ) (roo
     pub hoisting-same : length new ≡ length old
     hoisting-same = ap length (i .bytes) ∙ put-length at (catalogue-bytes layout-20 (hoisted ts seen-now)) old (omega (arith, catalogue-bytes-length (hoisted ts seen-now), hoisting-place, i .writing .fits))
 
-    -- an item more is true
+    -- the next item is true, and so are all with it
+    true-next : {a : Item} {n : ℕ} → Took item b u c a n → ItemTrue b u (b + length u) a
+    true-next h = item-true b u (b + length u) (rest-from b c u (i .writing .run .from) (i .writing .run .inside)) (h .goes) (h .inside)
+
     true-more : {a : Item} {n : ℕ} → Took item b u c a n → All (ItemTrue b u (b + length u)) (seen-now ++ (a ∷ []))
-    true-more {a} h = all-append (ItemTrue b u (b + length u)) seen-now (a ∷ []) (i .true-items) (item-true b u (b + length u) (rest-from b c u (i .writing .run .from) (i .writing .run .inside)) (h .goes) (h .inside), tt)
+    true-more {a} h = all-append (ItemTrue b u (b + length u)) seen-now (a ∷ []) (i .true-items) (true-next h, tt)
 
     module _ {r : List ℕ} (q : Rest b u c r) {t : Blank} (w : BlankTo t c r) where
       module _ {v : List ℕ} (q' : Rest b u (t .next) v) where
@@ -270,8 +273,8 @@ module _ (ts : Tables) (b : ℕ) (u : List ℕ) (at : ℕ) (old : List ℕ) (roo
           read-here : Took item b u c (g .value) (o .next)
           read-here = there b u at old room (i .writing) q w q' (g .is)
 
-          pub hoisting-true : All (ItemTrue b u (b + length u)) (seen-now ++ (g .value ∷ []))
-          hoisting-true = true-more read-here
+          pub hoisting-true : ItemTrue b u (b + length u) (g .value)
+          hoisting-true = true-next read-here
 
           pub hoisting-more : {new'' : List ℕ} → new'' ≡ put at (catalogue-bytes layout-20 (hoisted ts (seen-now ++ (g .value ∷ [])))) old → HoistingItems ts b u (o .next) at old new'' (o .to) × (c < o .next)
           hoisting-more {new''} e =
@@ -282,7 +285,7 @@ module _ (ts : Tables) (b : ℕ) (u : List ℕ) (at : ℕ) (old : List ℕ) (roo
               let h : HoistingItems ts b u (o .next) at old new'' (to + 8 * k) = record {
                 plain = plain-next;
                 writing = x;
-                true-items = subst (λ (l : List Item). All (ItemTrue b u (b + length u)) l) (sym z) hoisting-true;
+                true-items = subst (λ (l : List Item). All (ItemTrue b u (b + length u)) l) (sym z) (true-more read-here);
                 bytes = e ∙ ap (λ (l : List Item). put at (catalogue-bytes layout-20 (hoisted ts l)) old) (sym z);
               } in
               (subst (λ (n : ℕ). HoistingItems ts b u (o .next) at old new'' n) (sym (g .place)) h, y .1 .0)

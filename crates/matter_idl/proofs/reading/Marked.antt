@@ -1,10 +1,9 @@
 -- The second pass behind the records of earlier items: a turn writes an item's records and then marks them, and at the end all items stand at the front of the buffer.
-use mathlib.Core.Path.{_≡_, refl, sym, ap, _∙_, subst}
+use mathlib.Core.Path.{_≡_, refl, sym, ap, _∙_}
 use mathlib.Core.List.{List, [], _∷_, _++_, append-assoc}
-use Prim.Native.Nat.{ℕ, _+_, _-_, _*_, _≤_, _<_}
+use Prim.Native.Nat.{ℕ, _+_, _-_, _*_, _<_}
 use native.Mathlib.Omega.{arith}
-use native.Mathlib.Nat.{add-zero}
-use lib.ListN.{length, take, drop, length-append, length-drop}
+use lib.ListN.{length, drop, length-append, length-drop}
 use lib.Seq.{take-at, drop-append-add}
 use Rattle.lexing.specs.reply.{ok}
 use Rattle.lexing.specs.answers.{Rest, docOf, BlankTo}
@@ -29,17 +28,12 @@ use Rattle.matter_idl.proofs.hoisting.Search.{after-items}
 use Rattle.matter_idl.proofs.hoisting.Marks.{hoisted-append}
 use Rattle.matter_idl.proofs.reading.Laws.{HoistingItems, hoisting-start, hoisting-place, hoisting-written, hoisting-true, hoisting-more, hoisting-ends}
 
--- the last of a list that holds a predicate
-all-last : {A : Type 0} (Q : A → Type 0) (l : List A) (a : A) → All Q (l ++ (a ∷ [])) → Q a
-all-last Q [] a h = h .0
-all-last Q (x ∷ l) a h = all-last Q l a (h .1)
-
 -- bytes written behind the first of a buffer
 put-behind : (at : ℕ) (front xs tail : List ℕ) → at ≡ length front → put at xs (front ++ tail) ≡ front ++ (xs ++ drop (length xs) tail)
 unfolding put
 put-behind at front xs tail e = rw (e, take-at front tail (length front) refl, drop-append-add front tail (length xs)) refl
 
--- a buffer before which nothing is written
+-- nothing stands at the front yet
 unfoldable pub front-none : (t out : List ℕ) → HoistedFront t out 0
 unfolding hoisted
 front-none t out = record { items = []; true-items = tt; tail = out; bytes = rw (catalogue-bytes-none layout-20) refl; ends = omega (arith, word-count-none) }
@@ -81,7 +75,7 @@ module _ {t : List ℕ} {b : ℕ} {u : List ℕ} (p : PartOf t b u) {at : ℕ} {
     abbrev before : List Item
     before = f .items ++ seen
 
-    -- what is written of the item, and that it is as long as what hoisting makes of it
+    -- the part's records while the item is not marked; marking leaves them as long
     abbrev unmarked : List Record
     unmarked = hoisted (tables f) seen ++ unhoisted-item (g .value)
 
@@ -93,7 +87,7 @@ module _ {t : List ℕ} {b : ℕ} {u : List ℕ} (p : PartOf t b u) {at : ℕ} {
       before = before;
       item = g .value;
       before-true = all-append (ItemTrue 0 t (length t)) (f .items) seen (f .true-items) (items-whole p seen (i .true-items));
-      item-true = item-whole p (g .value) (all-last (ItemTrue b u (b + length u)) seen (g .value) (hoisting-true (tables f) b u at old room i q w q' g));
+      item-true = item-whole p (g .value) (hoisting-true (tables f) b u at old room i q w q' g);
       tail = drop (8 * word-count unmarked) (f .tail);
       bytes = hoisting-written (tables f) b u at old room i q w q' g ∙ (behind f unmarked ∙ rw (hoisted-append no-ids (f .items) seen, append-assoc (hoisted no-ids (f .items)) (hoisted (tables f) seen) (unhoisted-item (g .value))) refl);
       starts = omega (arith, hoisting-place (tables f) b u at old room i, f .ends, words-behind f seen);
@@ -109,6 +103,7 @@ module _ {t : List ℕ} {b : ℕ} {u : List ℕ} (p : PartOf t b u) {at : ℕ} {
         ∙ sym (behind-items f (seen ++ (g .value ∷ []))))
         )
 
+  -- the end of the part
   pub hoisted-all : s .next ≡ b + length u → HoistedItemsTo new t old at b u (record { next = s .next; to = to })
   hoisted-all e f =
       let k = hoisting-ends (tables f) b u at old room (j f) q w e in

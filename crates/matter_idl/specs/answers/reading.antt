@@ -1,7 +1,7 @@
 -- What the verdict on a part and on a whole text says, as that of the definition.
 use Prim.Native.Nat.{ℕ, _+_, _-_, _*_, _≤_, _<_}
 use mathlib.Core.Path.{_≡_}
-use mathlib.Core.List.{List, []}
+use mathlib.Core.List.{List}
 use lib.ListN.{length, drop}
 use Rattle.lexing.specs.reply.{ok}
 use Rattle.lexing.specs.declared.answers.Lost.{Lost}
@@ -9,7 +9,7 @@ use Rattle.lexing.specs.declared.answers.Lost.the-variants.{Fail, Stop}
 use Rattle.items.specs.items.{Item}
 use Rattle.items.specs.layout.{word-count, text-limit}
 use Rattle.matter_idl.specs.hoisting.{Tables, hoisted}
-use Rattle.matter_idl.specs.reading.{all-items, Verdict as VerdictOf, accepted, turned-down, verdict-at, verdict}
+use Rattle.matter_idl.specs.reading.{all-items, accepted, turned-down, verdict-at, verdict}
 use Rattle.matter_idl.specs.declared.reading.Verdict.{Verdict}
 use Rattle.matter_idl.specs.declared.reading.Verdict.the-variants.{Accepted, Refused}
 
