@@ -1,3 +1,5 @@
 -- What private functions promise. No public contract rests on it.
 pub mod hoisting
 pub mod reading
+pub mod sections
+pub mod survey

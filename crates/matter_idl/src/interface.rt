@@ -5,10 +5,14 @@ ghost use lib.ListN.{length};
 ghost use Rattle.lexing.specs.outcomes.{afterwards};
 ghost use Rattle.items.specs.layout.{layout-20};
 ghost use Rattle.matter_idl.specs.reading.{reading};
+ghost use Rattle.matter_idl.specs.survey.{report-20, for-catalogue, for-report, survey};
 ghost use Rattle.matter_idl.specs.interface.{value-limit, number-unit, result, unescaping};
 use crate::reading::Verdict;
 use crate::reading::verdict_on;
 use crate::reading::write_items;
+use crate::sections::count_sections;
+use crate::survey::count_accepted;
+use crate::survey::write_sections;
 use lexing::unescaping::Unescaping;
 use lexing::unescaping::unescape;
 
@@ -36,6 +40,29 @@ pub extern "C" fn matter_idl_read(text: &[u8], catalogue: &mut [u8]) -> u64
             packed(0, 8 * n)
         }
     }
+}
+
+// The limit, the report's room, then that of the catalogue: no buffer is touched before all three are decided.
+#[no_mangle]
+pub extern "C" fn matter_idl_survey(text: &[u8], catalogue: &mut [u8], report: &mut [u8]) -> u64
+    ensures { λ r. ⌜ r ≡ result (for-catalogue (survey layout-20 report-20 (now (text .entry)) (length (now (catalogue .entry))) (length (now (report .entry))))) ⌝ }
+    ensures { λ _. ⌜ now (catalogue .exit) ≡ afterwards (for-catalogue (survey layout-20 report-20 (now (text .entry)) (length (now (catalogue .entry))) (length (now (report .entry))))) (now (catalogue .entry)) ⌝ }
+    ensures { λ _. ⌜ now (report .exit) ≡ afterwards (for-report (survey layout-20 report-20 (now (text .entry)) (length (now (catalogue .entry))) (length (now (report .entry))))) (now (report .entry)) ⌝ }
+{
+    if 1048575 < text.len() {
+        return packed(1, 1048575);
+    }
+    let m = count_sections(text);
+    if report.len() < 8 * m {
+        return packed(8, 8 * m);
+    }
+    let mut marks = [0; 4096];
+    let n = count_accepted(text, m, &mut marks);
+    if catalogue.len() < 8 * n {
+        return packed(7, 8 * n);
+    }
+    write_sections(text, m, &marks, catalogue, report);
+    packed(0, 8 * n)
 }
 
 #[no_mangle]

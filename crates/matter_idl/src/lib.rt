@@ -2,3 +2,5 @@
 mod hoisting;
 pub mod interface;
 pub mod reading;
+mod sections;
+mod survey;

@@ -65,15 +65,6 @@ module _ (u : List ℕ) (n : ℕ) where
   unfolding unescaping
   not-long e = rw (e, unescaping)
 
-  -- a part that is too long
-  pub long-result : leb (length u) value-limit ≡ false → {x : ℕ} → x ≡ 1 * number-unit + value-limit → x ≡ result (unescaping u n)
-  unfolding result returned
-  long-result e h = h ∙ ap result (sym (too-long e))
-
-  pub long-left : leb (length u) value-limit ≡ false → (out : List ℕ) → out ≡ afterwards (unescaping u n) out
-  unfolding afterwards
-  long-left e out = ap (λ (o : Outcome). afterwards o out) (sym (too-long e))
-
   -- the code's answer, once its variant is known
   module _ (e : leb (length u) value-limit ≡ true) (a : Unescaping) (h : answer a ≡ returned (outcome u n)) {k v : ℕ} (z : answer a ≡ (k, v)) where
     pub value-fits : length u ≤ value-limit → v ≤ value-limit

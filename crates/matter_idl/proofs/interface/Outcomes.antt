@@ -1,4 +1,4 @@
--- What reading returns, by the verdict on its text.
+-- What an outcome returns and leaves; that of reading, by the verdict on its text.
 use mathlib.Core.Path.{_≡_, refl, sym, ap, _∙_, subst}
 use mathlib.Core.Bool.{true, false}
 use mathlib.Core.List.{List, _++_}
@@ -22,15 +22,23 @@ use Rattle.matter_idl.proofs.reading.Marked.{hoisted-alone}
 abbrev pub read-20 : List ℕ → ℕ → Outcome
 read-20 u n = reading layout-20 u n
 
--- a refusal, of a known outcome: number and value, and the buffer is as it was
-module _ (u : List ℕ) (n : ℕ) {k v : ℕ} (e : read-20 u n ≡ refused k v) where
-  pub refused-result : {x : ℕ} → x ≡ k * number-unit + v → x ≡ result (read-20 u n)
+-- a known outcome: what it returns, and what it leaves in its buffer
+module _ {o : Outcome} where
+  pub refused-result : {k v : ℕ} → o ≡ refused k v → {x : ℕ} → x ≡ k * number-unit + v → x ≡ result o
   unfolding result returned
-  refused-result h = h ∙ ap result (sym e)
+  refused-result e h = h ∙ ap result (sym e)
 
-  pub refused-left : (out : List ℕ) → out ≡ afterwards (read-20 u n) out
+  pub refused-left : {k v : ℕ} → o ≡ refused k v → (out : List ℕ) → out ≡ afterwards o out
   unfolding afterwards
-  refused-left out = ap (λ (o : Outcome). afterwards o out) (sym e)
+  refused-left e out = ap (λ (x : Outcome). afterwards x out) (sym e)
+
+  pub written-result : {l : List ℕ} → o ≡ written l → {n : ℕ} → length l ≡ n → {x : ℕ} → x ≡ 0 * number-unit + n → x ≡ result o
+  unfolding result returned
+  written-result {l} e z {x} h = let y : x ≡ 0 * number-unit + length l = omega (arith, h, z) in y ∙ ap result (sym e)
+
+  pub written-left : {l : List ℕ} → o ≡ written l → (old : List ℕ) {new : List ℕ} → new ≡ l ++ drop (length l) old → new ≡ afterwards o old
+  unfolding afterwards
+  written-left e old h = h ∙ ap (λ (x : Outcome). afterwards x old) (sym e)
 
 pub told-refused : (a : Verdict) (u : List ℕ) {k v : ℕ} → VerdictTo a u → a ≡ Refused k v → RefusedTo k v u
 told-refused a u h e = subst (λ (x : Verdict). VerdictTo x u) e h
@@ -43,10 +51,10 @@ unfolding reading into-catalogue
 refused-outcome u n h = ap (into-catalogue layout-20 n) (h .is)
 
 module _ (u : List ℕ) (n : ℕ) {m : ℕ} (h : AcceptedTo m u) where
-  bytes-now : List ℕ
+  pub bytes-now : List ℕ
   bytes-now = catalogue-bytes layout-20 (hoisted no-ids (h .whole .items))
 
-  size-now : length bytes-now ≡ 8 * m
+  pub size-now : length bytes-now ≡ 8 * m
   unfolding bytes-now
   size-now = omega (arith, catalogue-bytes-length (hoisted no-ids (h .whole .items)), h .whole .words no-ids)
 
@@ -59,16 +67,10 @@ module _ (u : List ℕ) (n : ℕ) {m : ℕ} (h : AcceptedTo m u) where
   unfolding fitted
   short-outcome e = let f : leb (length bytes-now) n ≡ false = ap (λ (i : ℕ). leb i n) size-now ∙ e in fitted-now ∙ rw (f, fitted) (ap (refused 7) size-now)
 
-  written-outcome : leb (8 * m) n ≡ true → read-20 u n ≡ written bytes-now
+  pub written-outcome : leb (8 * m) n ≡ true → read-20 u n ≡ written bytes-now
   unfolding fitted
   written-outcome e = let f : leb (length bytes-now) n ≡ true = ap (λ (i : ℕ). leb i n) size-now ∙ e in fitted-now ∙ rw (f, fitted) refl
 
-  pub written-result : leb (8 * m) n ≡ true → {x : ℕ} → x ≡ 0 * number-unit + 8 * m → x ≡ result (read-20 u n)
-  unfolding result returned
-  written-result e {x} d =
-      let z : x ≡ 0 * number-unit + length bytes-now = omega (arith, d, size-now) in
-      z ∙ ap result (sym (written-outcome e))
-
-  pub written-left : leb (8 * m) n ≡ true → {w : Wrote} {old new : List ℕ} → HoistedItemsTo new u old 0 0 u w → new ≡ afterwards (read-20 u n) old
-  unfolding afterwards bytes-now
-  written-left e {old = old} g = hoisted-alone g (h .whole .reads) ∙ (ap (λ (k : ℕ). bytes-now ++ drop k old) (sym (catalogue-bytes-length (hoisted no-ids (h .whole .items)))) ∙ ap (λ (o : Outcome). afterwards o old) (sym (written-outcome e)))
+  pub read-left : {w : Wrote} {old new : List ℕ} → HoistedItemsTo new u old 0 0 u w → new ≡ bytes-now ++ drop (length bytes-now) old
+  unfolding bytes-now
+  read-left {old = old} g = hoisted-alone g (h .whole .reads) ∙ ap (λ (k : ℕ). bytes-now ++ drop k old) (sym (catalogue-bytes-length (hoisted no-ids (h .whole .items))))

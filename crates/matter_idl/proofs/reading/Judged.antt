@@ -44,7 +44,7 @@ within-on (suc n) = record { onward = λ b u. go (within-on n) u b }
     go w [] b = (same, refl)
     go w (x ∷ v) b = onward-bind item-walks (λ i. onward-bind w (λ l. onward-ret (i ∷ l))) .onward b (x ∷ v)
 
-all-on : Onward all-items
+pub all-on : Onward all-items
 unfolding all-items
 all-on = record { onward = λ b u. within-on (length u) .onward b u }
 

@@ -33,7 +33,7 @@ unfolding put
 put-behind at front xs tail e = rw (e, take-at front tail (length front) refl, drop-append-add front tail (length xs)) refl
 
 -- nothing stands at the front yet
-pub front-none : (t out : List ℕ) → HoistedFront t out 0
+unfoldable pub front-none : (t out : List ℕ) → HoistedFront t out 0
 unfolding hoisted
 front-none t out = record { items = []; true-items = tt; tail = out; bytes = rw (catalogue-bytes-none layout-20) refl; ends = omega (arith, word-count-none) }
 

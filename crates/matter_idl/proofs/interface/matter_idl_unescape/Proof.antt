@@ -7,13 +7,14 @@ use mathlib.Core.Path.{ap}
 use native.Mathlib.Omega.{arith}
 use lib.ListN.{length}
 use Rattle.lexing.specs.unescaping.{answer}
-use Rattle.matter_idl.proofs.interface.Laws.{long-result, long-left, value-fits, told-result, told-left}
+use Rattle.matter_idl.proofs.interface.Laws.{too-long, value-fits, told-result, told-left}
+use Rattle.matter_idl.proofs.interface.Outcomes.{refused-result, refused-left}
 
 packed-requires : tie.Need-packed-requires
 packed-requires c κs = search needs
 
 returns : tie.Need-returns
-returns c = (long-result (c .before .before .before .before .args .part .now) (length (now (c .before .before .before .before .args .output))) (lt-leb _ _ (c .before .if1 .taken)) (c .packed .ensures), long-left (c .before .before .before .before .args .part .now) (length (now (c .before .before .before .before .args .output))) (lt-leb _ _ (c .before .if1 .taken)) (now (c .before .before .before .before .args .output)))
+returns c = (refused-result (too-long (c .before .before .before .before .args .part .now) (length (now (c .before .before .before .before .args .output))) (lt-leb _ _ (c .before .if1 .taken))) (c .packed .ensures), refused-left (too-long (c .before .before .before .before .args .part .now) (length (now (c .before .before .before .before .args .output))) (lt-leb _ _ (c .before .if1 .taken))) (now (c .before .before .before .before .args .output)))
 
 unescape-requires : tie.Need-unescape-requires
 unescape-requires c κs = tt

@@ -1,0 +1,2 @@
+-- Laws of the scans for cuts.
+pub mod Laws

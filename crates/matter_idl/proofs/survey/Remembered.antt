@@ -1,0 +1,123 @@
+-- The verdict on a section in the second pass: by its mark, or taken once more.
+use mathlib.Core.Path.{_≡_, refl, sym, ap, _∙_, subst}
+use mathlib.Core.Option.{Option, none, some}
+use mathlib.Core.List.{List, [], _∷_, _++_, append-nil}
+use Prim.Native.Nat.{ℕ, zero, suc, _+_, _-_, _*_, _≤_, _<_}
+use native.Mathlib.Omega.{arith}
+use native.Mathlib.Decide.{ℕ-discrete}
+use lib.ListN.{length, drop, getD, set, length-set, List·getD-append}
+use lib.Seq.{getD-append-seam, getD-set-other}
+use Rattle.lexing.specs.reply.{Reply, ok, fail, stop}
+use Rattle.lexing.specs.utf8.{utf8-error}
+use Rattle.lexing.proofs.Slicing.{suf-drop}
+use Rattle.items.specs.items.{Item}
+use Rattle.items.specs.records.{each}
+use Rattle.items.specs.layout.{word-count, text-limit}
+use Rattle.items.specs.answers.{Room}
+use Rattle.items.specs.answers.items.{unhoisted-item}
+use Rattle.items.specs.declared.writing.Wrote.{Wrote}
+use Rattle.matter_idl.specs.hoisting.{no-ids, hoisted}
+use Rattle.matter_idl.specs.reading.{all-items, Verdict as VerdictOf, accepted, turned-down, by-reply, by-utf8, verdict-at}
+use Rattle.matter_idl.specs.survey.{items-of, Entry, sound, spoilt, entry}
+use Rattle.matter_idl.specs.answers.reading.{VerdictAtTo}
+use Rattle.matter_idl.specs.inner.reading.{HoistedFront, HoistedItemsTo}
+use Rattle.matter_idl.specs.inner.survey.{entryOf, PlaceFits, IsSound, Marks, remembered, MarkTrue, Judged, SectionBehind, SectionBehindTo}
+use Rattle.matter_idl.specs.declared.reading.Verdict.{Verdict}
+use Rattle.matter_idl.specs.declared.reading.Verdict.the-variants.{Accepted, Refused}
+use Rattle.matter_idl.proofs.Places.{hoisted-words}
+use Rattle.matter_idl.proofs.reading.Judged.{all-on}
+use Rattle.matter_idl.proofs.reading.Marked.{behind-same}
+
+-- Marks.
+
+abbrev nowhere : Entry
+nowhere = spoilt 0 0 0 0
+
+sound-inside : (es : List Entry) (j : ℕ) → IsSound (getD es j nowhere) → j < length es
+sound-inside [] j h = absurd h
+sound-inside (e ∷ es) zero h = omega arith
+sound-inside (e ∷ es) (suc j) h = omega (arith, sound-inside es j h)
+
+marks-kept : {marks : List ℕ} {es : List Entry} → Marks marks es → (l : List Entry) → Marks marks (es ++ l)
+marks-kept {marks} {es} m l = record { sound-at = λ j h. let k = m .sound-at j h in rw (List·getD-append es l nowhere j (sound-inside es j k)) k }
+
+pub marks-more : (v : Verdict) {marks : List ℕ} {es : List Entry} {i : ℕ} → Marks marks es → length es ≡ i → {b : ℕ} {u : List ℕ} → Judged v b u → Marks (remembered i v marks) (es ++ (entry b (length u) (verdict-at b u) ∷ []))
+marks-more (Refused k p) m z h = marks-kept m _
+marks-more (Accepted w) {marks} {es} {i} m z {b} {u} x = record { sound-at = λ j h. go j h (ℕ-discrete j i) }
+  where
+    e : Entry
+    e = entry b (length u) (verdict-at b u)
+
+    here : IsSound (getD (es ++ (e ∷ [])) i nowhere)
+    here = rw (← z, getD-append-seam es e [] nowhere, ← x .is) tt
+
+    go : (j : ℕ) → getD (set marks i 1) j 0 ≡ 1 → Dec (j ≡ i) → IsSound (getD (es ++ (e ∷ [])) j nowhere)
+    go j h (yes y) = rw y here
+    go j h (no y) = marks-kept m (e ∷ []) .sound-at j (rw (getD-set-other marks i j 1 0 y) at h)
+
+pub remembered-length : (i : ℕ) (v : Verdict) (marks : List ℕ) → length (remembered i v marks) ≡ length marks
+remembered-length i (Accepted n) marks = length-set marks i 1
+remembered-length i (Refused k p) marks = refl
+
+-- Verdicts.
+
+pub judged-of : (v : Verdict) (b : ℕ) (u : List ℕ) → VerdictAtTo v b u → b + length u ≤ text-limit → Judged v b u
+unfolding entry
+judged-of (Accepted n) b u h l = record { is = rw (h .is, entry) refl; fits = tt }
+judged-of (Refused k p) b u h l = record { is = rw (h .is, entry) refl; fits = (omega (arith, h .number), omega (arith, h .inside)) }
+
+pub judged-marked : {marks : List ℕ} {i b : ℕ} {u : List ℕ} → MarkTrue marks i b u → getD marks i 0 ≡ 1 → (n : ℕ) → Judged (Accepted n) b u
+unfolding entry
+judged-marked {b = b} {u = u} m h n = record { is = go (verdict-at b u) (m .sound-here h); fits = tt }
+  where
+    go : (v : VerdictOf) → IsSound (entry b (length u) v) → sound b (length u) ≡ entry b (length u) v
+    go (accepted l) k = refl
+    go (turned-down x p) k = absurd k
+
+judged-as : {v w : Verdict} {b : ℕ} {u : List ℕ} → v ≡ w → Judged v b u → Judged w b u
+judged-as {b = b} {u = u} e h = subst (λ (x : Verdict). Judged x b u) e h
+
+refused-items : {k p b : ℕ} {u : List ℕ} → Judged (Refused k p) b u → items-of (verdict-at b u) ≡ []
+unfolding entry items-of
+refused-items {k} {p} {b} {u} h = go (verdict-at b u) (h .is)
+  where
+    go : (v : VerdictOf) → spoilt b (length u) k p ≡ entry b (length u) v → items-of v ≡ []
+    go (accepted l) e = let z : _≡_ {A = ℕ} 0 1 = cc in absurd (omega arith)
+    go (turned-down x q) e = refl
+
+-- what an accepted section reads
+accepted-reads : {n b : ℕ} {u : List ℕ} → Judged (Accepted n) b u → (c : ℕ) × (ok (items-of (verdict-at b u)) c (drop (c - b) u) ≡ all-items b u)
+unfolding entry items-of verdict-at by-utf8 by-reply
+accepted-reads {n} {b} {u} h = go (utf8-error b u) refl (all-items b u) refl
+  where
+    spoiled : {k p : ℕ} → verdict-at b u ≡ turned-down k p → ⊥
+    spoiled e = let y = rw (e, entry) at (h .is) in let z : _≡_ {A = ℕ} 0 1 = cc in omega arith
+
+    go : (o : Option ℕ) → utf8-error b u ≡ o → (r : Reply (List Item)) → all-items b u ≡ r → (c : ℕ) × (ok (items-of (verdict-at b u)) c (drop (c - b) u) ≡ all-items b u)
+    go (some p) e r f = absurd (spoiled {k = 2} {p = p} (rw (e, by-utf8) refl))
+    go none e (fail p) f = absurd (spoiled {k = 3} {p = p} (rw (e, f, by-utf8, by-reply) refl))
+    go none e (stop k p) f = absurd (spoiled {k = k} {p = p} (rw (e, f, by-utf8, by-reply) refl))
+    go none e (ok l c r) f =
+        let m = rw f at (all-on .onward b u) in
+        let z : length u - length r ≡ c - b = omega (arith, m .1) in
+        let y : r ≡ drop (c - b) u = rw z at (suf-drop (m .0)) in
+        let x : items-of (verdict-at b u) ≡ l = rw (e, f, by-utf8, by-reply, items-of) refl in
+        (c, rw (x, f, ← y) refl)
+
+-- The records of a section behind those before it.
+module _ {v : Verdict} {b : ℕ} {u : List ℕ} (h : Judged v b u) where
+  pub refused-behind : {k p : ℕ} → v ≡ Refused k p → {t out : List ℕ} {at : ℕ} → SectionBehindTo out t out at b u at
+  refused-behind e {at = at} f =
+      let z : at - at ≡ 0 = omega arith in
+      record { front = f; front-items = rw (refused-items (judged-as e h)) (sym (append-nil (f .items))); front-tail = rw z refl }
+
+  module _ {n : ℕ} (e : v ≡ Accepted n) {at size : ℕ} (l : at + 8 * word-count (hoisted no-ids (items-of (verdict-at b u))) ≤ size) where
+    pub judged-room : Room (each unhoisted-item) all-items b u at size
+    judged-room = let r = accepted-reads (judged-as e h) in record { value = items-of (verdict-at b u); next = r .0; is = r .1; fits = omega (arith, hoisted-words no-ids (items-of (verdict-at b u)), l) }
+
+  pub accepted-behind : {n : ℕ} → v ≡ Accepted n → {new t old : List ℕ} {at : ℕ} {w : Wrote} → HoistedItemsTo new t old at b u w → SectionBehindTo new t old at b u (w .to)
+  accepted-behind e g f =
+      let k = g f in
+      let z = accepted-reads (judged-as e h) .1 ∙ sym (k .is) in
+      let y : k .items ≡ items-of (verdict-at b u) = cc in
+      record { front = k .front; front-items = k .front-items ∙ ap (λ (l : List Item). f .items ++ l) y; front-tail = k .front-tail }

@@ -1,0 +1,111 @@
+-- The second pass of the survey: both buffers, section by section.
+use mathlib.Core.Path.{_≡_, refl, sym, ap, _∙_}
+use mathlib.Core.List.{List, [], _∷_, _++_, append-assoc, append-nil}
+use Prim.Native.Nat.{ℕ, _+_, _-_, _*_, _≤_, _<_}
+use native.Mathlib.Omega.{arith}
+use lib.ListN.{length, take, drop, length-append, length-drop}
+use lib.Seq.{drop-drop, getD-append-seam}
+use Rattle.lexing.specs.answers.{Rest}
+use Rattle.items.specs.items.{Item}
+use Rattle.items.specs.records.{each}
+use Rattle.items.specs.layout.{layout-20, words-bytes, catalogue-bytes, word-count}
+use Rattle.items.specs.buffers.{put}
+use Rattle.items.proofs.RecordWords.{catalogue-bytes-length}
+use Rattle.items.proofs.writing.Laws.{put-length, put-nothing, put-on}
+use Rattle.matter_idl.specs.hoisting.{no-ids, hoisted}
+use Rattle.matter_idl.specs.reading.{verdict-at}
+use Rattle.matter_idl.specs.sections.{sections}
+use Rattle.matter_idl.specs.survey.{items-of, accepted-items, Entry, entry, entries, report-20, report-bytes}
+use Rattle.matter_idl.specs.inner.reading.{PartOf, HoistedFront}
+use Rattle.matter_idl.specs.inner.sections.{FirstSection}
+use Rattle.matter_idl.specs.inner.survey.{entryOf, Marks, MarkTrue, Judged, SectionBehindTo}
+use Rattle.matter_idl.specs.declared.reading.Verdict.{Verdict}
+use Rattle.matter_idl.proofs.reading.Marked.{front-none}
+use Rattle.matter_idl.proofs.survey.Laws.{report-length, report-append, Passed, passed-start, all-seen, all-accepted, left-is, section-ends, passed-more, words-more}
+
+-- the records and the entries of the sections before c are written
+pub record WritingSections (t cat₀ rep₀ : List ℕ) (i c to : ℕ) (cat rep : List ℕ) : Type 0 where
+  pub seen : List Entry
+  pub items : List Item
+  pub passed : Passed t i c seen items
+  pub front : HoistedFront t cat to
+  pub front-items : front .items ≡ items
+  pub front-tail : front .tail ≡ drop to cat₀
+  pub report : rep ≡ put 0 (report-bytes report-20 seen) rep₀
+
+pub writing-start : (t cat rep : List ℕ) → WritingSections t cat rep 0 0 0 cat rep
+unfolding front-none report-bytes words-bytes each
+writing-start t cat rep = record { seen = []; items = []; passed = passed-start t; front = front-none t cat; front-items = refl; front-tail = refl; report = sym (put-nothing 0 rep) }
+
+-- the bytes between two offsets are a part of the text
+pub section-part : {t s : List ℕ} {c end : ℕ} → s ≡ take (end - c) (drop c t) → c + length s ≡ end → end ≤ length t → PartOf t c s
+section-part {t} {s} {c} {end} e z l = let y : length s ≡ end - c = omega arith in record { inside = omega arith; same = rw y (sym e) }
+
+module _ {t cat₀ rep₀ : List ℕ} {i c to : ℕ} {cat rep : List ℕ} (h : WritingSections t cat₀ rep₀ i c to cat rep) (room : 8 * word-count (hoisted no-ids (accepted-items 0 (sections t))) ≤ length cat₀) (rows : 8 * length (sections t) ≤ length rep₀) where
+  to-is : to ≡ 8 * word-count (hoisted no-ids (h .items))
+  to-is = h .front .ends ∙ ap (λ (l : List Item). 8 * word-count (hoisted no-ids l)) (h .front-items)
+
+  words-in : (l k : List Item) → accepted-items 0 (sections t) ≡ l ++ k → 8 * word-count (hoisted no-ids l) ≤ length cat₀
+  words-in l k e = omega (arith, room, ap (λ (x : List Item). word-count (hoisted no-ids x)) e, words-more l k)
+
+  pub catalogue-same : length cat ≡ length cat₀
+  catalogue-same =
+      let l = h .front .items in
+      omega (arith, to-is, words-in (h .items) _ (h .passed .items-are), h .front .ends, ap length (h .front .bytes), length-append (catalogue-bytes layout-20 (hoisted no-ids l)) (h .front .tail), catalogue-bytes-length (hoisted no-ids l), ap length (h .front-tail), length-drop to cat₀)
+
+  seen-in : length (report-bytes report-20 (h .seen)) ≤ length rep₀
+  seen-in = omega (arith, report-length (h .seen), h .passed .number, h .passed .count, rows)
+
+  pub report-same : length rep ≡ length rep₀
+  report-same = ap length (h .report) ∙ put-length 0 (report-bytes report-20 (h .seen)) rep₀ (omega (arith, seen-in))
+
+  -- all sections
+  module _ (e : length (sections t) ≤ i) where
+    pub catalogue-written : cat ≡ put 0 (catalogue-bytes layout-20 (hoisted no-ids (accepted-items 0 (sections t)))) cat₀
+    unfolding put
+    catalogue-written =
+        let z : 0 + length (catalogue-bytes layout-20 (hoisted no-ids (h .items))) ≡ to = omega (arith, to-is, catalogue-bytes-length (hoisted no-ids (h .items))) in
+        rw (all-accepted (h .passed) e, z) (h .front .bytes ∙ rw (h .front-items, h .front-tail) refl)
+
+    pub report-written : rep ≡ put 0 (report-bytes report-20 (entries 0 (sections t))) rep₀
+    report-written = rw (all-seen (h .passed) e) (h .report)
+
+  -- one more
+  module _ (more : i < length (sections t)) {r : List ℕ} (q : Rest 0 t c r) {end : ℕ} (f : FirstSection end c r) {s : List ℕ} (e : s ≡ take (end - c) (drop c t)) where
+    ends : c + length s ≡ end
+    ends = section-ends (h .passed) more q f e
+
+    next : Passed t (i + 1) end (h .seen ++ (entry c (length s) (verdict-at c s) ∷ [])) (h .items ++ items-of (verdict-at c s))
+    next = passed-more (h .passed) more q f e
+
+    pub this-part : PartOf t c s
+    this-part = section-part e ends (next .inside)
+
+    pub this-mark : {marks : List ℕ} → Marks marks (entries 0 (sections t)) → MarkTrue marks i c s
+    unfolding entries
+    this-mark m = record { sound-here = λ x. let k = m .sound-at i x in rw (h .passed .seen-are, left-is (h .passed) more q f e, ← h .passed .number, getD-append-seam) at k }
+
+    pub entry-room : 8 * i + 8 ≤ length rep
+    entry-room = omega (arith, report-same, rows, more)
+
+    pub words-room : to + 8 * word-count (hoisted no-ids (items-of (verdict-at c s))) ≤ length cat
+    words-room = omega (arith, catalogue-same, to-is, words-more (h .items) (items-of (verdict-at c s)), words-in (h .items ++ items-of (verdict-at c s)) _ (next .items-are))
+
+    pub writing-more : (v : Verdict) → Judged v c s → {rep' : List ℕ} → rep' ≡ put (8 * i) (report-bytes report-20 (entryOf c (end - c) v ∷ [])) rep → {to' : ℕ} {cat' : List ℕ} → SectionBehindTo cat' t cat to c s to' → WritingSections t cat₀ rep₀ (i + 1) end to' cat' rep'
+    writing-more v j {rep'} w {to'} g =
+        let k = g (h .front) in
+        let l = h .items ++ items-of (verdict-at c s) in
+        let this = entry c (length s) (verdict-at c s) in
+        let same-items : k .front .items ≡ l = k .front-items ∙ ap (λ (x : List Item). x ++ items-of (verdict-at c s)) (h .front-items) in
+        let up : to + (to' - to) ≡ to' = omega (arith, to-is, k .front .ends, ap (λ (x : List Item). word-count (hoisted no-ids x)) same-items, words-more (h .items) (items-of (verdict-at c s))) in
+        let size : end - c ≡ length s = omega (arith, ends) in
+        let w' : rep' ≡ put (8 * i) (report-bytes report-20 (this ∷ [])) rep = rw (size, j .is) at w in
+        record {
+          seen = _;
+          items = _;
+          passed = next;
+          front = k .front;
+          front-items = same-items;
+          front-tail = k .front-tail ∙ (ap (drop (to' - to)) (h .front-tail) ∙ (drop-drop (to' - to) to cat₀ ∙ rw up refl));
+          report = rw (report-append (h .seen) (this ∷ [])) (put-on 0 (8 * i) (report-bytes report-20 (h .seen)) (report-bytes report-20 (this ∷ [])) rep₀ rep rep' (omega (arith, report-length (h .seen), h .passed .number)) (omega (arith, report-length (this ∷ []), rows, more)) (h .report) w');
+        }

@@ -1,0 +1,65 @@
+-- What the code of the survey holds of a verdict, and what its steps promise.
+use Prim.Native.Nat.{ℕ, _-_, _≤_, _<_}
+use mathlib.Core.Path.{_≡_}
+use mathlib.Core.List.{List, [], _∷_, _++_}
+use lib.ListN.{length, getD, set, drop}
+use Rattle.items.specs.records.{bits}
+use Rattle.items.specs.layout.{packed, text-limit}
+use Rattle.matter_idl.specs.reading.{verdict-at}
+use Rattle.matter_idl.specs.survey.{items-of, Entry, sound, spoilt, entry}
+use Rattle.matter_idl.specs.inner.reading.{HoistedFront}
+use Rattle.matter_idl.specs.declared.reading.Verdict.{Verdict}
+use Rattle.matter_idl.specs.declared.reading.Verdict.the-variants.{Accepted, Refused}
+
+-- the word of an entry of the report
+abbrev pub entryWord : (start size number place : ℕ) → ℕ
+entryWord b n k p = packed 0 (bits 20 b ∷ bits 20 n ∷ bits 4 k ∷ bits 20 p ∷ [])
+
+abbrev pub verdictWord : (start size : ℕ) → Verdict → ℕ
+verdictWord b n (Accepted m) = entryWord b n 0 0
+verdictWord b n (Refused k p) = entryWord b n k p
+
+abbrev pub entryOf : (start size : ℕ) → Verdict → Entry
+entryOf b n (Accepted m) = sound b n
+entryOf b n (Refused k p) = spoilt b n k p
+
+-- a number and a place that the word has room for
+abbrev pub PlaceFits : Verdict → Type 0
+PlaceFits (Accepted m) = Unit {0}
+PlaceFits (Refused k p) = (k < 16) × (p ≤ text-limit)
+
+abbrev pub wordsOf : Verdict → ℕ
+wordsOf (Accepted m) = m
+wordsOf (Refused k p) = 0
+
+-- Which sections were accepted, as the first pass remembers it.
+
+abbrev pub IsSound : Entry → Type 0
+IsSound (sound b n) = Unit {0}
+IsSound (spoilt b n k p) = ⊥
+
+-- a byte 1 says of the section of that number that it is accepted
+pub record Marks (marks : List ℕ) (es : List Entry) : Type 0 where
+  pub sound-at : (j : ℕ) → getD marks j 0 ≡ 1 → IsSound (getD es j (spoilt 0 0 0 0))
+
+abbrev pub remembered : ℕ → Verdict → List ℕ → List ℕ
+remembered i (Accepted m) marks = set marks i 1
+remembered i (Refused k p) marks = marks
+
+-- a mark that tells the truth of a section
+pub record MarkTrue (marks : List ℕ) (i b : ℕ) (u : List ℕ) : Type 0 where
+  pub sound-here : getD marks i 0 ≡ 1 → IsSound (entry b (length u) (verdict-at b u))
+
+-- a verdict that is a section's, whatever its words
+pub record Judged (v : Verdict) (b : ℕ) (u : List ℕ) : Type 0 where
+  pub is : entryOf b (length u) v ≡ entry b (length u) (verdict-at b u)
+  pub fits : PlaceFits v
+
+-- the items of a section, if it is accepted, hoisted behind those before; the rest of the buffer is as it was
+pub record SectionBehind {t old : List ℕ} {at : ℕ} (f : HoistedFront t old at) (b : ℕ) (u : List ℕ) (to : ℕ) (new : List ℕ) : Type 0 where
+  pub front : HoistedFront t new to
+  pub front-items : front .items ≡ f .items ++ items-of (verdict-at b u)
+  pub front-tail : front .tail ≡ drop (to - at) (f .tail)
+
+abbrev pub SectionBehindTo : (new t old : List ℕ) → ℕ → ℕ → List ℕ → ℕ → Type 0
+SectionBehindTo new t old at b u to = (f : HoistedFront t old at) → SectionBehind f b u to new

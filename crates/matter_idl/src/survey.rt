@@ -1,0 +1,162 @@
+// The survey of a text: each section is read alone, with offsets of the whole text.
+ghost use mathlib.Core.Path.{_≡_};
+ghost use mathlib.Core.List.{[], _∷_};
+ghost use Prim.Native.Nat.{_+_, _*_, _≤_, _<_};
+ghost use lib.ListN.{length};
+ghost use Rattle.items.specs.layout.{layout-20, catalogue-bytes, text-limit, word-count};
+ghost use Rattle.items.specs.buffers.{put};
+ghost use Rattle.matter_idl.specs.hoisting.{no-ids, hoisted};
+ghost use Rattle.matter_idl.specs.sections.{sections};
+ghost use Rattle.matter_idl.specs.reading.{verdict-at};
+ghost use Rattle.matter_idl.specs.survey.{items-of, accepted-items, entries, report-20, report-bytes};
+ghost use Rattle.matter_idl.specs.inner.reading.{PartOf, HoistedFront};
+ghost use Rattle.matter_idl.specs.inner.survey.{entryWord, verdictWord, entryOf, PlaceFits, wordsOf, remembered, Marks, MarkTrue, Judged, SectionBehindTo};
+use crate::reading::Verdict;
+use crate::reading::verdict_at;
+use crate::reading::write_items;
+use crate::sections::section_at;
+use crate::sections::section_end;
+use items::writing::put_word;
+use lexing::parts::peek;
+use lexing::parts::rest_at;
+
+fn entry_word(start: usize, size: usize, number: usize, place: usize) -> u64
+    requires { ⌜ start ≤ text-limit ⌝ }
+    requires { ⌜ size ≤ text-limit ⌝ }
+    requires { ⌜ number < 16 ⌝ }
+    requires { ⌜ place ≤ text-limit ⌝ }
+    ensures { λ r. ⌜ r ≡ entryWord start size number place ⌝ }
+{
+    start as u64 * 0x1000_0000_0000
+        + size as u64 * 0x100_0000
+        + number as u64 * 0x10_0000
+        + place as u64
+}
+
+fn verdict_word(start: usize, size: usize, v: Verdict) -> u64
+    requires { ⌜ start ≤ text-limit ⌝ }
+    requires { ⌜ size ≤ text-limit ⌝ }
+    requires { ⌜ PlaceFits v ⌝ }
+    ensures { λ r. ⌜ r ≡ verdictWord start size v ⌝ }
+{
+    match v {
+        Verdict::Accepted(_) => entry_word(start, size, 0, 0),
+        Verdict::Refused(number, place) => entry_word(start, size, number, place),
+    }
+}
+
+// The report's entry of a section.
+fn put_entry(report: &mut [u8], at: usize, start: usize, size: usize, v: Verdict)
+    requires { ⌜ at + 8 ≤ length (now report) ⌝ }
+    requires { ⌜ start ≤ text-limit ⌝ }
+    requires { ⌜ size ≤ text-limit ⌝ }
+    requires { ⌜ PlaceFits v ⌝ }
+    ensures { λ _. ⌜ now (report .exit) ≡ put at (report-bytes report-20 (entryOf start size v ∷ [])) (now (report .entry)) ⌝ }
+{
+    put_word(report, at, verdict_word(start, size, v));
+}
+
+// A refused section has no words.
+fn accepted_words(v: Verdict) -> usize
+    ensures { λ r. ⌜ r ≡ wordsOf v ⌝ }
+{
+    match v {
+        Verdict::Accepted(n) => n,
+        Verdict::Refused(_, _) => 0,
+    }
+}
+
+// Marks an accepted section, if there is a byte for it.
+fn remember(marks: &mut [u8], i: usize, v: Verdict)
+    ensures { λ _. ⌜ now (marks .exit) ≡ remembered i v (now (marks .entry)) ⌝ }
+{
+    let Verdict::Accepted(_) = v else {
+        return;
+    };
+    if marks.len() <= i {
+        return;
+    }
+    marks[i] = 1;
+}
+
+// The first pass over the m sections of a text: the words of the accepted ones, and marks for them.
+pub fn count_accepted(text: &[u8], m: usize, marks: &mut [u8]) -> usize
+    requires { ⌜ length (now text) ≤ text-limit ⌝ }
+    requires { ⌜ m ≡ length (sections (now text)) ⌝ }
+    requires { ⌜ Marks (now marks) [] ⌝ }
+    ensures { λ r. ⌜ r ≡ word-count (hoisted no-ids (accepted-items 0 (sections (now (text .entry))))) ⌝ }
+    ensures { λ r. ⌜ r ≤ 8 * length (now (text .entry)) ⌝ }
+    ensures { λ _. ⌜ Marks (now (marks .exit)) (entries 0 (sections (now (text .entry)))) ⌝ }
+{
+    let mut i = 0;
+    let mut start = 0;
+    let mut n = 0;
+    while i < m {
+        let end = section_end(rest_at(text, 0, start), start);
+        let v = verdict_at(section_at(text, start, end), start);
+        remember(marks, i, v);
+        n += accepted_words(v);
+        start = end;
+        i += 1;
+    }
+    n
+}
+
+// The verdict on section i once more, unless it is known that the section is accepted.
+fn verdict_again(part: &[u8], base: usize, marks: &[u8], i: usize) -> Verdict
+    requires { ⌜ base + length (now part) ≤ text-limit ⌝ }
+    requires { ⌜ MarkTrue (now marks) i base (now part) ⌝ }
+    ensures { λ r. ⌜ Judged r base (now (part .entry)) ⌝ }
+{
+    if peek(marks, i) == 1 {
+        return Verdict::Accepted(0);
+    }
+    verdict_at(part, base)
+}
+
+// The records of a section, if it is accepted, behind those before it.
+fn write_accepted(
+    text: &[u8],
+    part: &[u8],
+    base: usize,
+    v: Verdict,
+    catalogue: &mut [u8],
+    to: usize,
+) -> usize
+    requires { ⌜ length (now text) ≤ text-limit ⌝ }
+    requires { ⌜ PartOf (now text) base (now part) ⌝ }
+    requires { ⌜ Judged v base (now part) ⌝ }
+    requires { ⌜ to + 8 * word-count (hoisted no-ids (items-of (verdict-at base (now part)))) ≤ length (now catalogue) ⌝ }
+    requires { ⌜ HoistedFront (now text) (now catalogue) to ⌝ }
+    ensures { λ r. ⌜ SectionBehindTo (now (catalogue .exit)) (now (text .entry)) (now (catalogue .entry)) to base (now (part .entry)) r ⌝ }
+{
+    let Verdict::Accepted(_) = v else {
+        return to;
+    };
+    let wrote = write_items(text, part, base, catalogue, to);
+    wrote.to
+}
+
+// The second pass: each section's entry, and its records if it is accepted.
+pub fn write_sections(text: &[u8], m: usize, marks: &[u8], catalogue: &mut [u8], report: &mut [u8])
+    requires { ⌜ length (now text) ≤ text-limit ⌝ }
+    requires { ⌜ m ≡ length (sections (now text)) ⌝ }
+    requires { ⌜ Marks (now marks) (entries 0 (sections (now text))) ⌝ }
+    requires { ⌜ 8 * word-count (hoisted no-ids (accepted-items 0 (sections (now text)))) ≤ length (now catalogue) ⌝ }
+    requires { ⌜ 8 * m ≤ length (now report) ⌝ }
+    ensures { λ _. ⌜ now (catalogue .exit) ≡ put 0 (catalogue-bytes layout-20 (hoisted no-ids (accepted-items 0 (sections (now (text .entry)))))) (now (catalogue .entry)) ⌝ }
+    ensures { λ _. ⌜ now (report .exit) ≡ put 0 (report-bytes report-20 (entries 0 (sections (now (text .entry))))) (now (report .entry)) ⌝ }
+{
+    let mut i = 0;
+    let mut start = 0;
+    let mut to = 0;
+    while i < m {
+        let end = section_end(rest_at(text, 0, start), start);
+        let part = section_at(text, start, end);
+        let v = verdict_again(part, start, marks, i);
+        put_entry(report, 8 * i, start, end - start, v);
+        to = write_accepted(text, part, start, v, catalogue, to);
+        start = end;
+        i += 1;
+    }
+}
