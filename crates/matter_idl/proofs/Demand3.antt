@@ -16,7 +16,7 @@ use Rattle.matter_idl.specs.demand_3.{alone, own-records, fed, globals, 
 use Rattle.matter_idl.proofs.HandedOut.{handed-own, handed-places, handed-hoisted, handed-ids}
 use Rattle.matter_idl.proofs.hoisting.Types.{hoisted-globals}
 use Rattle.matter_idl.proofs.Replacing.{moved-by, entries-along, entries-moved, numbers-same, saved-own, saved-along, saved-moved, old-along, new-along}
-use Rattle.matter_idl.proofs.Sections.{sections-joined}
+use Rattle.matter_idl.proofs.Cutting.{sections-joined}
 use Rattle.matter_idl.proofs.SectionsAlone.{each-short, entries-as-alone}
 use Rattle.matter_idl.proofs.Whole.{whole-verdict}
 

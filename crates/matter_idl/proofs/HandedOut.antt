@@ -17,7 +17,7 @@ use Rattle.matter_idl.proofs.Places.{Alike, alike-append, alike-hoisted
 use Rattle.matter_idl.proofs.hoisting.Marks.{hoisted-append}
 use Rattle.matter_idl.proofs.hoisting.Moved.{after-items-moved, hoisted-moved, after-items-append}
 use Rattle.matter_idl.proofs.hoisting.Search.{Kind, enums, bitmaps, structs, number-of, table-of, by-search}
-use Rattle.matter_idl.proofs.Sections.{sections-joined}
+use Rattle.matter_idl.proofs.Cutting.{sections-joined}
 use Rattle.matter_idl.proofs.SectionsAlone.{moved-items, each-short, items-alone}
 use Rattle.matter_idl.proofs.Whole.{survey-true}
 

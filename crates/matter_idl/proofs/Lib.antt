@@ -9,7 +9,7 @@ pub mod Places
 -- truth of a part and of its text
 pub mod Around
 -- cutting a text into sections
-pub mod Sections
+pub mod Cutting
 -- texts one behind the other
 pub mod Join
 -- a section alone and where it stands

@@ -12,7 +12,7 @@ use Rattle.matter_idl.specs.survey.{Entry, sound, spoilt}
 use Rattle.matter_idl.specs.demand_3.{own-records, own-moved, save-places, entry-alone, entries-alone, moved-entry, number-of, MovedBy, extent-of, Replacement}
 use Rattle.matter_idl.proofs.HandedOut.{save-moved}
 use Rattle.matter_idl.proofs.Places.{save-append}
-use Rattle.matter_idl.proofs.Sections.{joined-append, sections-joined, continues}
+use Rattle.matter_idl.proofs.Cutting.{joined-append, sections-joined, continues}
 
 -- What is said of sections one by one, at their starts.
 pub record Along {A : Type 0} (f : ℕ → List (List ℕ) → List A) : Type 0 where

@@ -19,7 +19,7 @@ use Rattle.matter_idl.specs.hoisting.{no-ids, hoisted}
 use Rattle.matter_idl.specs.reading.{all-items, by-reply, by-utf8, verdict-at}
 use Rattle.matter_idl.specs.sections.{sections, joined}
 use Rattle.matter_idl.specs.survey.{accepted-items, Entry, sound, spoilt, entry, entries, report-20, entry-words}
-use Rattle.matter_idl.proofs.Sections.{sections-joined}
+use Rattle.matter_idl.proofs.Cutting.{sections-joined}
 use Rattle.matter_idl.proofs.Whole.{survey-true}
 use Rattle.matter_idl.proofs.hoisting.Marking.{hoisted-fits}
 use Rattle.matter_idl.proofs.reading.Judged.{all-refused}

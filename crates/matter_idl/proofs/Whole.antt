@@ -20,7 +20,7 @@ use Rattle.matter_idl.specs.sections.{sections, joined}
 use Rattle.matter_idl.specs.survey.{items-of, accepted-items}
 use Rattle.matter_idl.specs.demand_3.{Accepted, EachAccepted}
 use Rattle.matter_idl.proofs.Join.{Reads, none as no-more, accepted-reads, reads-ends, reads-all, reads-on, reads-continued, reads-true}
-use Rattle.matter_idl.proofs.Sections.{sections-joined, Cuts, cuts-tail, sections-cut}
+use Rattle.matter_idl.proofs.Cutting.{sections-joined, Cuts, cuts-tail, sections-cut}
 use Rattle.matter_idl.proofs.SectionsAlone.{shiftVerdict, verdict-short, verdict-alone, EachShort, each-short}
 
 -- an accepted section is UTF-8 and is read to its end

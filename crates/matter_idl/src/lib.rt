@@ -1,6 +1,6 @@
-// The reader of Matter IDL: a text becomes a catalogue of records.
+// The reader of Matter IDL: a text becomes a catalogue of records, and its survey reads every section alone.
 mod hoisting;
 pub mod interface;
-pub mod reading;
+mod reading;
 mod sections;
 mod survey;
