@@ -52,17 +52,17 @@ pub extern "C" fn matter_idl_survey(text: &[u8], catalogue: &mut [u8], report: &
     if 1048575 < text.len() {
         return packed(1, 1048575);
     }
-    let m = count_sections(text);
-    if report.len() < 8 * m {
-        return packed(8, 8 * m);
+    let sections = count_sections(text);
+    if report.len() < 8 * sections {
+        return packed(8, 8 * sections);
     }
     let mut marks = [0; 4096];
-    let n = count_accepted(text, m, &mut marks);
-    if catalogue.len() < 8 * n {
-        return packed(7, 8 * n);
+    let words = count_accepted(text, sections, &mut marks);
+    if catalogue.len() < 8 * words {
+        return packed(7, 8 * words);
     }
-    write_sections(text, m, &marks, catalogue, report);
-    packed(0, 8 * n)
+    write_sections(text, sections, &marks, catalogue, report);
+    packed(0, 8 * words)
 }
 
 #[no_mangle]
