@@ -9,6 +9,8 @@ mod outcome;
 mod reader;
 mod run;
 mod shrink;
+#[cfg(feature = "library")]
+mod speed;
 #[cfg(test)]
 mod tests;
 mod tree;
@@ -24,7 +26,8 @@ const USAGE: &str = "words [FILE]                            the words for the R
 check [SEED [COUNT]]                    the papers' texts and all generated ones: the Rust beside the locator
 compare PROGRAM [SEED [COUNT [EVERY]]]  a program like the lister beside the Rust, on one text of EVERY
 library [SEED [COUNT [EVERY]]]          the same with the static library (build with MATTER_IDL_LIB set)
-vectors [SEED]                          the stored list of short texts with answers";
+vectors [SEED]                          the stored list of short texts with answers
+speed FILE ..                           the Rust and the static library on each text, in turn";
 
 fn main() -> ExitCode {
     let arguments: Vec<String> = std::env::args().skip(1).collect();
@@ -52,6 +55,8 @@ fn command(arguments: &[&str]) -> Result<usize, String> {
         }
         #[cfg(feature = "library")]
         "library" => compare(&mut reader::Library, rest, 1),
+        #[cfg(feature = "library")]
+        "speed" => rest.iter().try_for_each(|file| speed::compare(file)).map(|()| 0),
         "vectors" => {
             vectors::print(number(rest, 0, 1)?);
             Ok(0)

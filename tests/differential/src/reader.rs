@@ -56,7 +56,7 @@ pub struct Library;
 
 #[cfg(feature = "library")]
 extern "C" {
-    fn matter_idl_read(text: *const u8, text_len: usize, catalogue: *mut u8, catalogue_len: usize) -> u64;
+    pub fn matter_idl_read(text: *const u8, text_len: usize, catalogue: *mut u8, catalogue_len: usize) -> u64;
 }
 
 #[cfg(feature = "library")]
