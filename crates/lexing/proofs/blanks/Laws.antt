@@ -13,13 +13,14 @@ use Rattle.lexing.specs.bytes.{slash, star, isSpace, inLine, takeWhile, 
 use Rattle.lexing.specs.reply.{ok, fail, ret, _>>=_, catch, keep, position, failAt, pick}
 use Rattle.lexing.specs.blanks.{Whitespace, white, plain, doc-comment, line-comment, Until, found, never, one-more, until-close, comment-kind, closed, block-comment, multispace1, whitespace-group, Doc, no-doc, doc-at, after, one-blank, whitespace0, whitespace1}
 use Rattle.lexing.specs.answers.{Rest, groupReply, blankReply, BlankTo, docOf}
-use Rattle.lexing.specs.inner.blanks.{isClose, endUntil, turnReply}
+use Rattle.lexing.specs.inner.blanks.{isClose, endUntil, docBy, turnReply}
 use Rattle.lexing.specs.declared.blanks.End.{End}
 use Rattle.lexing.specs.declared.blanks.End.the-variants.{Closed, Open}
 use Rattle.lexing.specs.declared.blanks.Group.{Group}
 use Rattle.lexing.specs.declared.blanks.Group.the-variants.{Nothing, White, Plain, DocComment}
-use Rattle.lexing.specs.declared.blanks.DocSpan.the-variants.{Absent}
+use Rattle.lexing.specs.declared.blanks.DocSpan.{DocSpan}
 use Rattle.lexing.specs.declared.blanks.Blank.{Blank}
+use Rattle.lexing.specs.declared.blanks.Run.{Run}
 use Rattle.lexing.specs.declared.blanks.Turn.{Turn}
 use Rattle.lexing.specs.declared.blanks.Turn.the-variants.{Again, Done}
 use Rattle.lexing.proofs.Onward.{group-advances}
@@ -257,6 +258,11 @@ group-none b n (x ∷ u) e h y ey ne = go (isSpace x) refl
     go true q = let z : n ≡ suc (length (takeWhile isSpace u)) = e ∙ ap length (run-cons isSpace x u q) in absurd (omega arith)
     go false q = sym (no-group b x u (rw (ne-eqb x slash (λ z. ne (ey ∙ z)), q)))
 
+-- a doc comment's text stands behind its first bytes, so its offset is not 0
+pub doc-some : (o n : ℕ) → (o ≡ 0 → ⊥) → doc-at o n ≡ docBy o n
+doc-some zero n h = absurd (h refl)
+doc-some (suc o) n h = refl
+
 -- a turn of a run
 turn-some : (d : Doc) (b c : ℕ) (u r : List ℕ) (k : Whitespace) → ok k c r ≡ whitespace-group b u → ok (after k d) c r ≡ one-blank d b u
 unfolding one-blank _>>=_ ret
@@ -289,9 +295,9 @@ module _ (b : ℕ) (u : List ℕ) (at : ℕ) (r : List ℕ) (q : Rest b u at r) 
   unfolding after
   turn-plain d n e = some plain n (told (Plain n) e) d
 
-  pub turn-doc : (d : Doc) (n : ℕ) → g ≡ DocComment n → ok (doc-at (at + 3) n) (at + (n + 5)) (drop (at + (n + 5) - at) (drop (at - b) u)) ≡ one-blank d at (drop (at - b) u)
+  pub turn-doc : (d : Doc) (n : ℕ) → g ≡ DocComment n → ok (docBy (at + 3) n) (at + (n + 5)) (drop (at + (n + 5) - at) (drop (at - b) u)) ≡ one-blank d at (drop (at - b) u)
   unfolding after
-  turn-doc d n e = some (doc-comment (at + 3) n) (n + 5) (told (DocComment n) e) d
+  turn-doc d n e = rw (← doc-some (at + 3) n (λ z. omega arith)) (some (doc-comment (at + 3) n) (n + 5) (told (DocComment n) e) d)
 
   pub white-fits : (n : ℕ) → g ≡ White n → at + n ≤ b + length u
   white-fits n e = fits white n (told (White n) e)
@@ -303,25 +309,25 @@ module _ (b : ℕ) (u : List ℕ) (at : ℕ) (r : List ℕ) (q : Rest b u at r) 
   doc-fits n e = fits (doc-comment (at + 3) n) (n + 5) (told (DocComment n) e)
 
 -- the invariant of a run
-pub record BlanksAt (b : ℕ) (u : List ℕ) (t : Blank) : Type 0 where
-  pub run : IterAt one-blank keep no-doc b u (t .next) (docOf (t .doc))
+pub record BlanksAt (b : ℕ) (u : List ℕ) (t : Run) : Type 0 where
+  pub run : IterAt one-blank keep no-doc b u (t .next) (docBy (t .doc) (t .size))
 
-pub blanks-start : (b : ℕ) (u : List ℕ) → BlanksAt b u (record { next = b; doc = Absent })
+pub blanks-start : (b : ℕ) (u : List ℕ) → BlanksAt b u (record { next = b; doc = 0; size = 0 })
 blanks-start b u = record { run = iter-start one-blank keep no-doc b u }
 
-module _ (b : ℕ) (u : List ℕ) (t : Blank) (i : BlanksAt b u t) (r : Turn) (h : turnReply r (t .next) (drop (t .next - b) u) ≡ one-blank (docOf (t .doc)) (t .next) (drop (t .next - b) u)) where
-  turned : (k : Turn) → r ≡ k → turnReply k (t .next) (drop (t .next - b) u) ≡ one-blank (docOf (t .doc)) (t .next) (drop (t .next - b) u)
-  turned k e = subst (λ (x : Turn). turnReply x (t .next) (drop (t .next - b) u) ≡ one-blank (docOf (t .doc)) (t .next) (drop (t .next - b) u)) e h
+module _ (b : ℕ) (u : List ℕ) (t : Run) (i : BlanksAt b u t) (r : Turn) (h : turnReply r (t .next) (drop (t .next - b) u) ≡ one-blank (docBy (t .doc) (t .size)) (t .next) (drop (t .next - b) u)) where
+  turned : (k : Turn) → r ≡ k → turnReply k (t .next) (drop (t .next - b) u) ≡ one-blank (docBy (t .doc) (t .size)) (t .next) (drop (t .next - b) u)
+  turned k e = subst (λ (x : Turn). turnReply x (t .next) (drop (t .next - b) u) ≡ one-blank (docBy (t .doc) (t .size)) (t .next) (drop (t .next - b) u)) e h
 
-  pub blanks-again : (t' : Blank) → r ≡ Again t' → BlanksAt b u t' × (t .next < t' .next)
+  pub blanks-again : (t' : Run) → r ≡ Again t' → BlanksAt b u t' × (t .next < t' .next)
   blanks-again t' e =
       let q = rest-from b (t .next) u (i .run .from) (i .run .inside) in
-      let x = iter-step one-blank-consumes (i .run) (took (walks (one-blank-chain (docOf (t .doc)))) q (turned (Again t') e)) in
+      let x = iter-step one-blank-consumes (i .run) (took (walks (one-blank-chain (docBy (t .doc) (t .size)))) q (turned (Again t') e)) in
       (record { run = x .0 }, x .1)
 
-  pub blanks-end : r ≡ Done → BlankTo t b u
+  pub blanks-end : (d : DocSpan) → docOf d ≡ docBy (t .doc) (t .size) → r ≡ Done → BlankTo (record { next = t .next; doc = d }) b u
   unfolding keep whitespace0
-  blanks-end e = record { reads = iter-ends one-blank-consumes (i .run) (t .next) (sym (turned Done e)); up = i .run .from; inside = i .run .inside }
+  blanks-end d k e = record { reads = rw k (iter-ends one-blank-consumes (i .run) (t .next) (sym (turned Done e))); up = i .run .from; inside = i .run .inside }
 
 -- at least one
 module _ (b : ℕ) (u : List ℕ) (t : Blank) (h : BlankTo t b u) where

@@ -3,7 +3,7 @@ use Rattle.lexing.proofs.blanks.one_blank.Statement.{statement}
 use Rattle.lexing.proofs.blanks.one_blank.Tie as tie
 use native.Mathlib.Omega.{arith}
 use denote.Ref.{now}
-use Rattle.lexing.specs.answers.{docOf}
+use Rattle.lexing.specs.inner.blanks.{docBy}
 use Rattle.lexing.proofs.blanks.Laws.{turn-done, turn-white, turn-plain, turn-doc, white-fits, plain-fits, doc-fits}
 
 rest-at-requires : tie.Need-rest-at-requires
@@ -18,14 +18,14 @@ enum-told c = c .match .keys1
 enum-known-g : tie.Need-enum-known-g
 enum-known-g c = c .match .keys2
 
-add-t12 : tie.Need-add-t12
-add-t12 c = omega (arith, white-fits (c .before .before .before .before .before .before .args .base) (now (c .before .before .before .before .before .before .args .part)) _ _ (c .before .before .before .before .rest-at .ensures) _ (c .before .before .before .whitespace-group .ensures) _ (c .before .g .given .1))
+add-t13 : tie.Need-add-t13
+add-t13 c = omega (arith, white-fits (c .before .before .before .before .before .before .args .base) (now (c .before .before .before .before .before .before .args .part)) _ _ (c .before .before .before .before .rest-at .ensures) _ (c .before .before .before .whitespace-group .ensures) _ (c .before .g .given .1))
 
 enum-known-g-2 : tie.Need-enum-known-g-2
 enum-known-g-2 c = c .match .keys3
 
-add-t14 : tie.Need-add-t14
-add-t14 c = omega (arith, plain-fits (c .before .before .before .before .before .before .args .base) (now (c .before .before .before .before .before .before .args .part)) _ _ (c .before .before .before .before .rest-at .ensures) _ (c .before .before .before .whitespace-group .ensures) _ (c .before .g2 .given .1))
+add-t15 : tie.Need-add-t15
+add-t15 c = omega (arith, plain-fits (c .before .before .before .before .before .before .args .base) (now (c .before .before .before .before .before .before .args .part)) _ _ (c .before .before .before .before .rest-at .ensures) _ (c .before .before .before .whitespace-group .ensures) _ (c .before .g2 .given .1))
 
 enum-known-g-3 : tie.Need-enum-known-g-3
 enum-known-g-3 c = c .match .keys4
@@ -40,16 +40,16 @@ add-t19 : tie.Need-add-t19
 add-t19 c = omega (arith, doc-fits (c .before .before .before .before .before .before .args .base) (now (c .before .before .before .before .before .before .args .part)) _ _ (c .before .before .before .before .rest-at .ensures) _ (c .before .before .before .whitespace-group .ensures) _ (c .before .g3 .given .1))
 
 returns : tie.Need-returns
-returns c = turn-done _ _ _ _ (c .before .before .before .rest-at .ensures) _ (c .before .before .whitespace-group .ensures) (docOf (c .before .before .before .before .before .args .b .doc)) (c .enum-told .given .1)
+returns c = turn-done _ _ _ _ (c .before .before .before .rest-at .ensures) _ (c .before .before .whitespace-group .ensures) (docBy (c .before .before .before .before .before .args .b .doc) (c .before .before .before .before .before .args .b .size)) (c .enum-told .given .1)
 
 returns-2 : tie.Need-returns-2
-returns-2 c = turn-white _ _ _ _ (c .before .before .before .before .rest-at .ensures) _ (c .before .before .before .whitespace-group .ensures) (docOf (c .before .before .before .before .before .before .args .b .doc)) _ (c .before .g .given .1)
+returns-2 c = turn-white _ _ _ _ (c .before .before .before .before .rest-at .ensures) _ (c .before .before .before .whitespace-group .ensures) (docBy (c .before .before .before .before .before .before .args .b .doc) (c .before .before .before .before .before .before .args .b .size)) _ (c .before .g .given .1)
 
 returns-3 : tie.Need-returns-3
-returns-3 c = turn-plain _ _ _ _ (c .before .before .before .before .rest-at .ensures) _ (c .before .before .before .whitespace-group .ensures) (docOf (c .before .before .before .before .before .before .args .b .doc)) _ (c .before .g2 .given .1)
+returns-3 c = turn-plain _ _ _ _ (c .before .before .before .before .rest-at .ensures) _ (c .before .before .before .whitespace-group .ensures) (docBy (c .before .before .before .before .before .before .args .b .doc) (c .before .before .before .before .before .before .args .b .size)) _ (c .before .g2 .given .1)
 
 returns-4 : tie.Need-returns-4
-returns-4 c = turn-doc _ _ _ _ (c .before .before .before .before .rest-at .ensures) _ (c .before .before .before .whitespace-group .ensures) (docOf (c .before .before .before .before .before .before .args .b .doc)) _ (c .before .g3 .given .1)
+returns-4 c = turn-doc _ _ _ _ (c .before .before .before .before .rest-at .ensures) _ (c .before .before .before .whitespace-group .ensures) (docBy (c .before .before .before .before .before .before .args .b .doc) (c .before .before .before .before .before .before .args .b .size)) _ (c .before .g3 .given .1)
 
 pub one-blank-spec : {M : Type 1} → statement M
 one-blank-spec =
@@ -59,9 +59,9 @@ one-blank-spec =
     whitespace-group-requires
     enum-told
     enum-known-g
-    add-t12
+    add-t13
     enum-known-g-2
-    add-t14
+    add-t15
     enum-known-g-3
     add-t17
     add-t18

@@ -25,8 +25,11 @@ enum-known-t c = c .match .keys1
 enum-told : tie.Need-enum-told Inv-loop μ-loop
 enum-told c = c .match .keys2
 
+doc-by-requires : tie.Need-doc-by-requires Inv-loop μ-loop
+doc-by-requires c κs = tt
+
 returns : tie.Need-returns Inv-loop μ-loop
-returns c = blanks-end _ _ _ (c .before .before .before .loop .inv) _ (c .before .before .one-blank .ensures) (c .enum-told .given .1)
+returns c = blanks-end _ _ _ (c .before .before .before .before .loop .inv) _ (c .before .before .before .one-blank .ensures) _ (c .doc-by .ensures) (c .before .enum-told .given .1)
 
 loop-less : tie.Need-loop-less Inv-loop μ-loop
 loop-less c = let h = blanks-again (c .before .before .before .before .before .before .args .base) (now (c .before .before .before .before .before .before .args .part)) _ (c .before .before .before .before .loop .inv) _ (c .before .before .before .one-blank .ensures) _ (c .before .t .given .1) in omega (arith, h .1, h .0 .run .inside)
@@ -44,6 +47,7 @@ whitespace0-spec =
     one-blank-requires
     enum-known-t
     enum-told
+    doc-by-requires
     returns
     loop-less
     loop-again)
