@@ -50,6 +50,16 @@ pub run-none : (f : ℕ → Bool) (x : ℕ) (u : List ℕ) → f x ≡ false →
 unfolding takeWhile
 run-none f x u e = rw (e, takeWhile)
 
+-- the byte behind the run fails, and so does 0, which stands for none
+pub run-stops : (f : ℕ → Bool) → f 0 ≡ false → (u : List ℕ) → f (getD u (length (takeWhile f u)) 0) ≡ false
+unfolding takeWhile
+run-stops f z [] = z
+run-stops f z (x ∷ u) = go (f x) refl (run-stops f z u)
+  where
+    go : (t : Bool) → f x ≡ t → f (getD u (length (takeWhile f u)) 0) ≡ false → f (getD (x ∷ u) (length (takeWhile f (x ∷ u))) 0) ≡ false
+    go true e ih = rw (e, takeWhile) ih
+    go false e ih = rw (e, takeWhile) e
+
 run-nil : (f : ℕ → Bool) → takeWhile f [] ≡ []
 unfolding takeWhile
 run-nil f = refl

@@ -1,5 +1,6 @@
 // Blanks: white space and comments.
 ghost use mathlib.Core.Path.{_≡_};
+ghost use mathlib.Core.Bool.{false};
 ghost use Prim.Native.Nat.{_+_, _-_, _≤_, _<_};
 ghost use lib.ListN.{length, drop, getD};
 ghost use Rattle.lexing.specs.bytes.{slash, isSpace, inLine, takeWhile};
@@ -157,17 +158,33 @@ pub fn whitespace_group(part: &[u8], base: usize) -> Group
     Group::Nothing
 }
 
-// One more blank, or the end of the run.
+// The offset behind the white space at an offset.
+fn skip_white(part: &[u8], base: usize, at: usize) -> usize
+    requires { ⌜ base ≤ at ⌝ }
+    requires { ⌜ at ≤ base + length (now part) ⌝ }
+    requires { ⌜ base + length (now part) ≤ u64-max ⌝ }
+    ensures { λ r. ⌜ r ≡ at + length (takeWhile isSpace (drop (at - base) (now (part .entry)))) ⌝ }
+{
+    let n = white_length(rest_at(part, base, at));
+    at + n
+}
+
+// One more blank, or the end of the run. No white space stands there, so it is a comment.
 fn one_blank(part: &[u8], base: usize, b: Run) -> Turn
     requires { ⌜ base ≤ b .next ⌝ }
     requires { ⌜ b .next ≤ base + length (now part) ⌝ }
+    requires { ⌜ isSpace (getD (now part) (b .next - base) 0) ≡ false ⌝ }
     requires { ⌜ base + length (now part) ≤ u64-max ⌝ }
     ensures { λ r. ⌜ turnReply r (b .next) (drop (b .next - base) (now (part .entry))) ≡ one-blank (docBy (b .doc) (b .size)) (b .next) (drop (b .next - base) (now (part .entry))) ⌝ }
 {
     let at = b.next;
     let doc = b.doc;
     let size = b.size;
-    let g = whitespace_group(rest_at(part, base, at), at);
+    let rest = rest_at(part, base, at);
+    if peek(rest, 0) != b'/' {
+        return Turn::Done;
+    }
+    let g = comment_group(rest, at);
     match g {
         Group::Nothing => Turn::Done,
         Group::White(n) => Turn::Again(Run {
@@ -198,25 +215,30 @@ fn doc_by(doc: usize, size: usize) -> DocSpan
     DocSpan::At(doc, size)
 }
 
-// Any number of blanks. The run is carried in plain numbers, since an enum in it would be copied at each turn.
+// Any number of blanks: white space, and comments with the white space behind each. The run is carried in plain numbers, since an enum in it
+// would be copied at each turn.
 pub fn whitespace0(part: &[u8], base: usize) -> Blank
     requires { ⌜ base + length (now part) ≤ u64-max ⌝ }
     ensures { λ r. ⌜ BlankTo r base (now (part .entry)) ⌝ }
 {
     let mut b = Run {
-        next: base,
+        next: skip_white(part, base, base),
         doc: 0,
         size: 0,
     };
     loop {
         let t = one_blank(part, base, b);
-        let Turn::Again(next) = t else {
+        let Turn::Again(c) = t else {
             return Blank {
                 next: b.next,
                 doc: doc_by(b.doc, b.size),
             };
         };
-        b = next;
+        b = Run {
+            next: skip_white(part, base, c.next),
+            doc: c.doc,
+            size: c.size,
+        };
     }
 }
 
