@@ -89,10 +89,11 @@ keyword-says k b u = go (isLetter (getD u 0 0)) refl (isKeyword (takeWhile isWor
     go true e false e' = rw (← keyword-other k b u e e') refl
     go true e true e' = rw (keyword-same k b u e e') e'
 
--- a word is the keyword where it is as long and its bytes in lower case are the keyword's
-abbrev Agree : List ℕ → List ℕ → ℕ → Type 0
+-- the first i bytes of w, in lower case, are those of k
+abbrev pub Agree : List ℕ → List ℕ → ℕ → Type 0
 Agree w k i = (j : ℕ) → j < i → lower (getD w j 0) ≡ getD k j 0
 
+-- a word is the keyword where it is as long and all its bytes agree
 word-agrees : (w k : List ℕ) → isKeyword w k ≡ true → (length w ≡ length k) × Agree w k (length k)
 unfolding isKeyword
 word-agrees [] [] e = (refl, λ j h. absurd (omega arith))
@@ -117,7 +118,7 @@ agrees-word (x ∷ w) (y ∷ k) e h = rw (eq-eqb (lower x) y (h 0 (omega arith))
 pub record KeyAt (k u : List ℕ) (i : ℕ) : Type 0 where
   pub inside : i ≤ length k
   pub enough : length k ≤ length u
-  pub agree : (j : ℕ) → j < i → lower (getD u j 0) ≡ getD k j 0
+  pub agree : Agree u k i
 
 pub key-start : (k u : List ℕ) → length k ≤ length u → KeyAt k u 0
 key-start k u h = record { inside = zero-le; enough = h; agree = below-none _ }

@@ -10,7 +10,6 @@ use Rattle.lexing.specs.blanks.{Until, found, never, Doc, no-doc, doc-at
 use Rattle.lexing.specs.answers.{got, reply}
 use Rattle.lexing.specs.declared.blanks.End.{End}
 use Rattle.lexing.specs.declared.blanks.End.the-variants.{Closed, Open}
-use Rattle.lexing.specs.declared.blanks.Run.{Run}
 use Rattle.lexing.specs.declared.blanks.Turn.{Turn}
 use Rattle.lexing.specs.declared.blanks.Turn.the-variants.{Again, Done}
 
