@@ -1,29 +1,19 @@
 -- Scans: a loop over the bytes of a part that ends at the first byte that fails a test.
 use mathlib.Core.Path.{_≡_, refl, sym, ap, _∙_}
 use mathlib.Core.List.{List, [], _∷_}
-use mathlib.Core.Bool.{Bool, true, false, false≢true}
-use Prim.Native.Nat.{ℕ, suc, _+_, _-_, _≤_, _<_, zero-le}
+use mathlib.Core.Bool.{Bool, true, false}
+use Prim.Native.Nat.{ℕ, suc, _+_, _≤_, _<_, zero-le}
 use native.Mathlib.Omega.{arith}
 use native.Mathlib.Numerals.{add-one}
 use native.Mathlib.Nat.{add-zero}
-use lib.Dec.{ltb}
-use lib.ListN.{length, drop, take, getD, drop-of-length-le, List·getD-eq-default}
-use lib.Seq.{drop-cons, getD-drop}
-use borrow.Author.Tests.{ltb-true, ltb-false}
+use lib.ListN.{length, drop, take, getD, drop-of-length-le}
+use lib.Seq.{drop-cons, getD-drop, getD-take}
 use Rattle.lexing.specs.bytes.{takeWhile, dropWhile}
 use Rattle.lexing.proofs.Runs.{run-length}
 
 -- the first byte of a rest
 pub first-of : (i : ℕ) (u : List ℕ) → getD (drop i u) 0 0 ≡ getD u i 0
 first-of i u = rw (getD-drop i u 0 0, add-zero)
-
--- a test that 0 fails is passed inside the text only
-pub passed-inside : (f : ℕ → Bool) → f 0 ≡ false → (i : ℕ) (u : List ℕ) → f (getD u i 0) ≡ true → i < length u
-passed-inside f fails i u e = go (ltb i (length u)) refl
-  where
-    go : (t : Bool) → ltb i (length u) ≡ t → i < length u
-    go true q = ltb-true i (length u) q
-    go false q = absurd (false≢true (sym fails ∙ (ap f (sym (List·getD-eq-default u 0 (ltb-false i (length u) q))) ∙ e)))
 
 -- the run, by its length
 pub take-run : (f : ℕ → Bool) (u : List ℕ) → take (length (takeWhile f u)) u ≡ takeWhile f u
@@ -44,6 +34,10 @@ drop-run f (x ∷ u) = go (f x) refl (drop-run f u)
     go true e ih = rw (e, takeWhile, dropWhile) ih
     go false e ih = rw (e, takeWhile, dropWhile)
 
+-- a byte of the run is the text's
+pub run-byte : (f : ℕ → Bool) (u : List ℕ) (i : ℕ) → i < length (takeWhile f u) → getD (takeWhile f u) i 0 ≡ getD u i 0
+run-byte f u i h = ap (λ (w : List ℕ). getD w i 0) (sym (take-run f u)) ∙ getD-take (length (takeWhile f u)) u i 0 h
+
 pub run-le : (f : ℕ → Bool) (u : List ℕ) → length (takeWhile f u) ≤ length u
 run-le f u = omega (arith, run-length f u)
 
@@ -56,14 +50,19 @@ pub run-none : (f : ℕ → Bool) (x : ℕ) (u : List ℕ) → f x ≡ false →
 unfolding takeWhile
 run-none f x u e = rw (e, takeWhile)
 
+-- the byte behind the run fails, and so does 0, which stands for none
+pub run-stops : (f : ℕ → Bool) → f 0 ≡ false → (u : List ℕ) → f (getD u (length (takeWhile f u)) 0) ≡ false
+unfolding takeWhile
+run-stops f z [] = z
+run-stops f z (x ∷ u) = go (f x) refl (run-stops f z u)
+  where
+    go : (t : Bool) → f x ≡ t → f (getD u (length (takeWhile f u)) 0) ≡ false → f (getD (x ∷ u) (length (takeWhile f (x ∷ u))) 0) ≡ false
+    go true e ih = rw (e, takeWhile) ih
+    go false e ih = rw (e, takeWhile) e
+
 run-nil : (f : ℕ → Bool) → takeWhile f [] ≡ []
 unfolding takeWhile
 run-nil f = refl
-
--- no byte passes where the first one fails
-pub run-empty : (f : ℕ → Bool) (u : List ℕ) → f (getD u 0 0) ≡ false → takeWhile f u ≡ []
-run-empty f [] e = run-nil f
-run-empty f (x ∷ u) e = run-none f x u e
 
 -- the invariant of a scan: the first i bytes pass, and the rest of the run is that of what is left
 pub record RunAt (f : ℕ → Bool) (u : List ℕ) (i : ℕ) : Type 0 where

@@ -1,11 +1,12 @@
 // Blanks: white space and comments.
 ghost use mathlib.Core.Path.{_≡_};
+ghost use mathlib.Core.Bool.{false};
 ghost use Prim.Native.Nat.{_+_, _-_, _≤_, _<_};
 ghost use lib.ListN.{length, drop, getD};
 ghost use Rattle.lexing.specs.bytes.{slash, isSpace, inLine, takeWhile};
 ghost use Rattle.lexing.specs.integers.{u64-max};
 ghost use Rattle.lexing.specs.blanks.{until-close, whitespace-group, one-blank, whitespace1};
-ghost use Rattle.lexing.specs.inner.blanks.{isClose, endUntil, turnReply};
+ghost use Rattle.lexing.specs.inner.blanks.{isClose, endUntil, docBy, turnReply};
 ghost use Rattle.lexing.specs.answers.{groupReply, docOf, BlankTo, gapReply, gapLost};
 use crate::answers::Lost;
 use crate::bytes::is_in_line;
@@ -46,9 +47,16 @@ enum End {
     Open,
 }
 
+// A run of blanks so far: the offset behind it, and the offset and the length of the doc comment's text, offset 0 where there is none.
+struct Run {
+    next: usize,
+    doc: usize,
+    size: usize,
+}
+
 // One turn of a run of blanks.
 enum Turn {
-    Again(Blank),
+    Again(Run),
     Done,
 }
 
@@ -150,45 +158,87 @@ pub fn whitespace_group(part: &[u8], base: usize) -> Group
     Group::Nothing
 }
 
-// One more blank, or the end of the run.
-fn one_blank(part: &[u8], base: usize, b: Blank) -> Turn
+// The offset behind the white space at an offset.
+fn skip_white(part: &[u8], base: usize, at: usize) -> usize
+    requires { ⌜ base ≤ at ⌝ }
+    requires { ⌜ at ≤ base + length (now part) ⌝ }
+    requires { ⌜ base + length (now part) ≤ u64-max ⌝ }
+    ensures { λ r. ⌜ r ≡ at + length (takeWhile isSpace (drop (at - base) (now (part .entry)))) ⌝ }
+{
+    let n = white_length(rest_at(part, base, at));
+    at + n
+}
+
+// One more blank, or the end of the run. No white space stands there, so it is a comment.
+fn one_blank(part: &[u8], base: usize, b: Run) -> Turn
     requires { ⌜ base ≤ b .next ⌝ }
     requires { ⌜ b .next ≤ base + length (now part) ⌝ }
+    requires { ⌜ isSpace (getD (now part) (b .next - base) 0) ≡ false ⌝ }
     requires { ⌜ base + length (now part) ≤ u64-max ⌝ }
-    ensures { λ r. ⌜ turnReply r (b .next) (drop (b .next - base) (now (part .entry))) ≡ one-blank (docOf (b .doc)) (b .next) (drop (b .next - base) (now (part .entry))) ⌝ }
+    ensures { λ r. ⌜ turnReply r (b .next) (drop (b .next - base) (now (part .entry))) ≡ one-blank (docBy (b .doc) (b .size)) (b .next) (drop (b .next - base) (now (part .entry))) ⌝ }
 {
     let at = b.next;
     let doc = b.doc;
-    let g = whitespace_group(rest_at(part, base, at), at);
+    let size = b.size;
+    let rest = rest_at(part, base, at);
+    if peek(rest, 0) != b'/' {
+        return Turn::Done;
+    }
+    let g = comment_group(rest, at);
     match g {
         Group::Nothing => Turn::Done,
-        Group::White(n) => Turn::Again(Blank { next: at + n, doc }),
-        Group::Plain(n) => Turn::Again(Blank {
+        Group::White(n) => Turn::Again(Run {
             next: at + n,
-            doc: DocSpan::Absent,
+            doc,
+            size,
         }),
-        Group::DocComment(n) => Turn::Again(Blank {
+        Group::Plain(n) => Turn::Again(Run {
+            next: at + n,
+            doc: 0,
+            size: 0,
+        }),
+        Group::DocComment(n) => Turn::Again(Run {
             next: at + (n + 5),
-            doc: DocSpan::At(at + 3, n),
+            doc: at + 3,
+            size: n,
         }),
     }
 }
 
-// Any number of blanks.
+// The doc comment of a run.
+fn doc_by(doc: usize, size: usize) -> DocSpan
+    ensures { λ r. ⌜ docOf r ≡ docBy doc size ⌝ }
+{
+    if doc == 0 {
+        return DocSpan::Absent;
+    }
+    DocSpan::At(doc, size)
+}
+
+// Any number of blanks: white space, and comments with the white space behind each. The run is carried in plain numbers, since an enum in it
+// would be copied at each turn.
 pub fn whitespace0(part: &[u8], base: usize) -> Blank
     requires { ⌜ base + length (now part) ≤ u64-max ⌝ }
     ensures { λ r. ⌜ BlankTo r base (now (part .entry)) ⌝ }
 {
-    let mut b = Blank {
-        next: base,
-        doc: DocSpan::Absent,
+    let mut b = Run {
+        next: skip_white(part, base, base),
+        doc: 0,
+        size: 0,
     };
     loop {
         let t = one_blank(part, base, b);
-        let Turn::Again(next) = t else {
-            return b;
+        let Turn::Again(c) = t else {
+            return Blank {
+                next: b.next,
+                doc: doc_by(b.doc, b.size),
+            };
         };
-        b = next;
+        b = Run {
+            next: skip_white(part, base, c.next),
+            doc: c.doc,
+            size: c.size,
+        };
     }
 }
 

@@ -5,7 +5,7 @@ ghost use Prim.Native.Nat.{_+_, _≤_, _<_};
 ghost use lib.ListN.{length, drop, getD};
 ghost use Rattle.lexing.specs.integers.{u64-max};
 ghost use Rattle.lexing.specs.utf8.{utf8-error, errorOf};
-ghost use Rattle.lexing.specs.inner.utf8.{size-of, sequence-size, later};
+ghost use Rattle.lexing.specs.inner.utf8.{size-of, sequence-size, later, AsciiAt};
 use crate::bytes::is_between;
 
 // The offset is that of the first byte of the first ill-formed sequence.
@@ -69,16 +69,31 @@ fn sequence_size(rest: &[u8]) -> usize
     0
 }
 
-// Where a part is not well-formed UTF-8, if anywhere; base is the offset of its first byte. A turn passes an ASCII byte, or a longer sequence.
+// How many bytes a turn passes at an ASCII byte: eight where eight are left and all are ASCII, as in most texts, else one.
+fn ascii_step(part: &[u8], i: usize) -> usize
+    requires { ⌜ (i < length (now part)) × (getD (now part) i 0 < 0x80) ⌝ }
+    ensures { λ r. ⌜ AsciiAt (now (part .entry)) i r ⌝ }
+{
+    if part.len() - i < 8 {
+        return 1;
+    }
+    let front = part[i] | part[i + 1] | part[i + 2] | part[i + 3];
+    let all = front | part[i + 4] | part[i + 5] | part[i + 6] | part[i + 7];
+    if all < 0x80 {
+        return 8;
+    }
+    1
+}
+
+// Where a part is not well-formed UTF-8, if anywhere; base is the offset of its first byte. A turn passes ASCII bytes, or a longer sequence.
 pub fn utf8_error(part: &[u8], base: usize) -> Utf8
     requires { ⌜ base + length (now part) ≤ u64-max ⌝ }
     ensures { λ r. ⌜ errorOf r ≡ utf8-error base (now (part .entry)) ⌝ }
 {
     let mut i = 0;
     while i < part.len() {
-        let next = i + 1;
         if part[i] < 0x80 {
-            i = next;
+            i += ascii_step(part, i);
             continue;
         }
         let n = sequence_size(&part[i..]);

@@ -38,26 +38,25 @@ pub fn parse_id(part: &[u8], base: usize) -> Step
     Step::Not(Lost::Fail(base))
 }
 
-// A whole word that is the keyword; the comparison ends at the first difference.
+// A whole word that is the keyword: its bytes are compared first, since most words differ in the first one.
 pub fn keyword(part: &[u8], base: usize, key: &[u8]) -> Step
     requires { ⌜ base + length (now part) ≤ u64-max ⌝ }
     ensures { λ r. ⌜ wordReply r base (now (part .entry)) ≡ keyword (now (key .entry)) base (now (part .entry)) ⌝ }
 {
-    if !is_letter(peek(part, 0)) {
+    if part.len() < key.len() {
         return Step::Not(Lost::Fail(base));
     }
     let mut i = 0;
     while i < key.len() {
-        let x = peek(part, i);
-        if lower_of(x) != key[i] {
-            return Step::Not(Lost::Fail(base));
-        }
-        if !is_word(x) {
+        if lower_of(part[i]) != key[i] {
             return Step::Not(Lost::Fail(base));
         }
         i += 1;
     }
-    if is_word(peek(part, i)) {
+    if !is_letter(peek(part, 0)) {
+        return Step::Not(Lost::Fail(base));
+    }
+    if word_length(part) != i {
         return Step::Not(Lost::Fail(base));
     }
     Step::Next(base + i)

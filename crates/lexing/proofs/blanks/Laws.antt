@@ -7,24 +7,25 @@ use native.Mathlib.Omega.{arith}
 use native.Mathlib.Numerals.{add-one}
 use lib.Dec.{eqb}
 use lib.ListN.{length, drop, getD, drop-of-length-le, length-drop}
-use lib.Seq.{drop-cons, drop-drop}
+use lib.Seq.{drop-cons, drop-drop, getD-drop}
 use borrow.Author.Tests.{eq-eqb, ne-eqb, eqb-true}
 use Rattle.lexing.specs.bytes.{slash, star, isSpace, inLine, takeWhile, dropWhile}
 use Rattle.lexing.specs.reply.{ok, fail, ret, _>>=_, catch, keep, position, failAt, pick}
 use Rattle.lexing.specs.blanks.{Whitespace, white, plain, doc-comment, line-comment, Until, found, never, one-more, until-close, comment-kind, closed, block-comment, multispace1, whitespace-group, Doc, no-doc, doc-at, after, one-blank, whitespace0, whitespace1}
 use Rattle.lexing.specs.answers.{Rest, groupReply, blankReply, BlankTo, docOf}
-use Rattle.lexing.specs.inner.blanks.{isClose, endUntil, turnReply}
+use Rattle.lexing.specs.inner.blanks.{isClose, endUntil, docBy, turnReply}
 use Rattle.lexing.specs.declared.blanks.End.{End}
 use Rattle.lexing.specs.declared.blanks.End.the-variants.{Closed, Open}
 use Rattle.lexing.specs.declared.blanks.Group.{Group}
 use Rattle.lexing.specs.declared.blanks.Group.the-variants.{Nothing, White, Plain, DocComment}
-use Rattle.lexing.specs.declared.blanks.DocSpan.the-variants.{Absent}
+use Rattle.lexing.specs.declared.blanks.DocSpan.{DocSpan}
 use Rattle.lexing.specs.declared.blanks.Blank.{Blank}
+use Rattle.lexing.specs.declared.blanks.Run.{Run}
 use Rattle.lexing.specs.declared.blanks.Turn.{Turn}
 use Rattle.lexing.specs.declared.blanks.Turn.the-variants.{Again, Done}
 use Rattle.lexing.proofs.Onward.{group-advances}
 use Rattle.lexing.proofs.TokenLocality.{no-line, no-block, open-line, no-group, one-blank-chain, one-blank-consumes}
-use Rattle.lexing.proofs.Scans.{first-of, drop-run, run-cons, run-none, run-le}
+use Rattle.lexing.proofs.Scans.{first-of, drop-run, run-cons, run-none, run-le, run-stops}
 use Rattle.lexing.proofs.Slicing.{took, walks, rest-from}
 use Rattle.lexing.proofs.Repetition.{IterAt, iter-start, iter-step, iter-ends}
 
@@ -248,14 +249,22 @@ group-white b n (x ∷ u) e h = go (isSpace x) refl
         rw z (rw (no-line b x u (not-slash x q), catch) (rw (no-block b x u (not-slash x q), catch) (rw (q, multispace1) (rw (drop-run isSpace u)))))
     go false q = let z : n ≡ 0 = e ∙ ap length (run-none isSpace x u q) in absurd (omega arith)
 
-pub group-none : (b n : ℕ) (u : List ℕ) → n ≡ length (takeWhile isSpace u) → n ≤ 0 → (x : ℕ) → x ≡ getD u 0 0 → (x ≡ slash → ⊥) → fail b ≡ whitespace-group b u
+no-space : isSpace 0 ≡ false
+unfolding isSpace
+no-space = refl
+
+group-neither : (b : ℕ) (u : List ℕ) → isSpace (getD u 0 0) ≡ false → (x : ℕ) → x ≡ getD u 0 0 → (x ≡ slash → ⊥) → fail b ≡ whitespace-group b u
 unfolding whitespace-group catch line-comment block-comment multispace1
-group-none b n [] e h y ey ne = refl
-group-none b n (x ∷ u) e h y ey ne = go (isSpace x) refl
-  where
-    go : (t : Bool) → isSpace x ≡ t → fail b ≡ whitespace-group b (x ∷ u)
-    go true q = let z : n ≡ suc (length (takeWhile isSpace u)) = e ∙ ap length (run-cons isSpace x u q) in absurd (omega arith)
-    go false q = sym (no-group b x u (rw (ne-eqb x slash (λ z. ne (ey ∙ z)), q)))
+group-neither b [] s y ey ne = refl
+group-neither b (x ∷ u) s y ey ne = sym (no-group b x u (rw (ne-eqb x slash (λ z. ne (ey ∙ z)), s)))
+
+pub group-none : (b n : ℕ) (u : List ℕ) → n ≡ length (takeWhile isSpace u) → n ≤ 0 → (x : ℕ) → x ≡ getD u 0 0 → (x ≡ slash → ⊥) → fail b ≡ whitespace-group b u
+group-none b n u e h = let z : length (takeWhile isSpace u) ≡ 0 = omega arith in group-neither b u (rw z at (run-stops isSpace no-space u))
+
+-- a doc comment's text stands behind its first bytes, so its offset is not 0
+pub doc-some : (o n : ℕ) → (o ≡ 0 → ⊥) → doc-at o n ≡ docBy o n
+doc-some zero n h = absurd (h refl)
+doc-some (suc o) n h = refl
 
 -- a turn of a run
 turn-some : (d : Doc) (b c : ℕ) (u r : List ℕ) (k : Whitespace) → ok k c r ≡ whitespace-group b u → ok (after k d) c r ≡ one-blank d b u
@@ -266,12 +275,9 @@ turn-none : (d : Doc) (b p : ℕ) (u : List ℕ) → fail p ≡ whitespace-group
 unfolding one-blank _>>=_ ret
 turn-none d b p u e = rw (sym e, one-blank, _>>=_)
 
-module _ (b : ℕ) (u : List ℕ) (at : ℕ) (r : List ℕ) (q : Rest b u at r) (g : Group) (h : groupReply g at r ≡ whitespace-group at r) where
-  told : (k : Group) → g ≡ k → groupReply k at r ≡ whitespace-group at r
-  told k e = subst (λ (x : Group). groupReply x at r ≡ whitespace-group at r) e h
-
-  pub turn-done : (d : Doc) → g ≡ Nothing → fail at ≡ one-blank d at (drop (at - b) u)
-  turn-done d e = rw (← q .same) (turn-none d at at r (told Nothing e))
+module _ (b : ℕ) (u : List ℕ) (at : ℕ) (r : List ℕ) (q : Rest b u at r) where
+  none : (d : Doc) → fail at ≡ whitespace-group at r → fail at ≡ one-blank d at (drop (at - b) u)
+  none d e = rw (← q .same) (turn-none d at at r e)
 
   -- n bytes of kind k
   module _ (k : Whitespace) (n : ℕ) (e : ok k (at + n) (drop n r) ≡ whitespace-group at r) where
@@ -281,47 +287,90 @@ module _ (b : ℕ) (u : List ℕ) (at : ℕ) (r : List ℕ) (q : Rest b u at r) 
     fits : at + n ≤ b + length u
     fits = let f = rw (← e) at (group-advances .reads at r) in omega (arith, f .1, q .size)
 
-  pub turn-white : (d : Doc) (n : ℕ) → g ≡ White n → ok d (at + n) (drop (at + n - at) (drop (at - b) u)) ≡ one-blank d at (drop (at - b) u)
+  some-white : (d : Doc) (n : ℕ) → ok white (at + n) (drop n r) ≡ whitespace-group at r → ok d (at + n) (drop (at + n - at) (drop (at - b) u)) ≡ one-blank d at (drop (at - b) u)
   unfolding after
-  turn-white d n e = some white n (told (White n) e) d
+  some-white d n e = some white n e d
 
-  pub turn-plain : (d : Doc) (n : ℕ) → g ≡ Plain n → ok no-doc (at + n) (drop (at + n - at) (drop (at - b) u)) ≡ one-blank d at (drop (at - b) u)
-  unfolding after
-  turn-plain d n e = some plain n (told (Plain n) e) d
+  pub turn-other : (d : Doc) → isSpace (getD u (at - b) 0) ≡ false → (x : ℕ) → x ≡ getD r 0 0 → (x ≡ slash → ⊥) → fail at ≡ one-blank d at (drop (at - b) u)
+  turn-other d s x ex ne = none d (group-neither at r (ap isSpace (ap (λ (v : List ℕ). getD v 0 0) (q .same) ∙ first-of (at - b) u) ∙ s) x ex ne)
 
-  pub turn-doc : (d : Doc) (n : ℕ) → g ≡ DocComment n → ok (doc-at (at + 3) n) (at + (n + 5)) (drop (at + (n + 5) - at) (drop (at - b) u)) ≡ one-blank d at (drop (at - b) u)
-  unfolding after
-  turn-doc d n e = some (doc-comment (at + 3) n) (n + 5) (told (DocComment n) e) d
+  module _ (g : Group) (h : groupReply g at r ≡ whitespace-group at r) where
+    told : (k : Group) → g ≡ k → groupReply k at r ≡ whitespace-group at r
+    told k e = subst (λ (x : Group). groupReply x at r ≡ whitespace-group at r) e h
 
-  pub white-fits : (n : ℕ) → g ≡ White n → at + n ≤ b + length u
-  white-fits n e = fits white n (told (White n) e)
+    pub turn-done : (d : Doc) → g ≡ Nothing → fail at ≡ one-blank d at (drop (at - b) u)
+    turn-done d e = none d (told Nothing e)
 
-  pub plain-fits : (n : ℕ) → g ≡ Plain n → at + n ≤ b + length u
-  plain-fits n e = fits plain n (told (Plain n) e)
+    pub turn-white : (d : Doc) (n : ℕ) → g ≡ White n → ok d (at + n) (drop (at + n - at) (drop (at - b) u)) ≡ one-blank d at (drop (at - b) u)
+    turn-white d n e = some-white d n (told (White n) e)
 
-  pub doc-fits : (n : ℕ) → g ≡ DocComment n → at + (n + 5) ≤ b + length u
-  doc-fits n e = fits (doc-comment (at + 3) n) (n + 5) (told (DocComment n) e)
+    pub turn-plain : (d : Doc) (n : ℕ) → g ≡ Plain n → ok no-doc (at + n) (drop (at + n - at) (drop (at - b) u)) ≡ one-blank d at (drop (at - b) u)
+    unfolding after
+    turn-plain d n e = some plain n (told (Plain n) e) d
 
--- the invariant of a run
-pub record BlanksAt (b : ℕ) (u : List ℕ) (t : Blank) : Type 0 where
-  pub run : IterAt one-blank keep no-doc b u (t .next) (docOf (t .doc))
+    pub turn-doc : (d : Doc) (n : ℕ) → g ≡ DocComment n → ok (docBy (at + 3) n) (at + (n + 5)) (drop (at + (n + 5) - at) (drop (at - b) u)) ≡ one-blank d at (drop (at - b) u)
+    unfolding after
+    turn-doc d n e = rw (← doc-some (at + 3) n (λ z. omega arith)) (some (doc-comment (at + 3) n) (n + 5) (told (DocComment n) e) d)
 
-pub blanks-start : (b : ℕ) (u : List ℕ) → BlanksAt b u (record { next = b; doc = Absent })
-blanks-start b u = record { run = iter-start one-blank keep no-doc b u }
+    pub white-fits : (n : ℕ) → g ≡ White n → at + n ≤ b + length u
+    white-fits n e = fits white n (told (White n) e)
 
-module _ (b : ℕ) (u : List ℕ) (t : Blank) (i : BlanksAt b u t) (r : Turn) (h : turnReply r (t .next) (drop (t .next - b) u) ≡ one-blank (docOf (t .doc)) (t .next) (drop (t .next - b) u)) where
-  turned : (k : Turn) → r ≡ k → turnReply k (t .next) (drop (t .next - b) u) ≡ one-blank (docOf (t .doc)) (t .next) (drop (t .next - b) u)
-  turned k e = subst (λ (x : Turn). turnReply x (t .next) (drop (t .next - b) u) ≡ one-blank (docOf (t .doc)) (t .next) (drop (t .next - b) u)) e h
+    pub plain-fits : (n : ℕ) → g ≡ Plain n → at + n ≤ b + length u
+    plain-fits n e = fits plain n (told (Plain n) e)
 
-  pub blanks-again : (t' : Blank) → r ≡ Again t' → BlanksAt b u t' × (t .next < t' .next)
-  blanks-again t' e =
-      let q = rest-from b (t .next) u (i .run .from) (i .run .inside) in
-      let x = iter-step one-blank-consumes (i .run) (took (walks (one-blank-chain (docOf (t .doc)))) q (turned (Again t') e)) in
-      (record { run = x .0 }, x .1)
+    pub doc-fits : (n : ℕ) → g ≡ DocComment n → at + (n + 5) ≤ b + length u
+    doc-fits n e = fits (doc-comment (at + 3) n) (n + 5) (told (DocComment n) e)
 
-  pub blanks-end : r ≡ Done → BlankTo t b u
+-- white space at c is passed as well, up to n, and none stands behind it
+module _ (b : ℕ) (u : List ℕ) (c : ℕ) (d : Doc) (i : IterAt one-blank keep no-doc b u c d) where
+  pass : (m : ℕ) → m ≡ length (takeWhile isSpace (drop (c - b) u)) → IterAt one-blank keep no-doc b u (c + m) d
+  pass zero e = let z : c + 0 ≡ c = omega arith in rw z i
+  pass (suc m) e =
+      let q = rest-from b c u (i .from) (i .inside) in
+      iter-step one-blank-consumes i (took (walks (one-blank-chain d)) q (some-white b u c _ q d (suc m) (group-white c (suc m) _ e (omega arith)))) .0
+
+  record Passed (n : ℕ) : Type 0 where
+    run : IterAt one-blank keep no-doc b u n d
+    up : c ≤ n
+    behind : isSpace (getD u (n - b) 0) ≡ false
+
+  white-passed : (n : ℕ) → n ≡ c + length (takeWhile isSpace (drop (c - b) u)) → Passed n
+  white-passed n e =
+      let z : n - b ≡ c - b + length (takeWhile isSpace (drop (c - b) u)) = omega (arith, i .from) in
+      record {
+        run = rw e (pass _ refl);
+        up = omega arith;
+        behind = ap (λ (k : ℕ). isSpace (getD u k 0)) z ∙ (ap isSpace (sym (getD-drop (c - b) u _ 0)) ∙ run-stops isSpace no-space (drop (c - b) u));
+      }
+
+-- the invariant of a run: no white space stands behind it
+pub record BlanksAt (b : ℕ) (u : List ℕ) (t : Run) : Type 0 where
+  pub run : IterAt one-blank keep no-doc b u (t .next) (docBy (t .doc) (t .size))
+  pub behind : isSpace (getD u (t .next - b) 0) ≡ false
+
+pub blanks-start : (b : ℕ) (u : List ℕ) (n : ℕ) → n ≡ b + length (takeWhile isSpace (drop (b - b) u)) → BlanksAt b u (record { next = n; doc = 0; size = 0 })
+blanks-start b u n e =
+    let w = white-passed b u b no-doc (iter-start one-blank keep no-doc b u) n e in
+    record { run = w .run; behind = w .behind }
+
+module _ (b : ℕ) (u : List ℕ) (t : Run) (i : BlanksAt b u t) (r : Turn) (h : turnReply r (t .next) (drop (t .next - b) u) ≡ one-blank (docBy (t .doc) (t .size)) (t .next) (drop (t .next - b) u)) where
+  turned : (k : Turn) → r ≡ k → turnReply k (t .next) (drop (t .next - b) u) ≡ one-blank (docBy (t .doc) (t .size)) (t .next) (drop (t .next - b) u)
+  turned k e = subst (λ (x : Turn). turnReply x (t .next) (drop (t .next - b) u) ≡ one-blank (docBy (t .doc) (t .size)) (t .next) (drop (t .next - b) u)) e h
+
+  module _ (c : Run) (e : r ≡ Again c) where
+    pub blanks-comment : IterAt one-blank keep no-doc b u (c .next) (docBy (c .doc) (c .size)) × (t .next < c .next)
+    blanks-comment =
+        let q = rest-from b (t .next) u (i .run .from) (i .run .inside) in
+        iter-step one-blank-consumes (i .run) (took (walks (one-blank-chain (docBy (t .doc) (t .size)))) q (turned (Again c) e))
+
+    pub blanks-again : (n : ℕ) → n ≡ c .next + length (takeWhile isSpace (drop (c .next - b) u)) → BlanksAt b u (record { next = n; doc = c .doc; size = c .size }) × (t .next < n)
+    blanks-again n k =
+        let w = white-passed b u (c .next) _ (blanks-comment .0) n k in
+        (record { run = w .run; behind = w .behind }, omega (arith, blanks-comment .1, w .up))
+
+  pub blanks-end : (d : DocSpan) → docOf d ≡ docBy (t .doc) (t .size) → r ≡ Done → BlankTo (record { next = t .next; doc = d }) b u
   unfolding keep whitespace0
-  blanks-end e = record { reads = iter-ends one-blank-consumes (i .run) (t .next) (sym (turned Done e)); up = i .run .from; inside = i .run .inside }
+  blanks-end d k e = record { reads = rw k (iter-ends one-blank-consumes (i .run) (t .next) (sym (turned Done e))); up = i .run .from; inside = i .run .inside }
 
 -- at least one
 module _ (b : ℕ) (u : List ℕ) (t : Blank) (h : BlankTo t b u) where

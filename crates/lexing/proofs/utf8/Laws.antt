@@ -7,12 +7,14 @@ use mathlib.Core.Logic.{_⊎_, inl, inr, ⊎-elim}
 use Prim.Native.Nat.{ℕ, zero, suc, _+_, _-_, _≤_, _<_}
 use native.Mathlib.Omega.{arith}
 use native.Mathlib.Numerals.{add-one}
+use lib.Bits.{bitOr, and-le-l, and-le-r, or-add-and}
 use lib.ListN.{length, take, drop, getD, replicate, length-drop, length-replicate, drop-of-length-le}
 use lib.Seq.{drop-cons, drop-drop, take-all}
+use borrow.Author.Count.{below-none, below-more}
 use borrow.Author.Tests.{le-leb, lt-leb}
 use Rattle.lexing.specs.bytes.{within}
 use Rattle.lexing.specs.utf8.{Range, _to_, has, Row, row, table, following, State, between, inside, ill, awaiting, begun, step, run, fault, utf8-error}
-use Rattle.lexing.specs.inner.utf8.{fits, size-of, sequence-size, later}
+use Rattle.lexing.specs.inner.utf8.{fits, size-of, sequence-size, later, AsciiAt}
 
 -- texts one after the other
 run-append : (b : ℕ) (t : State) (u s : List ℕ) → run b t (u ++ s) ≡ run (b + length u) (run b t u) s
@@ -250,7 +252,7 @@ module _ (b : ℕ) (u : List ℕ) (i : ℕ) (h : Passed b u i) where
     rest-cons : take (length u - i) (drop i u) ≡ getD u i 0 ∷ drop (suc i) u
     rest-cons = rest-all u i ∙ drop-cons u i 0 lt
 
-    pub passed-ascii : getD u i 0 < 0x80 → Passed b u (i + 1)
+    passed-ascii : getD u i 0 < 0x80 → Passed b u (i + 1)
     unfolding sequence-size size-of fits
     passed-ascii k = passed-more 1 (rw (rest-cons, ascii-row _ k)) (λ e. omega arith)
 
@@ -260,6 +262,41 @@ module _ (b : ℕ) (u : List ℕ) (i : ℕ) (h : Passed b u i) where
 
     pub rest-first : 0x80 ≤ getD u i 0 → (0 < length (take (length u - i) (drop i u))) × (0x80 ≤ getD (take (length u - i) (drop i u)) 0 0)
     rest-first k = rw rest-cons (omega arith, k)
+
+-- ASCII bytes, any number of them
+passed-each : (b : ℕ) (u : List ℕ) (i n : ℕ) → Passed b u i → i + n ≤ length u → ((j : ℕ) → j < n → getD u (i + j) 0 < 0x80) → Passed b u (i + n)
+passed-each b u i zero h l k = let z : i + 0 ≡ i = omega arith in rw z h
+passed-each b u i (suc n) h l k =
+    let z : i + n + 1 ≡ i + suc n = omega arith in
+    rw z at (passed-ascii b u (i + n) (passed-each b u i n h (omega arith) (λ j q. k j (omega arith))) (omega arith) (k n (omega arith)))
+
+pub passed-run : (b : ℕ) (u : List ℕ) (i : ℕ) → Passed b u i → (n : ℕ) → AsciiAt u i n → Passed b u (i + n)
+passed-run b u i h n a = passed-each b u i n h (a .inside) (a .ascii)
+
+pub ascii-one : (u : List ℕ) (i : ℕ) → i < length u → getD u i 0 < 0x80 → AsciiAt u i 1
+ascii-one u i lt k = record { onward = omega arith; inside = omega arith; ascii = below-more _ 0 (below-none _) (let z : i + 0 ≡ i = omega arith in rw z k) }
+
+-- joined bit by bit, numbers are below a bound only where each is
+or-left : (x y : ℕ) → x ≤ bitOr x y
+or-left x y = omega (arith, or-add-and x y, and-le-r x y)
+
+or-right : (x y : ℕ) → y ≤ bitOr x y
+or-right x y = omega (arith, or-add-and x y, and-le-l x y)
+
+-- the byte at i and the n bytes behind it
+abbrev pub joined : List ℕ → ℕ → ℕ → ℕ
+joined u i zero = getD u i 0
+joined u i (suc n) = bitOr (joined u i n) (getD u (i + suc n) 0)
+
+joined-below : (u : List ℕ) (i n m : ℕ) → joined u i n < m → (j : ℕ) → j < n + 1 → getD u (i + j) 0 < m
+joined-below u i zero m h = below-more _ 0 (below-none _) (let z : i + 0 ≡ i = omega arith in rw z h)
+joined-below u i (suc n) m h =
+    let front : joined u i n < m = omega (arith, or-left (joined u i n) (getD u (i + suc n) 0)) in
+    let last : getD u (i + suc n) 0 < m = omega (arith, or-right (joined u i n) (getD u (i + suc n) 0)) in
+    below-more _ (suc n) (λ j q. joined-below u i n m front j (omega arith)) last
+
+pub ascii-eight : (u : List ℕ) (i : ℕ) → 8 ≤ length u - i → joined u i 7 < 0x80 → AsciiAt u i 8
+ascii-eight u i l h = record { onward = omega arith; inside = omega arith; ascii = joined-below u i 7 0x80 h }
 
 -- the bytes after the second: those below i are in their ranges
 module _ (u : List ℕ) (n lo hi : ℕ) where

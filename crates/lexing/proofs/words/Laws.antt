@@ -2,17 +2,18 @@
 use mathlib.Core.Path.{_≡_, refl, sym, ap, _∙_}
 use mathlib.Core.List.{List, [], _∷_}
 use mathlib.Core.Bool.{Bool, true, false, false≢true}
-use Prim.Native.Nat.{ℕ, suc, _+_, _-_, _≤_, _<_, zero-le}
+use Prim.Native.Nat.{ℕ, zero, suc, _+_, _-_, _≤_, _<_, zero-le}
 use native.Mathlib.Omega.{arith}
-use native.Mathlib.Numerals.{add-one}
-use lib.ListN.{length, drop, getD, drop-of-length-le}
-use lib.Seq.{drop-cons}
+use lib.Dec.{eqb}
+use lib.ListN.{length, drop, getD}
+use borrow.Author.Count.{below-none, below-more}
 use borrow.Author.Tests.{eq-eqb, ne-eqb}
-use Rattle.lexing.specs.bytes.{within, isLetter, isDigit, isWord, lower, takeWhile, dropWhile}
+use Rattle.lexing.specs.bytes.{within, isLetter, isWord, lower, takeWhile, dropWhile}
 use Rattle.lexing.specs.reply.{Reply, ok, fail, stop, ret, _>>=_, position, failAt, pick}
 use Rattle.lexing.specs.words.{Word, word, bytesOf, parse-id, isKeyword, keyword, tag}
 use Rattle.lexing.specs.answers.{wordAt}
-use Rattle.lexing.proofs.Scans.{first-of, passed-inside, take-run, drop-run, run-cons, run-empty, RunAt, runs-start, runs-more}
+use Rattle.lexing.proofs.Scans.{take-run, drop-run, run-cons, run-le, run-byte}
+use Rattle.lexing.proofs.Tests.{eq-of, and-left, and-right, false-if}
 
 letter-word : (x : ℕ) → isLetter x ≡ true → isWord x ≡ true
 unfolding isWord
@@ -21,10 +22,6 @@ letter-word x e = rw e
 pub no-letter : isLetter 0 ≡ false
 unfolding isLetter within
 no-letter = refl
-
-no-word : isWord 0 ≡ false
-unfolding isWord isLetter isDigit within
-no-word = refl
 
 -- words
 parse-id-run : (b : ℕ) (u : List ℕ) → isLetter (getD u 0 0) ≡ true → parse-id b u ≡ ok (word b (takeWhile isWord u)) (b + length (takeWhile isWord u)) (dropWhile isWord u)
@@ -92,55 +89,65 @@ keyword-says k b u = go (isLetter (getD u 0 0)) refl (isKeyword (takeWhile isWor
     go true e false e' = rw (← keyword-other k b u e e') refl
     go true e true e' = rw (keyword-same k b u e e') e'
 
--- the invariant of the comparison: the first i bytes agree, and what is left of the word is to be what is left of the keyword
+-- the first i bytes of w, in lower case, are those of k
+abbrev pub Agree : List ℕ → List ℕ → ℕ → Type 0
+Agree w k i = (j : ℕ) → j < i → lower (getD w j 0) ≡ getD k j 0
+
+-- a word is the keyword where it is as long and all its bytes agree
+word-agrees : (w k : List ℕ) → isKeyword w k ≡ true → (length w ≡ length k) × Agree w k (length k)
+unfolding isKeyword
+word-agrees [] [] e = (refl, λ j h. absurd (omega arith))
+word-agrees [] (y ∷ k) e = absurd (false≢true e)
+word-agrees (x ∷ w) [] e = absurd (false≢true e)
+word-agrees (x ∷ w) (y ∷ k) e =
+    let t = word-agrees w k (and-right (eqb (lower x) y) (isKeyword w k) e) in
+    (ap suc (t .0), bytes (eq-of (lower x) y (and-left (eqb (lower x) y) (isKeyword w k) e)) (t .1))
+  where
+    bytes : lower x ≡ y → Agree w k (length k) → Agree (x ∷ w) (y ∷ k) (suc (length k))
+    bytes d t zero h = d
+    bytes d t (suc j) h = t j (omega arith)
+
+agrees-word : (w k : List ℕ) → length w ≡ length k → Agree w k (length k) → isKeyword w k ≡ true
+unfolding isKeyword
+agrees-word [] [] e h = refl
+agrees-word [] (y ∷ k) e h = absurd (omega arith)
+agrees-word (x ∷ w) [] e h = absurd (omega arith)
+agrees-word (x ∷ w) (y ∷ k) e h = rw (eq-eqb (lower x) y (h 0 (omega arith))) (agrees-word w k (omega arith) (λ j l. h (suc j) (omega arith)))
+
+-- the invariant of the comparison: the first i bytes agree
 pub record KeyAt (k u : List ℕ) (i : ℕ) : Type 0 where
   pub inside : i ≤ length k
-  pub run : RunAt isWord u i
-  pub left : isKeyword (takeWhile isWord (drop i u)) (drop i k) ≡ isKeyword (takeWhile isWord u) k
+  pub enough : length k ≤ length u
+  pub agree : Agree u k i
 
-pub key-start : (k u : List ℕ) → KeyAt k u 0
-key-start k u = record { inside = zero-le; run = runs-start isWord u; left = refl }
+pub key-start : (k u : List ℕ) → length k ≤ length u → KeyAt k u 0
+key-start k u h = record { inside = zero-le; enough = h; agree = below-none _ }
 
--- a word whose first byte is not that of the keyword
-differs : (v : List ℕ) (y : ℕ) (k : List ℕ) → (isWord (getD v 0 0) ≡ true → lower (getD v 0 0) ≡ y → ⊥) → isKeyword (takeWhile isWord v) (y ∷ k) ≡ false
-unfolding takeWhile isKeyword
-differs [] y k h = refl
-differs (x ∷ v) y k h = go (isWord x) refl
-  where
-    go : (t : Bool) → isWord x ≡ t → isKeyword (takeWhile isWord (x ∷ v)) (y ∷ k) ≡ false
-    go true e = rw (e, takeWhile) (rw (ne-eqb (lower x) y (h e)))
-    go false e = rw (e, takeWhile)
+pub key-more : (k u : List ℕ) (i : ℕ) → KeyAt k u i → i < length k → lower (getD u i 0) ≡ getD k i 0 → KeyAt k u (i + 1)
+key-more k u i h lt e = record { inside = omega arith; enough = h .enough; agree = below-more _ i (h .agree) e }
 
--- a keyword that has ended
-ended : (v : List ℕ) (t : Bool) → isWord (getD v 0 0) ≡ t → isKeyword (takeWhile isWord v) [] ≡ elim t [ true ↦ false | false ↦ true ]
-unfolding takeWhile isKeyword
-ended [] true e = absurd (false≢true (sym no-word ∙ e))
-ended [] false e = refl
-ended (x ∷ v) true e = rw (e, takeWhile)
-ended (x ∷ v) false e = rw (e, takeWhile)
+module _ (k : List ℕ) (b : ℕ) (u : List ℕ) where
+  not-keyword : (isKeyword (takeWhile isWord u) k ≡ true → ⊥) → fail b ≡ keyword k b u
+  not-keyword h = go (isLetter (getD u 0 0)) refl
+    where
+      go : (t : Bool) → isLetter (getD u 0 0) ≡ t → fail b ≡ keyword k b u
+      go false e = keyword-no-word k b u e
+      go true e = keyword-other k b u e (false-if _ h)
 
-module _ (k : List ℕ) (b : ℕ) (u : List ℕ) (letter : isLetter (getD u 0 0) ≡ true) (i : ℕ) (h : KeyAt k u i) where
-  module _ (lt : i < length k) where
-    pub key-differs : (isWord (getD u i 0) ≡ true → lower (getD u i 0) ≡ getD k i 0 → ⊥) → fail b ≡ keyword k b u
-    key-differs other = keyword-other k b u letter (sym (h .left) ∙ rw (drop-cons k i 0) (differs (drop i u) (getD k i 0) (drop (suc i) k) (rw (first-of i u) other)))
+  pub key-short : length u < length k → fail b ≡ keyword k b u
+  key-short lt = not-keyword λ e. omega (arith, word-agrees _ _ e .0, run-le isWord u)
 
-    pub key-more : lower (getD u i 0) ≡ getD k i 0 → isWord (getD u i 0) ≡ true → KeyAt k u (i + 1)
-    unfolding isKeyword
-    key-more e w =
-        let l : i < length u = passed-inside isWord no-word i u w in
-        let s : isKeyword (takeWhile isWord (drop i u)) (drop i k) ≡ isKeyword (takeWhile isWord (drop (suc i) u)) (drop (suc i) k) =
-        rw (drop-cons k i 0, drop-cons u i 0) (rw (run-cons isWord (getD u i 0) (drop (suc i) u) w) (rw (eq-eqb _ _ e))) in
-        record { inside = omega arith; run = runs-more isWord u i (h .run) l w; left = rw add-one (sym s ∙ h .left) }
+  pub key-differs : (i : ℕ) → i < length k → (lower (getD u i 0) ≡ getD k i 0 → ⊥) → fail b ≡ keyword k b u
+  key-differs i lt other = not-keyword λ e.
+      let t = word-agrees _ _ e in
+      other (ap lower (sym (run-byte isWord u i (omega (arith, t .0)))) ∙ t .1 i lt)
 
-  module _ (le : length k ≤ i) where
-    at-end : (t : Bool) → isWord (getD u i 0) ≡ t → isKeyword (takeWhile isWord u) k ≡ elim t [ true ↦ false | false ↦ true ]
-    at-end t e = sym (h .left) ∙ rw (drop-of-length-le k le) (ended (drop i u) t (ap isWord (first-of i u) ∙ e))
+  module _ (i : ℕ) (h : KeyAt k u i) (le : length k ≤ i) (n : ℕ) (en : n ≡ length (takeWhile isWord u)) where
+    pub key-longer : (n ≡ i → ⊥) → fail b ≡ keyword k b u
+    key-longer other = not-keyword λ e. other (omega (arith, word-agrees _ _ e .0, h .inside))
 
-    pub key-longer : isWord (getD u i 0) ≡ true → fail b ≡ keyword k b u
-    key-longer e = keyword-other k b u letter (at-end true e)
-
-    run-ends : isWord (getD u i 0) ≡ false → i ≡ length (takeWhile isWord u)
-    run-ends e = omega (arith, ap length (run-empty isWord (drop i u) (ap isWord (first-of i u) ∙ e)), h .run .left)
-
-    pub key-is : isWord (getD u i 0) ≡ false → ok (wordAt b u (b + i)) (b + i) (drop (b + i - b) u) ≡ keyword k b u
-    key-is e = run-answer b i u (run-ends e) ∙ sym (keyword-same k b u letter (at-end false e))
+    pub key-is : isLetter (getD u 0 0) ≡ true → n ≡ i → ok (wordAt b u (b + i)) (b + i) (drop (b + i - b) u) ≡ keyword k b u
+    key-is letter same =
+        let z : i ≡ length (takeWhile isWord u) = sym same ∙ en in
+        let bytes : Agree (takeWhile isWord u) k (length k) = λ j l. ap lower (run-byte isWord u j (omega (arith, h .inside))) ∙ h .agree j (omega arith) in
+        run-answer b i u z ∙ sym (keyword-same k b u letter (agrees-word _ _ (omega (arith, h .inside)) bytes))

@@ -1,9 +1,9 @@
 -- What the private functions of the test for well-formed UTF-8 promise.
-use Prim.Native.Nat.{ℕ, suc, _-_}
+use Prim.Native.Nat.{ℕ, suc, _+_, _-_, _≤_, _<_}
 use mathlib.Core.Bool.{Bool, true, false, _&&_}
 use mathlib.Core.Option.{Option, none, some}
 use mathlib.Core.List.{List, [], _∷_}
-use lib.ListN.{length, replicate}
+use lib.ListN.{length, getD, replicate}
 use Rattle.lexing.specs.utf8.{Range, _to_, has, following, table}
 
 -- whether the bytes at the front are in the ranges, one in each
@@ -25,3 +25,9 @@ sequence-size (x ∷ u) = size-of (following table x) u
 -- the ranges after the first byte of a sequence of n bytes, 2 or more, whose second byte is from lo to hi
 unfoldable pub later : ℕ → ℕ → ℕ → List Range
 later n lo hi = lo to hi ∷ replicate (n - 2) (0x80 to 0xbf)
+
+-- n bytes from i on are ASCII, one at least
+pub record AsciiAt (u : List ℕ) (i n : ℕ) : Type 0 where
+  pub onward : 0 < n
+  pub inside : i + n ≤ length u
+  pub ascii : (j : ℕ) → j < n → getD u (i + j) 0 < 0x80

@@ -3,7 +3,7 @@ use Rattle.lexing.proofs.utf8.utf8_error.Statement.{statement}
 use Rattle.lexing.proofs.utf8.utf8_error.Tie as tie
 use Prim.Native.Nat.{_-_}
 use lib.ListN.{length}
-use Rattle.lexing.proofs.utf8.Laws.{Passed, passed-start, passed-more, passed-end, passed-ascii, passed-ill, rest-first}
+use Rattle.lexing.proofs.utf8.Laws.{Passed, passed-start, passed-more, passed-end, passed-run, passed-ill, rest-first}
 use native.Mathlib.Omega.{arith}
 
 abbrev Inv-loop : tie.InvT-loop
@@ -15,17 +15,20 @@ abbrev μ-loop : tie.MeasureT-loop
 loop-holds : tie.Need-loop-holds Inv-loop μ-loop
 loop-holds c = passed-start _ _
 
-add-next : tie.Need-add-next Inv-loop μ-loop
-add-next c = search needs
-
 shared-slice-read-if1 : tie.Need-shared-slice-read-if1 Inv-loop μ-loop
 shared-slice-read-if1 c = search needs
 
+ascii-step-requires : tie.Need-ascii-step-requires Inv-loop μ-loop
+ascii-step-requires c κs = (c .before .before .loop-test .taken, c .if1 .taken)
+
+add-i : tie.Need-add-i Inv-loop μ-loop
+add-i c = omega (arith, c .ascii-step .ensures .inside)
+
 loop-less : tie.Need-loop-less Inv-loop μ-loop
-loop-less c = search needs
+loop-less c = omega (arith, c .ascii-step .ensures .onward, c .ascii-step .ensures .inside)
 
 loop-again : tie.Need-loop-again Inv-loop μ-loop
-loop-again c = passed-ascii _ _ _ (c .before .before .before .loop .inv) (c .before .before .loop-test .taken) (c .if1 .taken)
+loop-again c = passed-run _ _ _ (c .before .before .before .before .loop .inv) _ (c .ascii-step .ensures)
 
 sub-sequence-size : tie.Need-sub-sequence-size Inv-loop μ-loop
 sub-sequence-size c = search needs
@@ -45,8 +48,8 @@ add-t13 c = search needs
 returns : tie.Need-returns Inv-loop μ-loop
 returns c = passed-ill _ _ _ (c .before .before .before .before .before .before .loop .inv) (c .before .before .before .before .before .loop-test .taken) _ (c .before .sequence-size .ensures) (c .if2 .taken)
 
-add-i : tie.Need-add-i Inv-loop μ-loop
-add-i c = omega (arith, passed-more _ _ _ (c .before .before .before .before .before .before .loop .inv) _ (c .before .sequence-size .ensures) (c .if2 .left) .reach)
+add-i-2 : tie.Need-add-i-2 Inv-loop μ-loop
+add-i-2 c = omega (arith, passed-more _ _ _ (c .before .before .before .before .before .before .loop .inv) _ (c .before .sequence-size .ensures) (c .if2 .left) .reach)
 
 loop-less-2 : tie.Need-loop-less-2 Inv-loop μ-loop
 loop-less-2 c = search needs
@@ -64,8 +67,9 @@ utf8-error-spec =
     Inv-loop
     μ-loop
     loop-holds
-    add-next
     shared-slice-read-if1
+    ascii-step-requires
+    add-i
     loop-less
     loop-again
     sub-sequence-size
@@ -74,7 +78,7 @@ utf8-error-spec =
     sequence-size-requires
     add-t13
     returns
-    add-i
+    add-i-2
     loop-less-2
     loop-again-2
     returns-2)
