@@ -3,6 +3,7 @@ ghost use mathlib.Core.Path.{_≡_};
 ghost use Prim.Native.Nat.{_+_, _-_, _≤_, _<_};
 ghost use lib.Dec.{eqb};
 ghost use lib.ListN.{length, take, drop, getD};
+ghost use Rattle.lexing.specs.integers.{u64-max};
 ghost use Rattle.matter_idl.specs.sections.{line-feed, cut-after, sections};
 ghost use Rattle.matter_idl.specs.inner.sections.{FirstSection};
 
@@ -20,7 +21,7 @@ fn is_cut(text: &[u8], i: usize) -> bool
 
 // The offset behind the first section of a part that begins where a section does.
 pub fn section_end(part: &[u8], base: usize) -> usize
-    requires { ⌜ base + length (now part) ≤ 18446744073709551615 ⌝ }
+    requires { ⌜ base + length (now part) ≤ u64-max ⌝ }
     ensures { λ r. ⌜ FirstSection r base (now (part .entry)) ⌝ }
 {
     let mut i = 1;
