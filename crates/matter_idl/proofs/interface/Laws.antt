@@ -1,5 +1,5 @@
 -- What unescaping returns fits below the number of a refusal.
-use mathlib.Core.Path.{_≡_, refl, sym, ap, _∙_, subst}
+use mathlib.Core.Path.{_≡_, refl, sym, ap, _∙_}
 use mathlib.Core.Bool.{Bool, true, false}
 use mathlib.Core.Option.{Option, none, some}
 use mathlib.Core.List.{List, [], _∷_}
@@ -8,7 +8,7 @@ use native.Mathlib.Omega.{arith}
 use lib.Dec.{eqb, leb}
 use lib.ListN.{length}
 use Rattle.lexing.specs.bytes.{quote, backslash}
-use Rattle.lexing.specs.outcomes.{Outcome, refused, written, fitted, returned, afterwards}
+use Rattle.lexing.specs.outcomes.{Outcome, refused, fitted, returned, afterwards}
 use Rattle.lexing.specs.unescaping.{Unescaped, gives, faultAt, first, escaped, unescapeFrom, escapeFrom, unescape, into, outcome, answer}
 use Rattle.lexing.specs.declared.unescaping.Unescaping.{Unescaping}
 use Rattle.matter_idl.specs.interface.{number-unit, value-limit, result, unescaping}

@@ -1,11 +1,11 @@
 -- What the survey comes to, by what its passes count.
 use mathlib.Core.Path.{_≡_, refl, sym, ap, _∙_}
 use mathlib.Core.Bool.{true, false}
-use mathlib.Core.List.{List, [], _∷_, _++_}
+use mathlib.Core.List.{List, [], _∷_}
 use Prim.Native.Nat.{ℕ, zero, suc, _+_, _*_, _≤_}
 use native.Mathlib.Omega.{arith}
 use lib.Dec.{leb}
-use lib.ListN.{length, drop, getD, replicate}
+use lib.ListN.{length, getD, replicate}
 use Rattle.lexing.specs.outcomes.{refused, written, afterwards}
 use Rattle.items.specs.layout.{layout-20, catalogue-bytes, word-count, text-limit}
 use Rattle.items.specs.buffers.{put}
@@ -17,29 +17,26 @@ use Rattle.matter_idl.specs.survey.{accepted-items, entries, report-20, 
 use Rattle.matter_idl.specs.interface.{number-unit, result}
 use Rattle.matter_idl.specs.inner.survey.{Marks}
 use Rattle.matter_idl.proofs.interface.Outcomes.{refused-result, refused-left, written-result, written-left}
+use Rattle.matter_idl.proofs.reading.Marked.{put-behind}
 use Rattle.matter_idl.proofs.survey.Laws.{report-length}
 
-put-front : (xs l : List ℕ) → put 0 xs l ≡ xs ++ drop (length xs) l
-unfolding put
-put-front xs l = let z : 0 + length xs ≡ length xs = omega arith in rw z refl
-
 -- what a call returns and leaves in its two buffers
-abbrev Ends : Surveyed → ℕ → (cat rep cat' rep' : List ℕ) → Type 0
-Ends s x cat rep cat' rep' = (x ≡ result (for-catalogue s)) × ((cat' ≡ afterwards (for-catalogue s) cat) × (rep' ≡ afterwards (for-report s) rep))
+abbrev SurveyTo : Surveyed → ℕ → (cat rep cat' rep' : List ℕ) → Type 0
+SurveyTo s x cat rep cat' rep' = (x ≡ result (for-catalogue s)) × ((cat' ≡ afterwards (for-catalogue s) cat) × (rep' ≡ afterwards (for-report s) rep))
 
-pub survey-refused : {s : Surveyed} {k v : ℕ} → s ≡ not-surveyed k v → {x : ℕ} → x ≡ k * number-unit + v → (cat rep : List ℕ) → Ends s x cat rep cat rep
+pub survey-refused : {s : Surveyed} {k v : ℕ} → s ≡ not-surveyed k v → {x : ℕ} → x ≡ k * number-unit + v → (cat rep : List ℕ) → SurveyTo s x cat rep cat rep
 unfolding for-catalogue for-report
 survey-refused {s} {k} {v} e h cat rep =
     let c : for-catalogue s ≡ refused k v = ap for-catalogue e in
     let r : for-report s ≡ refused k v = ap for-report e in
     (refused-result c h, (refused-left c cat, refused-left r rep))
 
-survey-written : {s : Surveyed} {c r : List ℕ} → s ≡ surveyed c r → {n : ℕ} → length c ≡ n → {x : ℕ} → x ≡ 0 * number-unit + n → (cat rep : List ℕ) {cat' rep' : List ℕ} → cat' ≡ put 0 c cat → rep' ≡ put 0 r rep → Ends s x cat rep cat' rep'
+survey-written : {s : Surveyed} {c r : List ℕ} → s ≡ surveyed c r → {n : ℕ} → length c ≡ n → {x : ℕ} → x ≡ 0 * number-unit + n → (cat rep : List ℕ) {cat' rep' : List ℕ} → cat' ≡ put 0 c cat → rep' ≡ put 0 r rep → SurveyTo s x cat rep cat' rep'
 unfolding for-catalogue for-report
 survey-written {s} {c} {r} e z h cat rep w y =
     let k : for-catalogue s ≡ written c = ap for-catalogue e in
     let l : for-report s ≡ written r = ap for-report e in
-    (written-result k z h, (written-left k cat (w ∙ put-front c cat), written-left l rep (y ∙ put-front r rep)))
+    (written-result k z h, (written-left k cat (w ∙ put-behind 0 [] c cat refl), written-left l rep (y ∙ put-behind 0 [] r rep refl)))
 
 -- an entry for each section
 entries-count : (b : ℕ) (ss : List (List ℕ)) → length (entries b ss) ≡ length ss
@@ -92,7 +89,7 @@ module _ (u : List ℕ) (n m : ℕ) where
       unfolding into-buffers
       survey-short g = let z : leb (length records-now) n ≡ false = ap (λ (i : ℕ). leb i n) catalogue-size ∙ g in short-now ∙ rw (report-fits, z, into-buffers) (ap (not-surveyed 7) catalogue-size)
 
-      pub survey-done : leb (8 * x) n ≡ true → {y : ℕ} → y ≡ 0 * number-unit + 8 * x → (cat rep : List ℕ) {cat' rep' : List ℕ} → cat' ≡ put 0 records-now cat → rep' ≡ put 0 entries-now rep → Ends survey-20 y cat rep cat' rep'
+      pub survey-done : leb (8 * x) n ≡ true → {y : ℕ} → y ≡ 0 * number-unit + 8 * x → (cat rep : List ℕ) {cat' rep' : List ℕ} → cat' ≡ put 0 records-now cat → rep' ≡ put 0 entries-now rep → SurveyTo survey-20 y cat rep cat' rep'
       unfolding into-buffers
       survey-done g h cat rep w w' =
           let z : leb (length records-now) n ≡ true = ap (λ (i : ℕ). leb i n) catalogue-size ∙ g in

@@ -28,7 +28,7 @@ use Rattle.matter_idl.proofs.hoisting.Marks.{hoisted-append}
 use Rattle.matter_idl.proofs.reading.Laws.{HoistingItems, hoisting-start, hoisting-place, hoisting-written, hoisting-true, hoisting-more, hoisting-ends}
 
 -- bytes written behind the first of a buffer
-put-behind : (at : ℕ) (front xs tail : List ℕ) → at ≡ length front → put at xs (front ++ tail) ≡ front ++ (xs ++ drop (length xs) tail)
+pub put-behind : (at : ℕ) (front xs tail : List ℕ) → at ≡ length front → put at xs (front ++ tail) ≡ front ++ (xs ++ drop (length xs) tail)
 unfolding put
 put-behind at front xs tail e = rw (e, take-at front tail (length front) refl, drop-append-add front tail (length xs)) refl
 

@@ -9,7 +9,7 @@ use Rattle.lexing.specs.answers.{Rest}
 use Rattle.lexing.proofs.Slicing.{rebase}
 use Rattle.items.specs.items.{Item}
 use Rattle.items.specs.records.{each}
-use Rattle.items.specs.layout.{layout-20, words-bytes, big-endian, word-count, text-limit}
+use Rattle.items.specs.layout.{big-endian, word-count, text-limit}
 use Rattle.items.specs.buffers.{put}
 use Rattle.items.specs.answers.items.{unhoisted-item}
 use Rattle.items.proofs.RecordWords.{each-append, words-bytes-append, words-bytes-length, word-count-append, word-count-none}
@@ -20,7 +20,7 @@ use Rattle.matter_idl.specs.sections.{sections}
 use Rattle.matter_idl.specs.survey.{items-of, accepted-items, Entry, sound, spoilt, entry, entries, report-20, entry-words, report-bytes}
 use Rattle.matter_idl.specs.answers.reading.{VerdictAtTo}
 use Rattle.matter_idl.specs.inner.sections.{FirstSection}
-use Rattle.matter_idl.specs.inner.survey.{verdictWord, entryOf, PlaceFits, wordsOf, Marks, remembered, MarkTrue, Judged, SectionBehindTo}
+use Rattle.matter_idl.specs.inner.survey.{verdictWord, entryOf, PlaceFits, wordsOf, Marks, remembered}
 use Rattle.matter_idl.specs.declared.reading.Verdict.{Verdict}
 use Rattle.matter_idl.specs.declared.reading.Verdict.the-variants.{Accepted, Refused}
 use Rattle.matter_idl.proofs.Places.{hoisted-words}

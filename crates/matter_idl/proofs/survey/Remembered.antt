@@ -20,13 +20,12 @@ use Rattle.matter_idl.specs.hoisting.{no-ids, hoisted}
 use Rattle.matter_idl.specs.reading.{all-items, Verdict as VerdictOf, accepted, turned-down, by-reply, by-utf8, verdict-at}
 use Rattle.matter_idl.specs.survey.{items-of, Entry, sound, spoilt, entry}
 use Rattle.matter_idl.specs.answers.reading.{VerdictAtTo}
-use Rattle.matter_idl.specs.inner.reading.{HoistedFront, HoistedItemsTo}
-use Rattle.matter_idl.specs.inner.survey.{entryOf, PlaceFits, IsSound, Marks, remembered, MarkTrue, Judged, SectionBehind, SectionBehindTo}
+use Rattle.matter_idl.specs.inner.reading.{HoistedItemsTo}
+use Rattle.matter_idl.specs.inner.survey.{IsSound, Marks, remembered, MarkTrue, Judged, SectionBehindTo}
 use Rattle.matter_idl.specs.declared.reading.Verdict.{Verdict}
 use Rattle.matter_idl.specs.declared.reading.Verdict.the-variants.{Accepted, Refused}
 use Rattle.matter_idl.proofs.Places.{hoisted-words}
 use Rattle.matter_idl.proofs.reading.Judged.{all-on}
-use Rattle.matter_idl.proofs.reading.Marked.{behind-same}
 
 -- Marks.
 
@@ -111,9 +110,8 @@ module _ {v : Verdict} {b : ℕ} {u : List ℕ} (h : Judged v b u) where
       let z : at - at ≡ 0 = omega arith in
       record { front = f; front-items = rw (refused-items (judged-as e h)) (sym (append-nil (f .items))); front-tail = rw z refl }
 
-  module _ {n : ℕ} (e : v ≡ Accepted n) {at size : ℕ} (l : at + 8 * word-count (hoisted no-ids (items-of (verdict-at b u))) ≤ size) where
-    pub judged-room : Room (each unhoisted-item) all-items b u at size
-    judged-room = let r = accepted-reads (judged-as e h) in record { value = items-of (verdict-at b u); next = r .0; is = r .1; fits = omega (arith, hoisted-words no-ids (items-of (verdict-at b u)), l) }
+  pub judged-room : {n : ℕ} → v ≡ Accepted n → {at size : ℕ} → at + 8 * word-count (hoisted no-ids (items-of (verdict-at b u))) ≤ size → Room (each unhoisted-item) all-items b u at size
+  judged-room e l = let r = accepted-reads (judged-as e h) in record { value = items-of (verdict-at b u); next = r .0; is = r .1; fits = omega (arith, hoisted-words no-ids (items-of (verdict-at b u)), l) }
 
   pub accepted-behind : {n : ℕ} → v ≡ Accepted n → {new t old : List ℕ} {at : ℕ} {w : Wrote} → HoistedItemsTo new t old at b u w → SectionBehindTo new t old at b u (w .to)
   accepted-behind e g f =

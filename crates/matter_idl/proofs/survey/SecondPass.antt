@@ -1,6 +1,6 @@
 -- The second pass of the survey: both buffers, section by section.
 use mathlib.Core.Path.{_≡_, refl, sym, ap, _∙_}
-use mathlib.Core.List.{List, [], _∷_, _++_, append-assoc, append-nil}
+use mathlib.Core.List.{List, [], _∷_, _++_}
 use Prim.Native.Nat.{ℕ, _+_, _-_, _*_, _≤_, _<_}
 use native.Mathlib.Omega.{arith}
 use lib.ListN.{length, take, drop, length-append, length-drop}
@@ -20,7 +20,7 @@ use Rattle.matter_idl.specs.inner.reading.{PartOf, HoistedFront}
 use Rattle.matter_idl.specs.inner.sections.{FirstSection}
 use Rattle.matter_idl.specs.inner.survey.{entryOf, Marks, MarkTrue, Judged, SectionBehindTo}
 use Rattle.matter_idl.specs.declared.reading.Verdict.{Verdict}
-use Rattle.matter_idl.proofs.reading.Marked.{front-none}
+use Rattle.matter_idl.proofs.reading.Marked.{put-behind, front-none}
 use Rattle.matter_idl.proofs.survey.Laws.{report-length, report-append, Passed, passed-start, all-seen, all-accepted, left-is, section-ends, passed-more, words-more}
 
 -- the records and the entries of the sections before c are written
@@ -38,7 +38,7 @@ unfolding front-none report-bytes words-bytes each
 writing-start t cat rep = record { seen = []; items = []; passed = passed-start t; front = front-none t cat; front-items = refl; front-tail = refl; report = sym (put-nothing 0 rep) }
 
 -- the bytes between two offsets are a part of the text
-pub section-part : {t s : List ℕ} {c end : ℕ} → s ≡ take (end - c) (drop c t) → c + length s ≡ end → end ≤ length t → PartOf t c s
+section-part : {t s : List ℕ} {c end : ℕ} → s ≡ take (end - c) (drop c t) → c + length s ≡ end → end ≤ length t → PartOf t c s
 section-part {t} {s} {c} {end} e z l = let y : length s ≡ end - c = omega arith in record { inside = omega arith; same = rw y (sym e) }
 
 module _ {t cat₀ rep₀ : List ℕ} {i c to : ℕ} {cat rep : List ℕ} (h : WritingSections t cat₀ rep₀ i c to cat rep) (room : 8 * word-count (hoisted no-ids (accepted-items 0 (sections t))) ≤ length cat₀) (rows : 8 * length (sections t) ≤ length rep₀) where
@@ -62,10 +62,10 @@ module _ {t cat₀ rep₀ : List ℕ} {i c to : ℕ} {cat rep : List ℕ} (h : W
   -- all sections
   module _ (e : length (sections t) ≤ i) where
     pub catalogue-written : cat ≡ put 0 (catalogue-bytes layout-20 (hoisted no-ids (accepted-items 0 (sections t)))) cat₀
-    unfolding put
     catalogue-written =
-        let z : 0 + length (catalogue-bytes layout-20 (hoisted no-ids (h .items))) ≡ to = omega (arith, to-is, catalogue-bytes-length (hoisted no-ids (h .items))) in
-        rw (all-accepted (h .passed) e, z) (h .front .bytes ∙ rw (h .front-items, h .front-tail) refl)
+        let xs = catalogue-bytes layout-20 (hoisted no-ids (h .items)) in
+        let z : length xs ≡ to = omega (arith, to-is, catalogue-bytes-length (hoisted no-ids (h .items))) in
+        rw (all-accepted (h .passed) e) (h .front .bytes ∙ (rw (h .front-items, h .front-tail, ← z) refl ∙ sym (put-behind 0 [] xs cat₀ refl)))
 
     pub report-written : rep ≡ put 0 (report-bytes report-20 (entries 0 (sections t))) rep₀
     report-written = rw (all-seen (h .passed) e) (h .report)
