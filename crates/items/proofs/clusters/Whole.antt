@@ -15,7 +15,7 @@ use Rattle.lexing.specs.declared.answers.Lost.the-variants.{Fail, Stop}
 use Rattle.lexing.specs.declared.answers.Step.{Step}
 use Rattle.lexing.specs.declared.answers.Step.the-variants.{Next, Not}
 use Rattle.lexing.specs.declared.integers.Number.{Number}
-use Rattle.lexing.specs.declared.integers.Number.the-variants.{Value}
+use Rattle.lexing.specs.declared.integers.Number.the-variants.{Value, NoNumber}
 use Rattle.lexing.proofs.Onward.{Onward}
 use Rattle.lexing.proofs.Locality.{chain-ret, chain-bind, chain-then, chain-opt, chain-many0}
 use Rattle.lexing.proofs.TokenLocality.{any-keyword-chain, whitespace0-chain}
@@ -33,7 +33,7 @@ use Rattle.items.specs.buffers.{put}
 use Rattle.items.specs.answers.{Front, frontOf, wordBetween, NameIn, Room, Written, first-of, docWord, docBit}
 use Rattle.items.specs.answers.members.{command-records}
 use Rattle.items.specs.answers.clusters.{RevisionTo, clusterHeadAt, unhoisted-records}
-use Rattle.items.specs.inner.clusters.{found, revision-words, struct-words, attribute-words, command-words, event-words, member-try, KindTo, member-behind, members-rest, unhoisted, wroteTo, MemberWritten, MembersWritten, cluster-first}
+use Rattle.items.specs.inner.clusters.{found, revision-words, struct-words, attribute-words, command-words, event-words, member-try, KindTo, member-behind, members-rest, unhoisted, wroteTo, MemberWritten, MembersWritten, revisionWrote, cluster-first}
 use Rattle.items.specs.declared.writing.FrontParts.{FrontParts}
 use Rattle.items.specs.declared.writing.Wrote.{Wrote}
 use Rattle.items.specs.declared.clusters.MemberKind.{MemberKind}
@@ -41,7 +41,7 @@ use Rattle.items.specs.declared.clusters.MemberKind.the-variants.{Revisi
 use Rattle.items.specs.declared.clusters.Candidate.{Candidate}
 use Rattle.items.specs.declared.clusters.ClusterHeadParts.{ClusterHeadParts}
 use Rattle.items.specs.declared.clusters.MembersWrote.{MembersWrote}
-use Rattle.items.proofs.Answers.{read-took}
+use Rattle.items.proofs.Answers.{reads-as, read-took}
 use Rattle.items.proofs.Keywords.{keyword-missing}
 use Rattle.items.proofs.Onward.{onward-bind}
 use Rattle.items.proofs.Headed.{Headed}
@@ -157,7 +157,7 @@ module _ (d : Doc) (m : ℕ) {x : MemberKind} (e : x ≡ Revision) (b : ℕ) (u 
   unfolding member-try
   revision-is = ap (λ (y : MemberKind). member-try y d m b u) e
 
-  pub revision-written : (z : ℕ) {a : Number} {n c at : ℕ} {old : List ℕ} → RevisionTo a b u → a ≡ Value n c → MemberWritten z (member-try x d m) b u at (record { next = c; to = at; revision = n }) old old
+  revision-written : (z : ℕ) {a : Number} {n c at : ℕ} {old : List ℕ} → RevisionTo a b u → a ≡ Value n c → MemberWritten z (member-try x d m) b u at (record { next = c; to = at; revision = n }) old old
   unfolding member-records last-revision
   revision-written z {a} {n} {c} {at} {old} h y =
       let t = read-took h y revision-on (rest-self b u) refl in
@@ -166,8 +166,12 @@ module _ (d : Doc) (m : ℕ) {x : MemberKind} (e : x ≡ Revision) (b : ℕ) (u 
         latest = refl;
       }
 
-  pub revision-found : {at n : ℕ} → Room unhoisted (member-try x d m) b u at n → (l : Lost) → lostReply l ≡ parse-revision b u → ⊥
-  revision-found room l h = no-room room l (h ∙ sym revision-is)
+  pub revision-left : (z : ℕ) {a : Number} {at n : ℕ} {old : List ℕ} {w : MembersWrote} → Room unhoisted (member-try x d m) b u at n → RevisionTo a b u → w ≡ revisionWrote a b at z → MemberWritten z (member-try x d m) b u at w old old
+  revision-left z {a} {at} {n} {old} {w} room h y = subst (λ (o : MembersWrote). MemberWritten z (member-try x d m) b u at o old old) (sym y) (go a refl)
+    where
+      go : (v : Number) → a ≡ v → MemberWritten z (member-try x d m) b u at (revisionWrote v b at z) old old
+      go (Value i c) e = revision-written z h e
+      go (NoNumber l) e = absurd (no-room room l (reads-as h e ∙ sym revision-is))
 
 -- no member at all
 pub unknown-found : (d : Doc) (m : ℕ) {x : MemberKind} → x ≡ Unknown → (b : ℕ) (u : List ℕ) {at n : ℕ} → Room unhoisted (member-try x d m) b u at n → ⊥
