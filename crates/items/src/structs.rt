@@ -401,35 +401,35 @@ pub fn struct_head(part: &[u8], base: usize, from: usize) -> StructHeadRead
 {
     let word = struct_word(part, base, from);
     let kind = word.kind;
-    let c1 = word.next;
-    let set = keywords_set(rest_at(part, base, c1), c1, 1);
-    let c2 = set.next;
-    let key = keyword_behind(part, base, c2, b"struct");
-    let Step::Next(c3) = key else {
+    let start = word.next;
+    let set = keywords_set(rest_at(part, base, start), start, 1);
+    let c1 = set.next;
+    let key = keyword_behind(part, base, c1, b"struct");
+    let Step::Next(c2) = key else {
         return StructHeadRead::NoHead(step_lost(key));
     };
-    let gap = gap_at(part, base, c3);
-    let Step::Next(c4) = gap else {
+    let gap = gap_at(part, base, c2);
+    let Step::Next(c3) = gap else {
         return StructHeadRead::NoHead(step_lost(gap));
     };
-    let name = parse_id(rest_at(part, base, c4), c4);
-    let Step::Next(c5) = name else {
+    let name = parse_id(rest_at(part, base, c3), c3);
+    let Step::Next(c4) = name else {
         return StructHeadRead::NoHead(step_lost(name));
     };
-    let c6 = blank_at(part, base, c5);
-    let number = struct_code(rest_at(part, base, c6), c6, kind);
-    let Number::Value(code, c7) = number else {
+    let c5 = blank_at(part, base, c4);
+    let number = struct_code(rest_at(part, base, c5), c5, kind);
+    let Number::Value(code, c6) = number else {
         return StructHeadRead::NoHead(number_lost(number));
     };
     StructHeadRead::Head(
         StructHeadParts {
             kind,
             scoped: set.flags,
-            name: c4,
-            end: c5,
+            name: c3,
+            end: c4,
             code,
         },
-        c7,
+        c6,
     )
 }
 

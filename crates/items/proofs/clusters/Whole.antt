@@ -2,14 +2,14 @@
 use mathlib.Core.Path.{_≡_, refl, sym, ap, _∙_, subst}
 use mathlib.Core.Bool.{false}
 use mathlib.Core.List.{List, [], _∷_, _++_}
-use Prim.Native.Nat.{ℕ, _+_, _-_, _*_, _≤_, _<_, max}
+use Prim.Native.Nat.{ℕ, _+_, _-_, _≤_, _<_, max}
 use native.Mathlib.Omega.{arith}
 use lib.ListN.{length, drop}
 use Rattle.lexing.specs.bytes.{ascii}
 use Rattle.lexing.specs.reply.{Reply, ok, fail, stop, Parser, ret, _>>=_, _>>_, catch, failAt, _or_, further, opt, many0}
 use Rattle.lexing.specs.words.{Word, keyword, any-keyword, tag}
-use Rattle.lexing.specs.blanks.{Doc, no-doc, whitespace0}
-use Rattle.lexing.specs.answers.{Rest, Answer, reply, wordAt, wordReply, lostReply, docOf}
+use Rattle.lexing.specs.blanks.{Doc, whitespace0}
+use Rattle.lexing.specs.answers.{Rest, wordAt, wordReply, lostReply}
 use Rattle.lexing.specs.declared.answers.Lost.{Lost}
 use Rattle.lexing.specs.declared.answers.Lost.the-variants.{Fail, Stop}
 use Rattle.lexing.specs.declared.answers.Step.{Step}
@@ -28,12 +28,12 @@ use Rattle.items.specs.structs.{parse-struct-after-doc-maturity}
 use Rattle.items.specs.members.{parse-event-after-doc-maturity, parse-command-after-doc-maturity, parse-attribute-after-doc-maturity}
 use Rattle.items.specs.clusters.{Member, revision, bitmap, enum, struct, attribute, command, event, parse-revision, member-tries, parse-cluster-member, cluster-members, side, cluster-head, cluster-after-doc-maturity}
 use Rattle.items.specs.records.{Record, at, value, each, word-extent, documented, choice-records, struct-records, attribute-records, event-records, member-records, last-revision, cluster-records}
-use Rattle.items.specs.layout.{packed, width, from-top, offset, size, layout-20, record-words, big-endian, words-bytes, further-word, catalogue-words, catalogue-bytes, word-count, text-limit}
+use Rattle.items.specs.layout.{packed, width, from-top, offset, size, layout-20, record-words, big-endian, words-bytes, further-word, catalogue-words, catalogue-bytes, word-count}
 use Rattle.items.specs.buffers.{put}
-use Rattle.items.specs.answers.{Front, frontOf, wordBetween, NameIn, Room, Written, first-of, docWord, docBit}
+use Rattle.items.specs.answers.{Front, frontOf, NameIn, Room, Written, first-of, docWord, docBit}
 use Rattle.items.specs.answers.members.{command-records}
 use Rattle.items.specs.answers.clusters.{RevisionTo, clusterHeadAt, unhoisted-records}
-use Rattle.items.specs.inner.clusters.{found, revision-words, struct-words, attribute-words, command-words, event-words, member-try, KindTo, member-behind, members-rest, unhoisted, wroteTo, MemberWritten, MembersWritten, revisionWrote, cluster-first}
+use Rattle.items.specs.inner.clusters.{found, member-try, KindTo, member-behind, members-rest, unhoisted, MemberWritten, MembersWritten, revisionWrote, cluster-first}
 use Rattle.items.specs.declared.writing.FrontParts.{FrontParts}
 use Rattle.items.specs.declared.writing.Wrote.{Wrote}
 use Rattle.items.specs.declared.clusters.MemberKind.{MemberKind}
@@ -51,9 +51,9 @@ use Rattle.items.proofs.Braces.{Step as Taken, lost-not, brace-first, b
 use Rattle.items.proofs.RecordWords.{Elementwise, each-elementwise, word-count-none, catalogue-bytes-none}
 use Rattle.items.proofs.Locality.{braces-chain, api-maturity-local, parse-revision-local, member-tries-inside, parse-cluster-member-inside, parse-cluster-member-consumes, side-local, cluster-head-local}
 use Rattle.items.proofs.WordBetween.{extent-between}
-use Rattle.items.proofs.writing.Laws.{put-nothing, put-next, documented-bytes, no-room, written-took, Writing, writing-start, writing-start-seen, writing-same, writing-fits, writing-more, writing-more-seen}
+use Rattle.items.proofs.writing.Laws.{put-nothing, put-next, documented-bytes, no-room, Writing, writing-start, writing-start-seen, writing-same, writing-fits, writing-more, writing-more-seen}
 use Rattle.items.proofs.Recorded.{Recorded, recorded-at, recorded-room, recorded-written}
-use Rattle.items.proofs.clusters.Laws.{OtherWord, at-other, member-left, member-tries-on, members-on, parse-member-on}
+use Rattle.items.proofs.clusters.Laws.{OtherWord, at-other, member-left, member-tries-on, members-on}
 
 -- one of two keywords
 module _ (k j : List ℕ) (b : ℕ) (u : List ℕ) where
