@@ -245,6 +245,10 @@ pub shared-before-local : Local shared-before
 unfolding shared-before
 shared-before-local = search (local-rules, keeps-rules) depth 8
 
+pub shared-before-consumes : Consumes shared-before
+unfolding shared-before
+shared-before-consumes = search (consumes-rules, chain-rules) depth 8
+
 pub choice-head-keeps : (k : List ℕ) → KeepsCut (choice-head k)
 unfolding choice-head
 choice-head-keeps k = search (keeps-rules, shared-before-keeps) depth 24

@@ -1,14 +1,16 @@
 -- Which tries a first word leaves: where another keyword stands, a declaration is not there and fails at its start.
-use mathlib.Core.Path.{_≡_, ap, _∙_}
+use mathlib.Core.Path.{_≡_, refl, sym, ap, _∙_}
+use mathlib.Core.Logic.{inl}
 use mathlib.Core.Option.{none, some}
 use mathlib.Core.List.{List, [], _∷_}
 use Prim.Native.Nat.{ℕ}
 use Rattle.lexing.specs.bytes.{ascii}
 use Rattle.lexing.specs.reply.{ok, fail, Parser, ret, _>>=_, _>>_, opt, further}
-use Rattle.lexing.specs.words.{keyword}
+use Rattle.lexing.specs.words.{Word, keyword, any-keyword}
 use Rattle.lexing.specs.blanks.{Doc, no-doc, whitespace0}
-use Rattle.lexing.specs.word_sets.{sets, set-of}
-use Rattle.lexing.proofs.FirstWord.{Frees, free-keywords, free-set}
+use Rattle.lexing.specs.word_sets.{same-bytes, sets, set-of}
+use Rattle.lexing.proofs.Slicing.{or-here, or-next}
+use Rattle.lexing.proofs.FirstWord.{starts-of, StartsAny, starts-free, Frees, free-keywords, free-set}
 use Rattle.items.specs.entries.{api-maturity, shared-before, choice-head, choice-after-doc-maturity}
 use Rattle.items.specs.structs.{struct-head, parse-struct-after-doc-maturity}
 use Rattle.items.specs.members.{event-priority, event-qualities, event-head, parse-event-after-doc-maturity, command-head, parse-command-after-doc-maturity, parse-attribute-after-doc-maturity}
@@ -50,6 +52,17 @@ opt-some m e = rw (e, opt)
 pub mapped-fail : {A B : Type 0} (m : Parser A) (f : A → B) {b p : ℕ} {u : List ℕ} → m b u ≡ fail p → mapped m f b u ≡ fail p
 unfolding mapped
 mapped-fail m f e = bind-fail m (λ a. ret (f a)) e
+
+-- Where `shared` stands, no other word does: of the words before a struct it is the one.
+module _ (b : ℕ) (u : List ℕ) {w : Word} {c : ℕ} {r : List ℕ} (k : keyword (ascii "shared") b u ≡ ok w c r) where
+  pub starts-shared : StartsAny (ascii "shared" ∷ []) u
+  starts-shared = record { first = ascii "shared"; among = inl refl; starts = starts-of (ascii "shared") b u w c r k }
+
+  pub shared-any : any-keyword (ascii "request" ∷ ascii "response" ∷ ascii "shared" ∷ []) b u ≡ ok w c r
+  unfolding any-keyword same-bytes
+  shared-any =
+      let f = starts-free starts-shared b (ascii "request" ∷ ascii "response" ∷ []) refl in
+      sym (or-next _ _ b u b w c r (sym (f .0)) (or-next _ _ b u b w c r (sym (f .1 .0)) (or-here _ _ b u w c r (sym k))))
 
 -- Where none of its first words stands, a declaration fails at its start.
 module _ (b : ℕ) (u : List ℕ) where

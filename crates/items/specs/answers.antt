@@ -91,11 +91,6 @@ optionalStep (Next c) b = Next c
 optionalStep (Not (Fail p)) b = Next b
 optionalStep (Not (Stop n p)) b = Not (Stop n p)
 
--- whether an optional part is there
-abbrev pub isThere : Step → Bool
-isThere (Next c) = true
-isThere (Not l) = false
-
 -- a declaration by the words that its records take
 unfoldable pub counted : {A : Type 0} → (A → List Record) → Parser A → Parser ℕ
 counted records m = mapped m (λ a. word-count (records a))

@@ -4,18 +4,16 @@ ghost use Prim.Native.Nat.{_+_, _≤_};
 ghost use lib.ListN.{length};
 ghost use mathlib.Core.List.{[], _∷_};
 ghost use Rattle.lexing.specs.answers.{docOf};
-ghost use Rattle.items.specs.entries.{shared-before, choice-after-doc-maturity};
+ghost use Rattle.items.specs.entries.{choice-after-doc-maturity};
 ghost use Rattle.items.specs.records.{choice-records};
 ghost use Rattle.items.specs.layout.{text-limit, layout-20, catalogue-bytes};
 ghost use Rattle.items.specs.buffers.{put};
-ghost use Rattle.items.specs.answers.{Skips, FrontFits, Room, Written};
-ghost use Rattle.items.specs.answers.choices.{choiceHeadLost, ChoiceHeadBetween, ChoiceHeadTo, ChoiceCountTo};
+ghost use Rattle.items.specs.answers.{FrontFits, Room, Written};
+ghost use Rattle.items.specs.answers.choices.{ChoiceFrom, choiceHeadLost, ChoiceHeadBetween, ChoiceHeadTo, ChoiceCountTo};
 ghost use Rattle.items.specs.inner.choices.{choice-first};
 use crate::counts::Count;
 use crate::entries::constant_entries_list;
 use crate::entries::write_entries_list;
-use crate::optional::is_there;
-use crate::optional::optional;
 use crate::steps::blank_at;
 use crate::steps::gap_at;
 use crate::steps::tag_behind;
@@ -48,32 +46,13 @@ pub enum ChoiceHeadRead {
     NoChoiceHead(Lost),
 }
 
-fn shared_before(part: &[u8], base: usize) -> Step
+// From behind `shared` on, whose blanks the caller has read.
+pub fn choice_head(part: &[u8], base: usize, from: usize, key: &[u8]) -> ChoiceHeadRead
     requires { ⌜ base + length (now part) ≤ text-limit ⌝ }
-    ensures { λ r. ⌜ Skips shared-before r base (now (part .entry)) ⌝ }
-{
-    let word = keyword(part, base, b"shared");
-    let Step::Next(c1) = word else {
-        return Step::Not(step_lost(word));
-    };
-    let gap = gap_at(part, base, c1);
-    let Step::Next(c2) = gap else {
-        return Step::Not(step_lost(gap));
-    };
-    Step::Next(c2)
-}
-
-pub fn choice_head(part: &[u8], base: usize, key: &[u8]) -> ChoiceHeadRead
-    requires { ⌜ base + length (now part) ≤ text-limit ⌝ }
+    requires { ⌜ ChoiceFrom from base (now part) ⌝ }
     ensures { λ r. ⌜ ChoiceHeadTo (now (key .entry)) r base (now (part .entry)) ⌝ }
 {
-    let s = shared_before(part, base);
-    let shared = is_there(s);
-    let o = optional(s, base);
-    let Step::Next(c1) = o else {
-        return ChoiceHeadRead::NoChoiceHead(step_lost(o));
-    };
-    let word = keyword(rest_at(part, base, c1), c1, key);
+    let word = keyword(rest_at(part, base, from), from, key);
     let Step::Next(c2) = word else {
         return ChoiceHeadRead::NoChoiceHead(step_lost(word));
     };
@@ -97,7 +76,7 @@ pub fn choice_head(part: &[u8], base: usize, key: &[u8]) -> ChoiceHeadRead
     let c8 = blank_at(part, base, c7);
     ChoiceHeadRead::ChoiceHead(
         ChoiceHeadParts {
-            shared,
+            shared: base < from,
             name: c3,
             end: c4,
             base_at: c6,
@@ -117,11 +96,12 @@ pub fn choice_head_lost(r: ChoiceHeadRead) -> Lost
 }
 
 // The first pass over an enum or a bitmap: three words, and those of its entries.
-pub fn choice_after_doc_maturity(part: &[u8], base: usize, key: &[u8]) -> Count
+pub fn choice_after_doc_maturity(part: &[u8], base: usize, from: usize, key: &[u8]) -> Count
     requires { ⌜ base + length (now part) ≤ text-limit ⌝ }
+    requires { ⌜ ChoiceFrom from base (now part) ⌝ }
     ensures { λ r. ⌜ ChoiceCountTo (now (key .entry)) r base (now (part .entry)) ⌝ }
 {
-    let head = choice_head(part, base, key);
+    let head = choice_head(part, base, from, key);
     let ChoiceHeadRead::ChoiceHead(_, c1) = head else {
         return Count::NoCount(choice_head_lost(head));
     };
@@ -163,17 +143,19 @@ fn put_choice(out: &mut [u8], at: usize, front: FrontParts, head: ChoiceHeadPart
 pub fn write_choice(
     part: &[u8],
     base: usize,
+    from: usize,
     key: &[u8],
     front: FrontParts,
     out: &mut [u8],
     at: usize,
 ) -> Wrote
     requires { ⌜ base + length (now part) ≤ text-limit ⌝ }
+    requires { ⌜ ChoiceFrom from base (now part) ⌝ }
     requires { ⌜ FrontFits front ⌝ }
     requires { ⌜ Room (choice-records (front .kind) (front .place)) (choice-after-doc-maturity (now key) (docOf (front .doc)) (front .maturity)) base (now part) at (length (now out)) ⌝ }
     ensures { λ r. ⌜ Written (choice-records (front .kind) (front .place)) (choice-after-doc-maturity (now (key .entry)) (docOf (front .doc)) (front .maturity)) base (now (part .entry)) at r (now (out .entry)) (now (out .exit)) ⌝ }
 {
-    let head = choice_head(part, base, key);
+    let head = choice_head(part, base, from, key);
     let ChoiceHeadRead::ChoiceHead(h, c) = head else {
         return Wrote { next: base, to: at };
     };

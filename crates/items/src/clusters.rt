@@ -12,7 +12,7 @@ ghost use Rattle.lexing.specs.blanks.{no-doc, whitespace0};
 ghost use Rattle.items.specs.layout.{text-limit, layout-20, catalogue-bytes};
 ghost use Rattle.items.specs.buffers.{put};
 ghost use Rattle.items.specs.records.{each};
-ghost use Rattle.items.specs.inner.clusters.{struct-words, attribute-words, command-words, event-words, found, KindTo, member-try, countRaised, member-behind, members-rest, unhoisted, MemberWritten, MembersWritten, cluster-first};
+ghost use Rattle.items.specs.inner.clusters.{struct-words, attribute-words, command-words, event-words, found, MemberFrom, KindTo, member-try, countRaised, member-behind, members-rest, unhoisted, MemberWritten, MembersWritten, revisionWrote, cluster-first};
 ghost use Rattle.items.specs.entries.{braces};
 ghost use Rattle.items.specs.clusters.{parse-revision, member-tries, parse-cluster-member, cluster-members, side, cluster-after-doc-maturity};
 ghost use Rattle.items.specs.answers.{Skips, NameIn, DocFits, FrontFits, Room, Written};
@@ -68,10 +68,11 @@ pub enum MemberKind {
     Unknown,
 }
 
-// The one try that a first word leaves, and the furthest place at which the others fail.
+// The one try that a first word leaves, the furthest place at which the others fail, and where the try goes on: behind `shared` and its blanks, if it is there.
 pub struct Candidate {
     pub kind: MemberKind,
     pub floor: usize,
+    pub from: usize,
 }
 
 // Up to the braces: the offsets of its name and behind it, and its code.
@@ -174,7 +175,7 @@ fn word_kind(part: &[u8], base: usize) -> MemberKind
     requires { ⌜ base + length (now part) ≤ text-limit ⌝ }
     requires { ⌜ whitespace0 base (now part) ≡ ok no-doc base (now part) ⌝ }
     requires { ⌜ keyword (ascii "shared") base (now part) ≡ fail base ⌝ }
-    ensures { λ r. ⌜ KindTo (record { kind = r; floor = base }) base (now (part .entry)) ⌝ }
+    ensures { λ r. ⌜ KindTo (record { kind = r; floor = base; from = base }) base (now (part .entry)) ⌝ }
 {
     if starts_attribute(part, base) {
         return MemberKind::Attribute;
@@ -208,28 +209,32 @@ fn shared_kind(part: &[u8], base: usize, c1: usize) -> Candidate
     ensures { λ r. ⌜ KindTo r base (now (part .entry)) ⌝ }
 {
     let w = whitespace0(rest_at(part, base, c1), c1);
-    let floor = w.next;
-    if floor == c1 {
+    let from = w.next;
+    if from == c1 {
         return Candidate {
             kind: MemberKind::Struct,
             floor: base,
+            from,
         };
     }
-    if starts(rest_at(part, base, floor), floor, b"bitmap") {
+    if starts(rest_at(part, base, from), from, b"bitmap") {
         return Candidate {
             kind: MemberKind::Bitmap,
-            floor,
+            floor: from,
+            from,
         };
     }
-    if starts(rest_at(part, base, floor), floor, b"enum") {
+    if starts(rest_at(part, base, from), from, b"enum") {
         return Candidate {
             kind: MemberKind::Enum,
-            floor,
+            floor: from,
+            from,
         };
     }
     Candidate {
         kind: MemberKind::Struct,
-        floor,
+        floor: from,
+        from,
     }
 }
 
@@ -242,7 +247,11 @@ pub fn member_kind(part: &[u8], base: usize) -> Candidate
     let word = keyword(part, base, b"shared");
     let Step::Next(c1) = word else {
         let kind = word_kind(part, base);
-        return Candidate { kind, floor: base };
+        return Candidate {
+            kind,
+            floor: base,
+            from: base,
+        };
     };
     shared_kind(part, base, c1)
 }
@@ -283,15 +292,17 @@ fn count_revision(part: &[u8], base: usize) -> Count
 }
 
 // The first pass over a member of a kind.
-fn count_member(part: &[u8], base: usize, kind: MemberKind, doc: DocSpan, maturity: u8) -> Count
+fn count_member(part: &[u8], base: usize, k: Candidate, doc: DocSpan, maturity: u8) -> Count
     requires { ⌜ base + length (now part) ≤ text-limit ⌝ }
-    ensures { λ r. ⌜ MemberCountTo (member-try kind (docOf doc) maturity) r base (now (part .entry)) ⌝ }
+    requires { ⌜ MemberFrom (k .kind) (k .from) base (now part) ⌝ }
+    ensures { λ r. ⌜ MemberCountTo (member-try (k .kind) (docOf doc) maturity) r base (now (part .entry)) ⌝ }
 {
+    let kind = k.kind;
     match kind {
         MemberKind::Revision => count_revision(part, base),
-        MemberKind::Bitmap => choice_after_doc_maturity(part, base, b"bitmap"),
-        MemberKind::Enum => choice_after_doc_maturity(part, base, b"enum"),
-        MemberKind::Struct => parse_struct_after_doc_maturity(part, base),
+        MemberKind::Bitmap => choice_after_doc_maturity(part, base, k.from, b"bitmap"),
+        MemberKind::Enum => choice_after_doc_maturity(part, base, k.from, b"enum"),
+        MemberKind::Struct => parse_struct_after_doc_maturity(part, base, k.from),
         MemberKind::Attribute => count_attribute(part, base, doc, maturity),
         MemberKind::Command => count_command(part, base, doc, maturity),
         MemberKind::Event => parse_event_after_doc_maturity(part, base),
@@ -316,8 +327,7 @@ fn member_tries(part: &[u8], base: usize, doc: DocSpan, maturity: u8) -> Count
     ensures { λ r. ⌜ MemberCountTo (member-tries (docOf doc) maturity) r base (now (part .entry)) ⌝ }
 {
     let k = member_kind(part, base);
-    let kind = k.kind;
-    let r = count_member(part, base, kind, doc, maturity);
+    let r = count_member(part, base, k, doc, maturity);
     raise(r, k.floor)
 }
 
@@ -477,11 +487,29 @@ fn kept(w: Wrote, revision: u64) -> MembersWrote
     }
 }
 
-// The second pass over a member of a kind; a revision has no records, and takes the place of the last one.
+// What a revision leaves: it has no records, and takes the place of the last one.
+fn revised(r: Number, base: usize, at: usize, last: u64) -> MembersWrote
+    ensures { λ x. ⌜ x ≡ revisionWrote r base at last ⌝ }
+{
+    match r {
+        Number::Value(revision, next) => MembersWrote {
+            next,
+            to: at,
+            revision,
+        },
+        Number::NoNumber(_) => MembersWrote {
+            next: base,
+            to: at,
+            revision: last,
+        },
+    }
+}
+
+// The second pass over a member of a kind.
 fn write_kind(
     part: &[u8],
     base: usize,
-    kind: MemberKind,
+    k: Candidate,
     doc: DocSpan,
     maturity: u8,
     last: u64,
@@ -489,35 +517,22 @@ fn write_kind(
     at: usize,
 ) -> MembersWrote
     requires { ⌜ base + length (now part) ≤ text-limit ⌝ }
+    requires { ⌜ MemberFrom (k .kind) (k .from) base (now part) ⌝ }
     requires { ⌜ DocFits doc ⌝ }
     requires { ⌜ maturity < 4 ⌝ }
-    requires { ⌜ Room unhoisted (member-try kind (docOf doc) maturity) base (now part) at (length (now out)) ⌝ }
-    ensures { λ r. ⌜ MemberWritten last (member-try kind (docOf doc) maturity) base (now (part .entry)) at r (now (out .entry)) (now (out .exit)) ⌝ }
+    requires { ⌜ Room unhoisted (member-try (k .kind) (docOf doc) maturity) base (now part) at (length (now out)) ⌝ }
+    ensures { λ r. ⌜ MemberWritten last (member-try (k .kind) (docOf doc) maturity) base (now (part .entry)) at r (now (out .entry)) (now (out .exit)) ⌝ }
 {
-    let nothing = MembersWrote {
-        next: base,
-        to: at,
-        revision: last,
-    };
     // Only an enum and a bitmap take their record's kind from it.
     let front = FrontParts {
-        kind: 0,
+        kind: 2,
         place: 0,
         doc,
         maturity,
     };
+    let kind = k.kind;
     match kind {
-        MemberKind::Revision => {
-            let r = parse_revision(part, base);
-            let Number::Value(revision, next) = r else {
-                return nothing;
-            };
-            MembersWrote {
-                next,
-                to: at,
-                revision,
-            }
-        }
+        MemberKind::Revision => revised(parse_revision(part, base), base, at, last),
         MemberKind::Bitmap => {
             let front = FrontParts {
                 kind: 3,
@@ -525,22 +540,26 @@ fn write_kind(
                 doc,
                 maturity,
             };
-            kept(write_choice(part, base, b"bitmap", front, out, at), last)
+            kept(
+                write_choice(part, base, k.from, b"bitmap", front, out, at),
+                last,
+            )
         }
         MemberKind::Enum => {
-            let front = FrontParts {
-                kind: 2,
-                place: 0,
-                doc,
-                maturity,
-            };
-            kept(write_choice(part, base, b"enum", front, out, at), last)
+            kept(
+                write_choice(part, base, k.from, b"enum", front, out, at),
+                last,
+            )
         }
-        MemberKind::Struct => kept(write_struct(part, base, front, out, at), last),
+        MemberKind::Struct => kept(write_struct(part, base, k.from, front, out, at), last),
         MemberKind::Attribute => kept(write_attribute(part, base, front, out, at), last),
         MemberKind::Command => kept(write_command(part, base, front, out, at), last),
         MemberKind::Event => kept(write_event(part, base, front, out, at), last),
-        MemberKind::Unknown => nothing,
+        MemberKind::Unknown => MembersWrote {
+            next: base,
+            to: at,
+            revision: last,
+        },
     }
 }
 
@@ -564,8 +583,7 @@ fn write_member(
     let c2 = w.next;
     let rest = rest_at(part, base, c2);
     let k = member_kind(rest, c2);
-    let kind = k.kind;
-    write_kind(rest, c2, kind, doc, m.level, last, out, at)
+    write_kind(rest, c2, k, doc, m.level, last, out, at)
 }
 
 // The second pass over members and the closing brace behind them.

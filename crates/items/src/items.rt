@@ -11,7 +11,7 @@ ghost use Rattle.items.specs.items.{declaration, item};
 ghost use Rattle.items.specs.answers.{CountTo, DocFits, Room, Written};
 ghost use Rattle.items.specs.answers.items.{unhoisted-item, DeclarationCountTo};
 ghost use Rattle.items.specs.inner.clusters.{found};
-ghost use Rattle.items.specs.inner.items.{cluster-words, typeKind, declaration-try, KindCountTo, StartTo};
+ghost use Rattle.items.specs.inner.items.{cluster-words, typeKind, declaration-try, DeclarationFrom, KindCountTo, StartTo};
 use crate::choices::choice_after_doc_maturity;
 use crate::choices::write_choice;
 use crate::clusters::MemberKind;
@@ -44,12 +44,13 @@ pub enum DeclarationKind {
     Unknown,
 }
 
-// How a declaration starts: the one try that its first word leaves, the furthest place at which the others fail, its maturity, and where the try stands.
+// How a declaration starts: the one try that its first word leaves, the furthest place at which the others fail, its maturity, where the try stands and, behind `shared`, where it goes on.
 pub struct DeclarationStart {
     pub kind: DeclarationKind,
     pub floor: usize,
     pub maturity: u8,
     pub next: usize,
+    pub from: usize,
 }
 
 fn starts_cluster(part: &[u8], base: usize) -> bool
@@ -93,6 +94,7 @@ fn declaration_start(part: &[u8], base: usize) -> DeclarationStart
             floor: base,
             maturity: 0,
             next: base,
+            from: base,
         };
     }
     let m = api_maturity(part, base);
@@ -105,6 +107,7 @@ fn declaration_start(part: &[u8], base: usize) -> DeclarationStart
             floor: c2,
             maturity: m.level,
             next: c2,
+            from: c2,
         };
     }
     let k = member_kind(rest_at(part, base, c2), c2);
@@ -114,20 +117,24 @@ fn declaration_start(part: &[u8], base: usize) -> DeclarationStart
         floor: k.floor,
         maturity: m.level,
         next: c2,
+        from: k.from,
     }
 }
 
 // The first pass over a declaration of a kind.
-fn count_declaration(part: &[u8], base: usize, kind: DeclarationKind) -> Count
-    requires { ⌜ base + length (now part) ≤ text-limit ⌝ }
-    ensures { λ r. ⌜ KindCountTo kind r base (now (part .entry)) ⌝ }
+fn count_declaration(part: &[u8], s: DeclarationStart) -> Count
+    requires { ⌜ s .next + length (now part) ≤ text-limit ⌝ }
+    requires { ⌜ DeclarationFrom (s .kind) (s .from) (s .next) (now part) ⌝ }
+    ensures { λ r. ⌜ KindCountTo (s .kind) r (s .next) (now (part .entry)) ⌝ }
 {
+    let base = s.next;
+    let kind = s.kind;
     match kind {
         DeclarationKind::Cluster => cluster_after_doc_maturity(part, base),
         DeclarationKind::Endpoint => endpoint(part, base),
-        DeclarationKind::Enum => choice_after_doc_maturity(part, base, b"enum"),
-        DeclarationKind::Bitmap => choice_after_doc_maturity(part, base, b"bitmap"),
-        DeclarationKind::Struct => parse_struct_after_doc_maturity(part, base),
+        DeclarationKind::Enum => choice_after_doc_maturity(part, base, s.from, b"enum"),
+        DeclarationKind::Bitmap => choice_after_doc_maturity(part, base, s.from, b"bitmap"),
+        DeclarationKind::Struct => parse_struct_after_doc_maturity(part, base, s.from),
         DeclarationKind::Unknown => Count::NoCount(Lost::Fail(base)),
     }
 }
@@ -139,9 +146,7 @@ pub fn declaration(part: &[u8], base: usize) -> Count
     ensures { λ r. ⌜ DeclarationCountTo r base (now (part .entry)) ⌝ }
 {
     let s = declaration_start(part, base);
-    let c = s.next;
-    let kind = s.kind;
-    let r = count_declaration(rest_at(part, base, c), c, kind);
+    let r = count_declaration(rest_at(part, base, s.next), s);
     raise(r, s.floor)
 }
 
@@ -163,21 +168,17 @@ pub fn item(part: &[u8], base: usize) -> Count
 }
 
 // The second pass over a declaration of a kind. A type at the top is global.
-fn write_kind(
-    part: &[u8],
-    base: usize,
-    kind: DeclarationKind,
-    doc: DocSpan,
-    maturity: u8,
-    out: &mut [u8],
-    at: usize,
-) -> Wrote
-    requires { ⌜ base + length (now part) ≤ text-limit ⌝ }
+fn write_kind(part: &[u8], s: DeclarationStart, doc: DocSpan, out: &mut [u8], at: usize) -> Wrote
+    requires { ⌜ s .next + length (now part) ≤ text-limit ⌝ }
+    requires { ⌜ DeclarationFrom (s .kind) (s .from) (s .next) (now part) ⌝ }
     requires { ⌜ DocFits doc ⌝ }
-    requires { ⌜ maturity < 4 ⌝ }
-    requires { ⌜ Room unhoisted-item (declaration-try kind (docOf doc) maturity) base (now part) at (length (now out)) ⌝ }
-    ensures { λ r. ⌜ Written unhoisted-item (declaration-try kind (docOf doc) maturity) base (now (part .entry)) at r (now (out .entry)) (now (out .exit)) ⌝ }
+    requires { ⌜ s .maturity < 4 ⌝ }
+    requires { ⌜ Room unhoisted-item (declaration-try (s .kind) (docOf doc) (s .maturity)) (s .next) (now part) at (length (now out)) ⌝ }
+    ensures { λ r. ⌜ Written unhoisted-item (declaration-try (s .kind) (docOf doc) (s .maturity)) (s .next) (now (part .entry)) at r (now (out .entry)) (now (out .exit)) ⌝ }
 {
+    let base = s.next;
+    let kind = s.kind;
+    let maturity = s.maturity;
     // Only an enum and a bitmap take their record's kind from it, and a cluster has no place.
     let front = FrontParts {
         kind: 2,
@@ -188,7 +189,7 @@ fn write_kind(
     match kind {
         DeclarationKind::Cluster => write_cluster(part, base, front, out, at),
         DeclarationKind::Endpoint => write_endpoint(part, base, out, at),
-        DeclarationKind::Enum => write_choice(part, base, b"enum", front, out, at),
+        DeclarationKind::Enum => write_choice(part, base, s.from, b"enum", front, out, at),
         DeclarationKind::Bitmap => {
             let front = FrontParts {
                 kind: 3,
@@ -196,9 +197,9 @@ fn write_kind(
                 doc,
                 maturity,
             };
-            write_choice(part, base, b"bitmap", front, out, at)
+            write_choice(part, base, s.from, b"bitmap", front, out, at)
         }
-        DeclarationKind::Struct => write_struct(part, base, front, out, at),
+        DeclarationKind::Struct => write_struct(part, base, s.from, front, out, at),
         DeclarationKind::Unknown => Wrote { next: base, to: at },
     }
 }
@@ -212,7 +213,5 @@ pub fn write_declaration(part: &[u8], base: usize, doc: DocSpan, out: &mut [u8],
     ensures { λ r. ⌜ Written unhoisted-item (declaration (docOf doc)) base (now (part .entry)) at r (now (out .entry)) (now (out .exit)) ⌝ }
 {
     let s = declaration_start(part, base);
-    let c = s.next;
-    let kind = s.kind;
-    write_kind(rest_at(part, base, c), c, kind, doc, s.maturity, out, at)
+    write_kind(rest_at(part, base, s.next), s, doc, out, at)
 }

@@ -1,6 +1,6 @@
 // Optional parts.
 ghost use mathlib.Core.Path.{_≡_};
-ghost use Rattle.items.specs.answers.{optionalStep, isThere};
+ghost use Rattle.items.specs.answers.{optionalStep};
 use lexing::answers::Lost;
 use lexing::answers::Step;
 
@@ -14,15 +14,5 @@ pub fn optional(r: Step, base: usize) -> Step
     match l {
         Lost::Fail(_) => Step::Next(base),
         Lost::Stop(n, p) => Step::Not(Lost::Stop(n, p)),
-    }
-}
-
-// Whether a part is there.
-pub fn is_there(r: Step) -> bool
-    ensures { λ x. ⌜ x ≡ isThere r ⌝ }
-{
-    match r {
-        Step::Next(_) => true,
-        Step::Not(_) => false,
     }
 }

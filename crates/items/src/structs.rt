@@ -11,7 +11,7 @@ ghost use Rattle.items.specs.records.{field-record, struct-records};
 ghost use Rattle.items.specs.structs.{max-length, parse-struct-field, closed-field, fields-run, struct-fields, response-code, parse-struct-after-doc-maturity};
 ghost use Rattle.items.specs.members.{or-else};
 ghost use Rattle.items.specs.answers.{optionOf, CountTo, FrontFits, Room, Written};
-ghost use Rattle.items.specs.answers.structs.{FieldTo, fieldLost, StructFieldBetween, StructFieldTo, structFieldLost, HeadBetween, StructHeadTo, headLost, StructCountTo};
+ghost use Rattle.items.specs.answers.structs.{FieldTo, fieldLost, StructFieldBetween, StructFieldTo, structFieldLost, StructFrom, HeadBetween, StructHeadTo, headLost, StructCountTo};
 ghost use Rattle.items.specs.inner.structs.{optionalLength, lengthLost, MarkerTo, kindBy, StructWordTo, codeReply, responseReply, typeBy, field-parts, kindNumber, responseNumber, struct-first};
 use crate::counts::Count;
 use crate::counts::count_end;
@@ -94,7 +94,7 @@ pub enum StructHeadRead {
     NoHead(Lost),
 }
 
-// The kind that the word before a struct says, and the offset behind it.
+// The kind that the word before a struct says, and the offset behind it and its blanks.
 struct StructWord {
     kind: StructKind,
     next: usize,
@@ -336,29 +336,31 @@ fn kind_by(part: &[u8], n: usize, kind: StructKind) -> StructKind
     StructKind::Regular
 }
 
-// The word before a struct, which may be absent.
-fn struct_word(part: &[u8], base: usize) -> StructWord
+// The word before a struct, which may be absent, and its blanks; those of `shared` the caller has read.
+fn struct_word(part: &[u8], base: usize, from: usize) -> StructWord
     requires { ⌜ base + length (now part) ≤ text-limit ⌝ }
+    requires { ⌜ StructFrom from base (now part) ⌝ }
     ensures { λ r. ⌜ StructWordTo r base (now (part .entry)) ⌝ }
 {
+    if base < from {
+        let kind = kind_by(part, 6, StructKind::Shared);
+        return StructWord { kind, next: from };
+    }
     let request = keyword(part, base, b"request");
     if let Step::Next(c) = request {
         let kind = kind_by(part, c - base, StructKind::Request);
-        return StructWord { kind, next: c };
+        let next = blank_at(part, base, c);
+        return StructWord { kind, next };
     }
     let response = keyword(part, base, b"response");
     if let Step::Next(c) = response {
         let kind = kind_by(part, c - base, StructKind::Response);
-        return StructWord { kind, next: c };
-    }
-    let shared = keyword(part, base, b"shared");
-    if let Step::Next(c) = shared {
-        let kind = kind_by(part, c - base, StructKind::Shared);
-        return StructWord { kind, next: c };
+        let next = blank_at(part, base, c);
+        return StructWord { kind, next };
     }
     StructWord {
         kind: StructKind::Regular,
-        next: base,
+        next: blank_at(part, base, base),
     }
 }
 
@@ -392,42 +394,42 @@ fn struct_code(part: &[u8], base: usize, kind: StructKind) -> Number
 }
 
 // A struct up to its fields.
-pub fn struct_head(part: &[u8], base: usize) -> StructHeadRead
+pub fn struct_head(part: &[u8], base: usize, from: usize) -> StructHeadRead
     requires { ⌜ base + length (now part) ≤ text-limit ⌝ }
+    requires { ⌜ StructFrom from base (now part) ⌝ }
     ensures { λ r. ⌜ StructHeadTo r base (now (part .entry)) ⌝ }
 {
-    let word = struct_word(part, base);
+    let word = struct_word(part, base, from);
     let kind = word.kind;
-    let c1 = word.next;
-    let c2 = blank_at(part, base, c1);
-    let set = keywords_set(rest_at(part, base, c2), c2, 1);
-    let c3 = set.next;
-    let key = keyword_behind(part, base, c3, b"struct");
-    let Step::Next(c4) = key else {
+    let start = word.next;
+    let set = keywords_set(rest_at(part, base, start), start, 1);
+    let c1 = set.next;
+    let key = keyword_behind(part, base, c1, b"struct");
+    let Step::Next(c2) = key else {
         return StructHeadRead::NoHead(step_lost(key));
     };
-    let gap = gap_at(part, base, c4);
-    let Step::Next(c5) = gap else {
+    let gap = gap_at(part, base, c2);
+    let Step::Next(c3) = gap else {
         return StructHeadRead::NoHead(step_lost(gap));
     };
-    let name = parse_id(rest_at(part, base, c5), c5);
-    let Step::Next(c6) = name else {
+    let name = parse_id(rest_at(part, base, c3), c3);
+    let Step::Next(c4) = name else {
         return StructHeadRead::NoHead(step_lost(name));
     };
-    let c7 = blank_at(part, base, c6);
-    let number = struct_code(rest_at(part, base, c7), c7, kind);
-    let Number::Value(code, c8) = number else {
+    let c5 = blank_at(part, base, c4);
+    let number = struct_code(rest_at(part, base, c5), c5, kind);
+    let Number::Value(code, c6) = number else {
         return StructHeadRead::NoHead(number_lost(number));
     };
     StructHeadRead::Head(
         StructHeadParts {
             kind,
             scoped: set.flags,
-            name: c5,
-            end: c6,
+            name: c3,
+            end: c4,
             code,
         },
-        c8,
+        c6,
     )
 }
 
@@ -441,11 +443,12 @@ pub fn head_lost(r: StructHeadRead) -> Lost
 }
 
 // The first pass over a struct: three words, and those of its fields.
-pub fn parse_struct_after_doc_maturity(part: &[u8], base: usize) -> Count
+pub fn parse_struct_after_doc_maturity(part: &[u8], base: usize, from: usize) -> Count
     requires { ⌜ base + length (now part) ≤ text-limit ⌝ }
+    requires { ⌜ StructFrom from base (now part) ⌝ }
     ensures { λ r. ⌜ StructCountTo r base (now (part .entry)) ⌝ }
 {
-    let head = struct_head(part, base);
+    let head = struct_head(part, base, from);
     let StructHeadRead::Head(_, c1) = head else {
         return Count::NoCount(head_lost(head));
     };
@@ -583,13 +586,21 @@ fn put_struct(out: &mut [u8], at: usize, front: FrontParts, head: StructHeadPart
 }
 
 // The second pass over a struct.
-pub fn write_struct(part: &[u8], base: usize, front: FrontParts, out: &mut [u8], at: usize) -> Wrote
+pub fn write_struct(
+    part: &[u8],
+    base: usize,
+    from: usize,
+    front: FrontParts,
+    out: &mut [u8],
+    at: usize,
+) -> Wrote
     requires { ⌜ base + length (now part) ≤ text-limit ⌝ }
+    requires { ⌜ StructFrom from base (now part) ⌝ }
     requires { ⌜ FrontFits front ⌝ }
     requires { ⌜ Room (struct-records (front .place)) (parse-struct-after-doc-maturity (docOf (front .doc)) (front .maturity)) base (now part) at (length (now out)) ⌝ }
     ensures { λ r. ⌜ Written (struct-records (front .place)) (parse-struct-after-doc-maturity (docOf (front .doc)) (front .maturity)) base (now (part .entry)) at r (now (out .entry)) (now (out .exit)) ⌝ }
 {
-    let head = struct_head(part, base);
+    let head = struct_head(part, base, from);
     let StructHeadRead::Head(h, c) = head else {
         return Wrote { next: base, to: at };
     };

@@ -1,58 +1,47 @@
 -- Enums and bitmaps.
-use mathlib.Core.Path.{_≡_, refl, sym, _∙_, subst}
+use mathlib.Core.Path.{_≡_, refl, subst}
 use mathlib.Core.Bool.{Bool}
 use mathlib.Core.Option.{Option}
 use mathlib.Core.List.{List, [], _∷_, map}
 use Prim.Native.Nat.{ℕ, _+_, _-_, _*_, _≤_, _<_}
 use native.Mathlib.Omega.{arith}
+use lib.Dec.{ltb}
 use lib.ListN.{length, drop}
 use Rattle.lexing.specs.reply.{ok, opt}
 use Rattle.lexing.specs.words.{Word, parse-id}
 use Rattle.lexing.specs.word_sets.{bit}
-use Rattle.lexing.specs.answers.{Rest, lostReply, lostOf}
-use Rattle.lexing.specs.declared.answers.Lost.{Lost}
-use Rattle.lexing.specs.declared.answers.Step.{Step}
-use Rattle.lexing.specs.declared.answers.Step.the-variants.{Next, Not}
 use Rattle.lexing.proofs.Onward.{Onward, parse-id-advances}
 use Rattle.lexing.proofs.Locality.{chain-opt}
-use Rattle.lexing.proofs.Slicing.{Took, walks}
+use Rattle.lexing.proofs.Slicing.{Took, walks, rest-self}
 use Rattle.items.specs.entries.{present, Entry, shared-before, choice-head, constant-entries-list, choice-after-doc-maturity}
 use Rattle.items.specs.records.{at, spanned, flag, each, word-extent, documented, entry-record, choice-records}
 use Rattle.items.specs.layout.{packed, width, from-top, offset, size, layout-20, further-word, record-words, big-endian, words-bytes, catalogue-words, catalogue-bytes, word-count, text-limit}
 use Rattle.items.specs.buffers.{put}
-use Rattle.items.specs.answers.{Skips, optionalStep, isThere, wordBetween, Front, first-of, spanWord, docWord, docBit, frontOf}
+use Rattle.items.specs.answers.{wordBetween, Front, first-of, spanWord, docWord, docBit, frontOf}
 use Rattle.items.specs.inner.choices.{choice-first}
 use Rattle.items.specs.declared.writing.FrontParts.{FrontParts}
-use Rattle.items.specs.answers.choices.{choiceHeadAt, ChoiceHeadBetween, ChoiceHeadTo}
+use Rattle.items.specs.answers.choices.{ChoiceFrom, choiceHeadAt, ChoiceHeadBetween, ChoiceHeadTo}
 use Rattle.items.specs.declared.choices.ChoiceHeadParts.{ChoiceHeadParts}
 use Rattle.items.specs.declared.choices.ChoiceHeadRead.the-variants.{ChoiceHead}
 use Rattle.items.proofs.Answers.{read-is}
 use Rattle.items.proofs.Headed.{Headed}
 use Rattle.items.proofs.WordBetween.{extent-between}
 use Rattle.items.proofs.writing.Laws.{documented-put}
-use Rattle.items.proofs.Locality.{shared-before-local, choice-head-local, constant-entries-list-local}
-use Rattle.items.proofs.optional.Laws.{optional-skips, optional-present, skip-took, skip-lost}
+use Rattle.items.proofs.Locality.{shared-before-local, shared-before-consumes, choice-head-local, constant-entries-list-local}
+use Rattle.items.proofs.optional.Laws.{opt-present, skip-took}
 
 -- `shared`, which may be missing
-pub record Shared (b : ℕ) (u : List ℕ) (n c : ℕ) (x : Bool) : Type 0 where
+pub record Shared (b : ℕ) (u : List ℕ) (f : ℕ) : Type 0 where
   pub value : Option Word
-  pub is : present value ≡ x
-  pub step : Took (opt shared-before) b u n value c
+  pub is : present value ≡ ltb b f
+  pub step : Took (opt shared-before) b u b value f
 
-module _ {s o : Step} {n : ℕ} {r : List ℕ} (h : Skips shared-before s n r) (e : o ≡ optionalStep s n) where
-  skips : Skips (opt shared-before) o n r
-  skips = subst (λ (x : Step). Skips (opt shared-before) x n r) (sym e) (optional-skips s n r h)
-
-  pub shared-took : {b c : ℕ} {u : List ℕ} {x : Bool} → x ≡ isThere s → Rest b u n r → o ≡ Next c → Shared b u n c x
-  shared-took {b} {c} {u} {x} i q d =
-      record {
-        value = optional-skips s n r h .value;
-        is = optional-present s n r h ∙ sym i;
-        step = skip-took (walks (chain-opt (shared-before-local .on-chain))) q (sym e ∙ d) (optional-skips s n r h);
-      }
-
-  pub shared-lost : {l l' : Lost} → l' ≡ lostOf o → o ≡ Not l → lostReply l' ≡ opt shared-before n r
-  shared-lost d z = skip-lost d z n r skips
+pub shared-took : {b f : ℕ} {u : List ℕ} → ChoiceFrom f b u → Shared b u f
+shared-took {b} {f} {u} h = record {
+  value = h .value;
+  is = opt-present (walks (shared-before-local .on-chain)) shared-before-consumes b u (h .reads);
+  step = skip-took (walks (chain-opt (shared-before-local .on-chain))) (rest-self b u) refl h;
+}
 
 -- a word reads a byte or more
 pub name-more : {b n : ℕ} {u : List ℕ} {a : Word} {c : ℕ} → Took parse-id b u n a c → n < c

@@ -2,6 +2,7 @@
 use mathlib.Core.Path.{_≡_, refl, sym, ap, _∙_, subst}
 use mathlib.Core.Logic.{inl, inr}
 use mathlib.Core.Bool.{Bool, true, false, cond, _&&_, _||_, true≢false, false≢true}
+use mathlib.Core.Option.{none, some}
 use mathlib.Core.List.{List, [], _∷_}
 use Prim.Native.Nat.{ℕ, zero, suc, _+_, _-_, _*_, _≤_, _<_, max}
 use native.Mathlib.Omega.{arith}
@@ -18,7 +19,7 @@ use Rattle.lexing.specs.declared.answers.Lost.{Lost}
 use Rattle.lexing.specs.declared.answers.Lost.the-variants.{Fail, Stop}
 use Rattle.lexing.specs.declared.answers.Step.{Step}
 use Rattle.lexing.specs.declared.answers.Step.the-variants.{Next, Not}
-use Rattle.lexing.proofs.Slicing.{Took, walks, told-next, told-not, blank-took, or-here, or-next}
+use Rattle.lexing.proofs.Slicing.{Took, walks, told-next, told-not, blank-took, or-here}
 use Rattle.lexing.proofs.Onward.{Onward}
 use Rattle.lexing.proofs.Locality.{chain-many0}
 use Rattle.lexing.proofs.blanks.Laws.{gap-none, gap-some}
@@ -32,8 +33,8 @@ use Rattle.items.specs.clusters.{revision, bitmap, enum, struct, attribu
 use Rattle.items.specs.records.{Record, each, attribute-records, member-records}
 use Rattle.items.specs.layout.{word-count}
 use Rattle.items.specs.answers.{CountTo, countLost, countEnd}
-use Rattle.items.specs.answers.choices.{ChoiceCountTo}
-use Rattle.items.specs.answers.structs.{StructCountTo}
+use Rattle.items.specs.answers.choices.{ChoiceFrom, ChoiceCountTo}
+use Rattle.items.specs.answers.structs.{StructFrom, behind-shared, not-shared, StructCountTo}
 use Rattle.items.specs.answers.members.{command-records, EventCountTo}
 use Rattle.items.specs.answers.clusters.{RevisionTo, MemberCountTo, MembersCountTo}
 use Rattle.items.specs.declared.counts.Count.{Count}
@@ -42,14 +43,15 @@ use Rattle.lexing.specs.declared.integers.Number.{Number}
 use Rattle.lexing.specs.declared.integers.Number.the-variants.{Value}
 use Rattle.items.specs.declared.counts.Count.the-variants.{Words, NoCount}
 use Rattle.items.specs.inner.endpoints.{furtherLost}
-use Rattle.items.specs.inner.clusters.{countRaised, revision-words, bitmap-words, enum-words, struct-words, attribute-words, command-words, event-words, found, member-try, same-kind, kind-number, fails-at, KindTo}
+use Rattle.items.specs.inner.clusters.{countRaised, revision-words, bitmap-words, enum-words, struct-words, attribute-words, command-words, event-words, found, member-try, same-kind, kind-number, fails-at, MemberFrom, KindTo}
 use Rattle.items.specs.declared.clusters.MemberKind.{MemberKind}
 use Rattle.items.specs.declared.clusters.MemberKind.the-variants.{Revision, Bitmap, Enum, Struct, Attribute, Command, Event, Unknown}
 use Rattle.items.proofs.RecordWords.{word-count-none, each-elementwise}
 use Rattle.items.proofs.counts.Laws.{Counting, counting-start, counting-more, counting-ends, count-took, count-none, read-counted, count-is, count-not, count-lost, count-mapped, count-value}
 use Rattle.items.proofs.Locality.{parse-revision-consumes as revision-consumes, member-tries-inside, parse-cluster-member-inside, parse-cluster-member-consumes}
 use Rattle.items.proofs.Choice.{or-fail, End, kept, lost, ends, Tries, more, last, keeps, left, Within, Reaches, choice}
-use Rattle.items.proofs.Tries.{bind-ok, bind-fail, then-ok, then-fail, opt-none, opt-some, mapped-fail, revision-elsewhere, choice-elsewhere, struct-elsewhere, attribute-elsewhere, command-elsewhere, event-elsewhere}
+use Rattle.items.proofs.steps.Laws.{blank-is}
+use Rattle.items.proofs.Tries.{bind-ok, bind-fail, then-ok, then-fail, opt-none, opt-some, mapped-fail, starts-shared, shared-any, revision-elsewhere, choice-elsewhere, struct-elsewhere, attribute-elsewhere, command-elsewhere, event-elsewhere}
 
 -- a keyword is there or fails at its start
 pub data Stands (k : List ℕ) (b : ℕ) (u : List ℕ) : Type 0 where
@@ -194,18 +196,18 @@ every t e k = rw (kind-numbered k) at (all-at t kinds e (kind-number k))
 one-kind : (j k : MemberKind) → same-kind j k ≡ true → j ≡ k
 one-kind j k e = sym (kind-numbered j) ∙ (ap (kind-at kinds) (eqb-true (kind-number j) (kind-number k) e) ∙ kind-numbered k)
 
--- how the tries of all kinds end
-abbrev pub kind-ends : Candidate → ℕ → MemberKind → End
-kind-ends r b k = cond (same-kind k (r .kind)) kept (lost (fails-at (r .floor) b k))
+-- how the tries of all kinds end, where j is left and the others fail no further than at q
+abbrev pub kind-ends : MemberKind → (q b : ℕ) → MemberKind → End
+kind-ends j q b k = cond (same-kind k j) kept (lost (fails-at q b k))
 
-pub kind-tried : {A : Type 0} (t : MemberKind → Reply A) (r : Candidate) (b : ℕ) → ((k : MemberKind) → same-kind k (r .kind) ≡ false → t k ≡ fail (fails-at (r .floor) b k)) → (k : MemberKind) → t k ≡ ends (t (r .kind)) (kind-ends r b k)
-kind-tried t r b h k = go (same-kind k (r .kind)) refl
+pub kind-tried : {A : Type 0} (t : MemberKind → Reply A) (j : MemberKind) (q b : ℕ) → ((k : MemberKind) → same-kind k j ≡ false → t k ≡ fail (fails-at q b k)) → (k : MemberKind) → t k ≡ ends (t j) (kind-ends j q b k)
+kind-tried t j q b h k = go (same-kind k j) refl
   where
-    go : (x : Bool) → same-kind k (r .kind) ≡ x → t k ≡ ends (t (r .kind)) (cond x kept (lost (fails-at (r .floor) b k)))
-    go true e = ap t (one-kind k (r .kind) e)
+    go : (x : Bool) → same-kind k j ≡ x → t k ≡ ends (t j) (cond x kept (lost (fails-at q b k)))
+    go true e = ap t (one-kind k j e)
     go false e = h k e
 
-pub kind-within : {r : Candidate} {b : ℕ} {u : List ℕ} → KindTo r b u → (k : MemberKind) → Within (r .floor) (kind-ends r b k)
+pub kind-within : {r : Candidate} {b : ℕ} {u : List ℕ} → KindTo r b u → (k : MemberKind) → Within (r .floor) (kind-ends (r .kind) (r .floor) b k)
 kind-within {r} {b} h k = go (same-kind k (r .kind))
   where
     low : (k : MemberKind) → fails-at (r .floor) b k ≤ r .floor
@@ -223,11 +225,11 @@ kind-within {r} {b} h k = go (same-kind k (r .kind))
     go false = low k
 
 -- the tries of a member leave that of its kind
-abbrev member-ends : Candidate → ℕ → List End
-member-ends r b = kind-ends r b Revision ∷ kind-ends r b Bitmap ∷ kind-ends r b Enum ∷ kind-ends r b Struct ∷ kind-ends r b Attribute ∷ kind-ends r b Command ∷ kind-ends r b Event ∷ []
+abbrev member-ends : MemberKind → (q b : ℕ) → List End
+member-ends j q b = kind-ends j q b Revision ∷ kind-ends j q b Bitmap ∷ kind-ends j q b Enum ∷ kind-ends j q b Struct ∷ kind-ends j q b Attribute ∷ kind-ends j q b Command ∷ kind-ends j q b Event ∷ []
 
 -- a type's try is among those that fail
-member-reaches : (k : MemberKind) (q b : ℕ) → Reaches q (member-ends (record { kind = k; floor = q }) b)
+member-reaches : (k : MemberKind) (q b : ℕ) → Reaches q (member-ends k q b)
 member-reaches Revision q b = inl refl
 member-reaches Bitmap q b = inr (inl refl)
 member-reaches Enum q b = inr (inl refl)
@@ -237,7 +239,7 @@ member-reaches Command q b = inr (inl refl)
 member-reaches Event q b = inr (inl refl)
 member-reaches Unknown q b = inr (inl refl)
 
-member-keeps : (k : MemberKind) (q b : ℕ) → b ≤ q → (d : Doc) (m : ℕ) (u : List ℕ) → left (keeps (member-ends (record { kind = k; floor = q }) b)) q (member-try k d m b u) ≡ further q (member-try k d m b u)
+member-keeps : (k : MemberKind) (q b : ℕ) → b ≤ q → (d : Doc) (m : ℕ) (u : List ℕ) → left (keeps (member-ends k q b)) q (member-try k d m b u) ≡ further q (member-try k d m b u)
 unfolding member-try further
 member-keeps Revision q b h d m u = refl
 member-keeps Bitmap q b h d m u = refl
@@ -253,16 +255,20 @@ unfolding member-tries member-try
 member-left {r} {b} {u} h d m =
     choice (r .floor) tries (w Revision, (w Bitmap, (w Enum, (w Struct, (w Attribute, (w Command, (w Event, tt))))))) (member-reaches (r .kind) (r .floor) b) ∙ member-keeps (r .kind) (r .floor) b (h .up) d m u
   where
-    w : (k : MemberKind) → Within (r .floor) (kind-ends r b k)
+    w : (k : MemberKind) → Within (r .floor) (kind-ends (r .kind) (r .floor) b k)
     w k = kind-within h k
 
-    t : (k : MemberKind) → member-try k d m b u ≡ ends (member-try (r .kind) d m b u) (kind-ends r b k)
-    t k = kind-tried (λ k. member-try k d m b u) r b (λ k e. h .others k e d m) k
+    t : (k : MemberKind) → member-try k d m b u ≡ ends (member-try (r .kind) d m b u) (kind-ends (r .kind) (r .floor) b k)
+    t k = kind-tried (λ k. member-try k d m b u) (r .kind) (r .floor) b (λ k e. h .others k e d m) k
 
-    tries : Tries b u (member-try (r .kind) d m b u) (member-tries d m) (member-ends r b)
+    tries : Tries b u (member-try (r .kind) d m b u) (member-tries d m) (member-ends (r .kind) (r .floor) b)
     tries = more _ (t Revision) (more _ (t Bitmap) (more _ (t Enum) (more _ (t Struct) (more _ (t Attribute) (more _ (t Command) (last (t Event)))))))
 
 -- enums and bitmaps, where `shared` is not before them
+choice-unshared : (b : ℕ) (u : List ℕ) → keyword (ascii "shared") b u ≡ fail b → ChoiceFrom b b u
+unfolding shared-before
+choice-unshared b u s = let z : b - b ≡ 0 = omega arith in record { value = none; reads = rw z (sym (opt-none _ (bind-fail _ _ s))) }
+
 choice-not-shared : (b : ℕ) (u : List ℕ) (d : Doc) (m : ℕ) {p : ℕ} → shared-before b u ≡ fail p → (j : List ℕ) → keyword j b u ≡ fail b → choice-after-doc-maturity j d m b u ≡ fail b
 unfolding choice-after-doc-maturity choice-head
 choice-not-shared b u d m e j f = bind-fail _ _ (bind-ok _ _ (opt-none _ e) ∙ then-fail _ _ f)
@@ -280,16 +286,12 @@ shared-followed : (b : ℕ) (u : List ℕ) {w : Word} {c c₂ : ℕ} {r r₂ : L
 unfolding shared-before ret
 shared-followed b u k g = bind-ok _ _ k ∙ then-ok _ _ g
 
-any-third : (i j k : List ℕ) (b : ℕ) (u : List ℕ) {w : Word} {c : ℕ} {r : List ℕ} → Frees b u (i ∷ j ∷ []) → keyword k b u ≡ ok w c r → any-keyword (i ∷ j ∷ k ∷ []) b u ≡ ok w c r
-unfolding any-keyword
-any-third i j k b u {w} {c} {r} f e = sym (or-next _ _ b u b w c r (sym (f .0)) (or-next _ _ b u b w c r (sym (f .1 .0)) (or-here _ _ b u w c r (sym e))))
-
 -- a struct behind `shared` and blanks
-struct-shared : (b : ℕ) (u : List ℕ) (d : Doc) (m : ℕ) → Frees b u (ascii "request" ∷ ascii "response" ∷ []) → {w : Word} {c c₂ : ℕ} {r r₂ : List ℕ} {e : Doc} → keyword (ascii "shared") b u ≡ ok w c r → whitespace0 c r ≡ ok e c₂ r₂
+struct-shared : (b : ℕ) (u : List ℕ) (d : Doc) (m : ℕ) {w : Word} {c c₂ : ℕ} {r r₂ : List ℕ} {e : Doc} → keyword (ascii "shared") b u ≡ ok w c r → whitespace0 c r ≡ ok e c₂ r₂
     → whitespace0 c₂ r₂ ≡ ok no-doc c₂ r₂ → Frees c₂ r₂ (ascii "fabric_scoped" ∷ ascii "struct" ∷ []) → member-try Struct d m b u ≡ fail c₂
 unfolding member-try parse-struct-after-doc-maturity struct-head set-of sets
-struct-shared b u d m q {w} {c} {c₂} {r} {r₂} k g clear f =
-    mapped-fail _ _ (bind-fail _ _ (bind-ok _ _ (opt-some _ (any-third _ _ _ b u q k)) ∙ (then-ok _ _ g ∙ (bind-ok _ _ (free-set c₂ r₂ 1 (f .0, tt)) ∙ (then-ok _ _ clear ∙ then-fail _ _ (f .1 .0))))))
+struct-shared b u d m {w} {c} {c₂} {r} {r₂} k g clear f =
+    mapped-fail _ _ (bind-fail _ _ (bind-ok _ _ (opt-some _ (shared-any b u k)) ∙ (then-ok _ _ g ∙ (bind-ok _ _ (free-set c₂ r₂ 1 (f .0, tt)) ∙ (then-ok _ _ clear ∙ then-fail _ _ (f .1 .0))))))
 
 as-bitmap : (b : ℕ) (u : List ℕ) (d : Doc) (m : ℕ) {p : ℕ} → choice-after-doc-maturity (ascii "bitmap") d m b u ≡ fail p → member-try Bitmap d m b u ≡ fail p
 unfolding member-try parse-bitmap-after-doc-maturity
@@ -309,6 +311,20 @@ pub record OtherWord (b : ℕ) (u : List ℕ) : Type 0 where
   pub command : found (any-keyword command-words b u) ≡ false
   pub event : found (any-keyword event-words b u) ≡ false
 
+-- where `shared` does not stand, every try goes on at its start
+from-start : (b : ℕ) (u : List ℕ) → keyword (ascii "shared") b u ≡ fail b → (j : MemberKind) → MemberFrom j b b u
+from-start b u s Revision = tt
+from-start b u s Bitmap = choice-unshared b u s
+from-start b u s Enum = choice-unshared b u s
+from-start b u s Struct = not-shared refl s
+from-start b u s Attribute = tt
+from-start b u s Command = tt
+from-start b u s Event = tt
+from-start b u s Unknown = tt
+
+pub from-kind : {j k : MemberKind} (f b : ℕ) (u : List ℕ) → j ≡ k → MemberFrom j f b u → MemberFrom k f b u
+from-kind f b u e h = subst (λ (x : MemberKind). MemberFrom x f b u) e h
+
 -- the first word leaves the try of its kind
 module _ (b : ℕ) (u : List ℕ) (clear : whitespace0 b u ≡ ok no-doc b u) where
   at-start : (k : MemberKind) → fails-at b b k ≡ b
@@ -321,16 +337,16 @@ module _ (b : ℕ) (u : List ℕ) (clear : whitespace0 b u ≡ ok no-doc b u) wh
   at-start Event = refl
   at-start Unknown = refl
 
-  at-free : (j : MemberKind) → ((k : MemberKind) → same-kind k j ≡ false → Frees b u (first-words k)) → KindTo (record { kind = j; floor = b }) b u
-  at-free j f = record { up = omega arith; others = λ k e d m. kind-elsewhere b u clear k d m (f k e) ∙ ap fail (sym (at-start k)) }
+  at-free : (j : MemberKind) → ((k : MemberKind) → same-kind k j ≡ false → Frees b u (first-words k)) → keyword (ascii "shared") b u ≡ fail b → KindTo (record { kind = j; floor = b; from = b }) b u
+  at-free j f s = record { up = omega arith; others = λ k e d m. kind-elsewhere b u clear k d m (f k e) ∙ ap fail (sym (at-start k)); goes = from-start b u s j }
 
   -- one of some words, which no other kind starts with
-  pub at-word : (j : MemberKind) (ks : List (List ℕ)) → all-of (λ k. same-kind k j || disjoint ks (first-words k)) kinds ≡ true → StartsAny ks u → KindTo (record { kind = j; floor = b }) b u
-  at-word j ks t s = at-free j λ k e. starts-free s b (first-words k) (rw e at (every (λ k. same-kind k j || disjoint ks (first-words k)) t k))
+  pub at-word : (j : MemberKind) (ks : List (List ℕ)) → all-of (λ k. same-kind k j || disjoint ks (first-words k)) kinds ≡ true → StartsAny ks u → keyword (ascii "shared") b u ≡ fail b → KindTo (record { kind = j; floor = b; from = b }) b u
+  at-word j ks t s = at-free j (λ k e. starts-free s b (first-words k) (rw e at (every (λ k. same-kind k j || disjoint ks (first-words k)) t k)))
 
   -- none of the words, and not `shared`
-  pub at-other : OtherWord b u → keyword (ascii "shared") b u ≡ fail b → KindTo (record { kind = Unknown; floor = b }) b u
-  at-other o s = at-free Unknown (λ k e. free k)
+  pub at-other : OtherWord b u → keyword (ascii "shared") b u ≡ fail b → KindTo (record { kind = Unknown; floor = b; from = b }) b u
+  at-other o s = at-free Unknown (λ k e. free k) s
     where
       free : (k : MemberKind) → Frees b u (first-words k)
       free Revision = frees-all revision-words b u (o .revision)
@@ -344,17 +360,17 @@ module _ (b : ℕ) (u : List ℕ) (clear : whitespace0 b u ≡ ok no-doc b u) wh
 
   -- `shared`, and what follows it
   module _ {w : Word} {c : ℕ} {r : List ℕ} (k : keyword (ascii "shared") b u ≡ ok w c r) where
-    starts-shared : StartsAny (ascii "shared" ∷ []) u
-    starts-shared = record { first = ascii "shared"; among = inl refl; starts = starts-of (ascii "shared") b u w c r k }
+    other-words : (js : List (List ℕ)) → disjoint (ascii "shared" ∷ []) js ≡ true → Frees b u js
+    other-words js e = starts-free (starts-shared b u k) b js e
 
     -- of the types all but one fail at q
-    at-type : (j : MemberKind) (q : ℕ) → b ≤ q → ((d : Doc) (m : ℕ) → same-kind Bitmap j ≡ false → member-try Bitmap d m b u ≡ fail q) → ((d : Doc) (m : ℕ) → same-kind Enum j ≡ false → member-try Enum d m b u ≡ fail q)
-        → ((d : Doc) (m : ℕ) → same-kind Struct j ≡ false → member-try Struct d m b u ≡ fail q) → KindTo (record { kind = j; floor = q }) b u
+    at-type : (j : MemberKind) {f : ℕ} → MemberFrom j f b u → (q : ℕ) → b ≤ q → ((d : Doc) (m : ℕ) → same-kind Bitmap j ≡ false → member-try Bitmap d m b u ≡ fail q) → ((d : Doc) (m : ℕ) → same-kind Enum j ≡ false → member-try Enum d m b u ≡ fail q)
+        → ((d : Doc) (m : ℕ) → same-kind Struct j ≡ false → member-try Struct d m b u ≡ fail q) → KindTo (record { kind = j; floor = q; from = f }) b u
     unfolding same-bytes
-    at-type j q h x y z = record { up = h; others = other }
+    at-type j g q h x y z = record { up = h; others = other; goes = g }
       where
         free : (k : MemberKind) → disjoint (ascii "shared" ∷ []) (first-words k) ≡ true → (d : Doc) (m : ℕ) → member-try k d m b u ≡ fail b
-        free k e d m = kind-elsewhere b u clear k d m (starts-free starts-shared b (first-words k) e)
+        free k e d m = kind-elsewhere b u clear k d m (other-words (first-words k) e)
 
         other : (k : MemberKind) → same-kind k j ≡ false → (d : Doc) (m : ℕ) → member-try k d m b u ≡ fail (fails-at q b k)
         other Revision e d m = free Revision refl d m
@@ -367,12 +383,12 @@ module _ (b : ℕ) (u : List ℕ) (clear : whitespace0 b u ≡ ok no-doc b u) wh
         other Unknown e d m = free Unknown refl d m
 
     -- no blank follows: it can only be a struct's
-    pub at-shared : whitespace1 c r ≡ fail c → KindTo (record { kind = Struct; floor = b }) b u
+    pub at-shared : {f : ℕ} → StructFrom f b u → whitespace1 c r ≡ fail c → KindTo (record { kind = Struct; floor = b; from = f }) b u
     unfolding same-bytes
-    at-shared e = at-type Struct b (omega arith) (λ d m z. as-bitmap b u d m (n d m (ascii "bitmap") refl)) (λ d m z. as-enum b u d m (n d m (ascii "enum") refl)) (λ d m z. absurd (true≢false z))
+    at-shared g e = at-type Struct g b (omega arith) (λ d m z. as-bitmap b u d m (n d m (ascii "bitmap") refl)) (λ d m z. as-enum b u d m (n d m (ascii "enum") refl)) (λ d m z. absurd (true≢false z))
       where
         n : (d : Doc) (m : ℕ) (j : List ℕ) → disjoint (ascii "shared" ∷ []) (j ∷ []) ≡ true → choice-after-doc-maturity j d m b u ≡ fail b
-        n d m j t = choice-not-shared b u d m (shared-unfollowed b u k e) j (starts-free starts-shared b (j ∷ []) t .0)
+        n d m j t = choice-not-shared b u d m (shared-unfollowed b u k e) j (other-words (j ∷ []) t .0)
 
     -- a blank follows, up to c₂: the word behind it decides
     module _ {e : Doc} {c₂ : ℕ} {r₂ : List ℕ} (g : whitespace1 c r ≡ ok e c₂ r₂) (g₀ : whitespace0 c r ≡ ok e c₂ r₂) (h : b ≤ c₂) where
@@ -383,19 +399,18 @@ module _ (b : ℕ) (u : List ℕ) (clear : whitespace0 b u ≡ ok no-doc b u) wh
       no-enum f d m = as-enum b u d m (choice-shared b u d m (shared-followed b u k g) (ascii "enum") (f .0))
 
       no-struct : Frees c₂ r₂ (ascii "fabric_scoped" ∷ ascii "struct" ∷ []) → (d : Doc) (m : ℕ) → member-try Struct d m b u ≡ fail c₂
-      unfolding same-bytes
-      no-struct f d m = struct-shared b u d m (starts-free starts-shared b (ascii "request" ∷ ascii "response" ∷ []) refl) k g₀ (blank-clear c r e c₂ r₂ g₀) f
+      no-struct f d m = struct-shared b u d m k g₀ (blank-clear c r e c₂ r₂ g₀) f
 
-      pub at-shared-bitmap : StartsAny (ascii "bitmap" ∷ []) r₂ → KindTo (record { kind = Bitmap; floor = c₂ }) b u
+      pub at-shared-bitmap : ChoiceFrom c₂ b u → StartsAny (ascii "bitmap" ∷ []) r₂ → KindTo (record { kind = Bitmap; floor = c₂; from = c₂ }) b u
       unfolding same-bytes
-      at-shared-bitmap s = at-type Bitmap c₂ h (λ d m z. absurd (true≢false z)) (λ d m z. no-enum (starts-free s c₂ (ascii "enum" ∷ []) refl) d m) (λ d m z. no-struct (starts-free s c₂ (ascii "fabric_scoped" ∷ ascii "struct" ∷ []) refl) d m)
+      at-shared-bitmap v s = at-type Bitmap v c₂ h (λ d m z. absurd (true≢false z)) (λ d m z. no-enum (starts-free s c₂ (ascii "enum" ∷ []) refl) d m) (λ d m z. no-struct (starts-free s c₂ (ascii "fabric_scoped" ∷ ascii "struct" ∷ []) refl) d m)
 
-      pub at-shared-enum : StartsAny (ascii "enum" ∷ []) r₂ → KindTo (record { kind = Enum; floor = c₂ }) b u
+      pub at-shared-enum : ChoiceFrom c₂ b u → StartsAny (ascii "enum" ∷ []) r₂ → KindTo (record { kind = Enum; floor = c₂; from = c₂ }) b u
       unfolding same-bytes
-      at-shared-enum s = at-type Enum c₂ h (λ d m z. no-bitmap (starts-free s c₂ (ascii "bitmap" ∷ []) refl) d m) (λ d m z. absurd (true≢false z)) (λ d m z. no-struct (starts-free s c₂ (ascii "fabric_scoped" ∷ ascii "struct" ∷ []) refl) d m)
+      at-shared-enum v s = at-type Enum v c₂ h (λ d m z. no-bitmap (starts-free s c₂ (ascii "bitmap" ∷ []) refl) d m) (λ d m z. absurd (true≢false z)) (λ d m z. no-struct (starts-free s c₂ (ascii "fabric_scoped" ∷ ascii "struct" ∷ []) refl) d m)
 
-      pub at-shared-struct : Frees c₂ r₂ (ascii "bitmap" ∷ []) → Frees c₂ r₂ (ascii "enum" ∷ []) → KindTo (record { kind = Struct; floor = c₂ }) b u
-      at-shared-struct f f' = at-type Struct c₂ h (λ d m z. no-bitmap f d m) (λ d m z. no-enum f' d m) (λ d m z. absurd (true≢false z))
+      pub at-shared-struct : StructFrom c₂ b u → Frees c₂ r₂ (ascii "bitmap" ∷ []) → Frees c₂ r₂ (ascii "enum" ∷ []) → KindTo (record { kind = Struct; floor = c₂; from = c₂ }) b u
+      at-shared-struct v f f' = at-type Struct v c₂ h (λ d m z. no-bitmap f d m) (λ d m z. no-enum f' d m) (λ d m z. absurd (true≢false z))
 
 -- behind `shared`
 module _ (b : ℕ) (u : List ℕ) (clear : whitespace0 b u ≡ ok no-doc b u) (c : ℕ) (k : wordReply (Next c) b u ≡ keyword (ascii "shared") b u) {r : List ℕ} (q : Rest b u c r) (t : Blank) (w : BlankTo t c r) where
@@ -405,8 +420,11 @@ module _ (b : ℕ) (u : List ℕ) (clear : whitespace0 b u ≡ ok no-doc b u) (c
   blank : Took whitespace0 b u c (docOf (t .doc)) (t .next)
   blank = blank-took q w
 
-  pub kind-alone : t .next ≡ c → KindTo (record { kind = Struct; floor = b }) b u
-  kind-alone z = at-shared b u clear word-is (ap (whitespace1 c) (sym (q .same)) ∙ sym (gap-none c r t w z))
+  goes-on : StructFrom (t .next) b u
+  goes-on = behind-shared c k (blank-is q w)
+
+  pub kind-alone : t .next ≡ c → KindTo (record { kind = Struct; floor = b; from = t .next }) b u
+  kind-alone z = at-shared b u clear word-is goes-on (ap (whitespace1 c) (sym (q .same)) ∙ sym (gap-none c r t w z))
 
   module _ (z : t .next ≡ c → ⊥) where
     behind : whitespace1 c (drop (c - b) u) ≡ ok (docOf (t .doc)) (t .next) (drop (t .next - b) u)
@@ -415,14 +433,17 @@ module _ (b : ℕ) (u : List ℕ) (clear : whitespace0 b u ≡ ok no-doc b u) (c
     up : b ≤ t .next
     up = omega (arith, q .from, w .up)
 
-    pub kind-bitmap : StartsAny (ascii "bitmap" ∷ []) (drop (t .next - b) u) → KindTo (record { kind = Bitmap; floor = t .next }) b u
-    kind-bitmap s = at-shared-bitmap b u clear word-is behind (blank .goes) up s
+    choice-goes-on : ChoiceFrom (t .next) b u
+    choice-goes-on = record { value = some (wordAt b u c); reads = sym (opt-some _ (shared-followed b u word-is behind)) }
 
-    pub kind-enum : StartsAny (ascii "enum" ∷ []) (drop (t .next - b) u) → KindTo (record { kind = Enum; floor = t .next }) b u
-    kind-enum s = at-shared-enum b u clear word-is behind (blank .goes) up s
+    pub kind-bitmap : StartsAny (ascii "bitmap" ∷ []) (drop (t .next - b) u) → KindTo (record { kind = Bitmap; floor = t .next; from = t .next }) b u
+    kind-bitmap s = at-shared-bitmap b u clear word-is behind (blank .goes) up choice-goes-on s
 
-    pub kind-struct : Frees (t .next) (drop (t .next - b) u) (ascii "bitmap" ∷ []) → Frees (t .next) (drop (t .next - b) u) (ascii "enum" ∷ []) → KindTo (record { kind = Struct; floor = t .next }) b u
-    kind-struct f f' = at-shared-struct b u clear word-is behind (blank .goes) up f f'
+    pub kind-enum : StartsAny (ascii "enum" ∷ []) (drop (t .next - b) u) → KindTo (record { kind = Enum; floor = t .next; from = t .next }) b u
+    kind-enum s = at-shared-enum b u clear word-is behind (blank .goes) up choice-goes-on s
+
+    pub kind-struct : Frees (t .next) (drop (t .next - b) u) (ascii "bitmap" ∷ []) → Frees (t .next) (drop (t .next - b) u) (ascii "enum" ∷ []) → KindTo (record { kind = Struct; floor = t .next; from = t .next }) b u
+    kind-struct f f' = at-shared-struct b u clear word-is behind (blank .goes) up goes-on f f'
 
 pub keyword-read : (k : List ℕ) (b : ℕ) (u : List ℕ) (a : Step) (c : ℕ) → a ≡ Next c → wordReply a b u ≡ keyword k b u → wordReply (Next c) b u ≡ keyword k b u
 keyword-read k b u a c e h = told-next (wordAt b u) a c b u (keyword k b u) e h

@@ -2,20 +2,20 @@
 use mathlib.Core.Path.{_≡_, refl, sym, ap, _∙_, subst}
 use mathlib.Core.Bool.{false}
 use mathlib.Core.List.{List, [], _∷_, _++_}
-use Prim.Native.Nat.{ℕ, _+_, _-_, _*_, _≤_, _<_, max}
+use Prim.Native.Nat.{ℕ, _+_, _-_, _≤_, _<_, max}
 use native.Mathlib.Omega.{arith}
 use lib.ListN.{length, drop}
 use Rattle.lexing.specs.bytes.{ascii}
 use Rattle.lexing.specs.reply.{Reply, ok, fail, stop, Parser, ret, _>>=_, _>>_, catch, failAt, _or_, further, opt, many0}
 use Rattle.lexing.specs.words.{Word, keyword, any-keyword, tag}
-use Rattle.lexing.specs.blanks.{Doc, no-doc, whitespace0}
-use Rattle.lexing.specs.answers.{Rest, Answer, reply, wordAt, wordReply, lostReply, docOf}
+use Rattle.lexing.specs.blanks.{Doc, whitespace0}
+use Rattle.lexing.specs.answers.{Rest, wordAt, wordReply, lostReply}
 use Rattle.lexing.specs.declared.answers.Lost.{Lost}
 use Rattle.lexing.specs.declared.answers.Lost.the-variants.{Fail, Stop}
 use Rattle.lexing.specs.declared.answers.Step.{Step}
 use Rattle.lexing.specs.declared.answers.Step.the-variants.{Next, Not}
 use Rattle.lexing.specs.declared.integers.Number.{Number}
-use Rattle.lexing.specs.declared.integers.Number.the-variants.{Value}
+use Rattle.lexing.specs.declared.integers.Number.the-variants.{Value, NoNumber}
 use Rattle.lexing.proofs.Onward.{Onward}
 use Rattle.lexing.proofs.Locality.{chain-ret, chain-bind, chain-then, chain-opt, chain-many0}
 use Rattle.lexing.proofs.TokenLocality.{any-keyword-chain, whitespace0-chain}
@@ -28,12 +28,12 @@ use Rattle.items.specs.structs.{parse-struct-after-doc-maturity}
 use Rattle.items.specs.members.{parse-event-after-doc-maturity, parse-command-after-doc-maturity, parse-attribute-after-doc-maturity}
 use Rattle.items.specs.clusters.{Member, revision, bitmap, enum, struct, attribute, command, event, parse-revision, member-tries, parse-cluster-member, cluster-members, side, cluster-head, cluster-after-doc-maturity}
 use Rattle.items.specs.records.{Record, at, value, each, word-extent, documented, choice-records, struct-records, attribute-records, event-records, member-records, last-revision, cluster-records}
-use Rattle.items.specs.layout.{packed, width, from-top, offset, size, layout-20, record-words, big-endian, words-bytes, further-word, catalogue-words, catalogue-bytes, word-count, text-limit}
+use Rattle.items.specs.layout.{packed, width, from-top, offset, size, layout-20, record-words, big-endian, words-bytes, further-word, catalogue-words, catalogue-bytes, word-count}
 use Rattle.items.specs.buffers.{put}
-use Rattle.items.specs.answers.{Front, frontOf, wordBetween, NameIn, Room, Written, first-of, docWord, docBit}
+use Rattle.items.specs.answers.{Front, frontOf, NameIn, Room, Written, first-of, docWord, docBit}
 use Rattle.items.specs.answers.members.{command-records}
 use Rattle.items.specs.answers.clusters.{RevisionTo, clusterHeadAt, unhoisted-records}
-use Rattle.items.specs.inner.clusters.{found, revision-words, struct-words, attribute-words, command-words, event-words, member-try, KindTo, member-behind, members-rest, unhoisted, wroteTo, MemberWritten, MembersWritten, cluster-first}
+use Rattle.items.specs.inner.clusters.{found, member-try, KindTo, member-behind, members-rest, unhoisted, MemberWritten, MembersWritten, revisionWrote, cluster-first}
 use Rattle.items.specs.declared.writing.FrontParts.{FrontParts}
 use Rattle.items.specs.declared.writing.Wrote.{Wrote}
 use Rattle.items.specs.declared.clusters.MemberKind.{MemberKind}
@@ -41,7 +41,7 @@ use Rattle.items.specs.declared.clusters.MemberKind.the-variants.{Revisi
 use Rattle.items.specs.declared.clusters.Candidate.{Candidate}
 use Rattle.items.specs.declared.clusters.ClusterHeadParts.{ClusterHeadParts}
 use Rattle.items.specs.declared.clusters.MembersWrote.{MembersWrote}
-use Rattle.items.proofs.Answers.{read-took}
+use Rattle.items.proofs.Answers.{reads-as, read-took}
 use Rattle.items.proofs.Keywords.{keyword-missing}
 use Rattle.items.proofs.Onward.{onward-bind}
 use Rattle.items.proofs.Headed.{Headed}
@@ -51,9 +51,9 @@ use Rattle.items.proofs.Braces.{Step as Taken, lost-not, brace-first, b
 use Rattle.items.proofs.RecordWords.{Elementwise, each-elementwise, word-count-none, catalogue-bytes-none}
 use Rattle.items.proofs.Locality.{braces-chain, api-maturity-local, parse-revision-local, member-tries-inside, parse-cluster-member-inside, parse-cluster-member-consumes, side-local, cluster-head-local}
 use Rattle.items.proofs.WordBetween.{extent-between}
-use Rattle.items.proofs.writing.Laws.{put-nothing, put-next, documented-bytes, no-room, written-took, Writing, writing-start, writing-start-seen, writing-same, writing-fits, writing-more, writing-more-seen}
+use Rattle.items.proofs.writing.Laws.{put-nothing, put-next, documented-bytes, no-room, Writing, writing-start, writing-start-seen, writing-same, writing-fits, writing-more, writing-more-seen}
 use Rattle.items.proofs.Recorded.{Recorded, recorded-at, recorded-room, recorded-written}
-use Rattle.items.proofs.clusters.Laws.{OtherWord, at-other, member-left, member-tries-on, members-on, parse-member-on}
+use Rattle.items.proofs.clusters.Laws.{OtherWord, at-other, member-left, member-tries-on, members-on}
 
 -- one of two keywords
 module _ (k j : List ℕ) (b : ℕ) (u : List ℕ) where
@@ -157,7 +157,7 @@ module _ (d : Doc) (m : ℕ) {x : MemberKind} (e : x ≡ Revision) (b : ℕ) (u 
   unfolding member-try
   revision-is = ap (λ (y : MemberKind). member-try y d m b u) e
 
-  pub revision-written : (z : ℕ) {a : Number} {n c at : ℕ} {old : List ℕ} → RevisionTo a b u → a ≡ Value n c → MemberWritten z (member-try x d m) b u at (record { next = c; to = at; revision = n }) old old
+  revision-written : (z : ℕ) {a : Number} {n c at : ℕ} {old : List ℕ} → RevisionTo a b u → a ≡ Value n c → MemberWritten z (member-try x d m) b u at (record { next = c; to = at; revision = n }) old old
   unfolding member-records last-revision
   revision-written z {a} {n} {c} {at} {old} h y =
       let t = read-took h y revision-on (rest-self b u) refl in
@@ -166,8 +166,12 @@ module _ (d : Doc) (m : ℕ) {x : MemberKind} (e : x ≡ Revision) (b : ℕ) (u 
         latest = refl;
       }
 
-  pub revision-found : {at n : ℕ} → Room unhoisted (member-try x d m) b u at n → (l : Lost) → lostReply l ≡ parse-revision b u → ⊥
-  revision-found room l h = no-room room l (h ∙ sym revision-is)
+  pub revision-left : (z : ℕ) {a : Number} {at n : ℕ} {old : List ℕ} {w : MembersWrote} → Room unhoisted (member-try x d m) b u at n → RevisionTo a b u → w ≡ revisionWrote a b at z → MemberWritten z (member-try x d m) b u at w old old
+  revision-left z {a} {at} {n} {old} {w} room h y = subst (λ (o : MembersWrote). MemberWritten z (member-try x d m) b u at o old old) (sym y) (go a refl)
+    where
+      go : (v : Number) → a ≡ v → MemberWritten z (member-try x d m) b u at (revisionWrote v b at z) old old
+      go (Value i c) e = revision-written z h e
+      go (NoNumber l) e = absurd (no-room room l (reads-as h e ∙ sym revision-is))
 
 -- no member at all
 pub unknown-found : (d : Doc) (m : ℕ) {x : MemberKind} → x ≡ Unknown → (b : ℕ) (u : List ℕ) {at n : ℕ} → Room unhoisted (member-try x d m) b u at n → ⊥

@@ -31,8 +31,8 @@ use Rattle.items.specs.answers.items.{unhoisted-item, DeclarationCountTo
 use Rattle.items.specs.declared.counts.Count.{Count}
 use Rattle.items.specs.declared.counts.Count.the-variants.{Words, NoCount}
 use Rattle.items.specs.layout.{word-count}
-use Rattle.items.specs.inner.clusters.{found, member-try, fails-at, KindTo, countRaised}
-use Rattle.items.specs.inner.items.{cluster-words, typeKind, declaration-try, KindCountTo, StartTo}
+use Rattle.items.specs.inner.clusters.{found, member-try, fails-at, MemberFrom, KindTo, countRaised}
+use Rattle.items.specs.inner.items.{cluster-words, typeKind, declaration-try, DeclarationFrom, KindCountTo, StartTo}
 use Rattle.items.specs.declared.clusters.Candidate.{Candidate}
 use Rattle.items.specs.declared.clusters.MemberKind.{MemberKind}
 use Rattle.items.specs.declared.clusters.MemberKind.the-variants.{Revision, Bitmap, Enum, Struct, Attribute, Command, Event, Unknown}
@@ -68,10 +68,10 @@ at-top Event d m q b u e = refl
 at-top Unknown d m q b u e = refl
 
 -- of the types one fails at the floor
-abbrev type-ends : Candidate → ℕ → ℕ → List End
-type-ends k c b = lost c ∷ lost b ∷ kind-ends k c Enum ∷ kind-ends k c Bitmap ∷ kind-ends k c Struct ∷ []
+abbrev type-ends : MemberKind → (q c b : ℕ) → List End
+type-ends k q c b = lost c ∷ lost b ∷ kind-ends k q c Enum ∷ kind-ends k q c Bitmap ∷ kind-ends k q c Struct ∷ []
 
-type-reaches : (k : MemberKind) (q c b : ℕ) → Reaches q (type-ends (record { kind = k; floor = q }) c b)
+type-reaches : (k : MemberKind) (q c b : ℕ) → Reaches q (type-ends k q c b)
 type-reaches Revision q c b = inr (inr (inl refl))
 type-reaches Bitmap q c b = inr (inr (inl refl))
 type-reaches Enum q c b = inr (inr (inl refl))
@@ -85,7 +85,7 @@ further-at : (q c : ℕ) → c ≤ q → _≡_ {A = Reply Item} (fail q) (furthe
 unfolding further
 further-at q c h = let z : q ≡ max q c = omega arith in ap fail z
 
-type-keeps : (k : MemberKind) (q c b : ℕ) → c ≤ q → (d : Doc) (m : ℕ) (r : List ℕ) → left (keeps (type-ends (record { kind = k; floor = q }) c b)) q (declaration-try (typeKind k) d m c r) ≡ further q (declaration-try (typeKind k) d m c r)
+type-keeps : (k : MemberKind) (q c b : ℕ) → c ≤ q → (d : Doc) (m : ℕ) (r : List ℕ) → left (keeps (type-ends k q c b)) q (declaration-try (typeKind k) d m c r) ≡ further q (declaration-try (typeKind k) d m c r)
 unfolding declaration-try
 type-keeps Revision q c b h d m r = further-at q c h
 type-keeps Bitmap q c b h d m r = refl
@@ -109,21 +109,38 @@ module _ (b : ℕ) (u : List ℕ) (d : Doc) {m c₁ c : ℕ} {r₁ r : List ℕ}
       more _ (mapped-same _ _ _ (after _) ∙ x) (more _ y (more _ (mapped-same _ _ _ (after _) ∙ z) (more _ (mapped-same _ _ _ (after _) ∙ w) (last (mapped-same _ _ _ (after _) ∙ v)))))
 
   module _ {k : Candidate} (h : KindTo k c r) where
-    type-tried : (j : MemberKind) → declaration-try (typeKind j) d m c r ≡ ends (declaration-try (typeKind (k .kind)) d m c r) (kind-ends k c j)
-    type-tried = kind-tried (λ j. declaration-try (typeKind j) d m c r) k c (λ j e. at-top j d m (k .floor) c r (h .others j e d m))
+    type-tried : (j : MemberKind) → declaration-try (typeKind j) d m c r ≡ ends (declaration-try (typeKind (k .kind)) d m c r) (kind-ends (k .kind) (k .floor) c j)
+    type-tried = kind-tried (λ j. declaration-try (typeKind j) d m c r) (k .kind) (k .floor) c (λ j e. at-top j d m (k .floor) c r (h .others j e d m))
 
     -- no cluster and no endpoint: the types' tries
     types-left : b ≤ c → declaration-try Cluster d m c r ≡ fail c → declaration-try Endpoint d m b u ≡ fail b → declaration d b u ≡ further (k .floor) (declaration-try (typeKind (k .kind)) d m c r)
     types-left low x y =
-        choice (k .floor) (tries (declaration-try (typeKind (k .kind)) d m c r) (lost c) (lost b) (kind-ends k c Enum) (kind-ends k c Bitmap) (kind-ends k c Struct) x y (type-tried Enum) (type-tried Bitmap) (type-tried Struct)) (h .up, (omega (arith, h .up, low), (kind-within h Enum, (kind-within h Bitmap, (kind-within h Struct, tt))))) (type-reaches (k .kind) (k .floor) c b)
+        choice (k .floor) (tries (declaration-try (typeKind (k .kind)) d m c r) (lost c) (lost b) (kind-ends (k .kind) (k .floor) c Enum) (kind-ends (k .kind) (k .floor) c Bitmap) (kind-ends (k .kind) (k .floor) c Struct) x y (type-tried Enum) (type-tried Bitmap) (type-tried Struct)) (h .up, (omega (arith, h .up, low), (kind-within h Enum, (kind-within h Bitmap, (kind-within h Struct, tt))))) (type-reaches (k .kind) (k .floor) c b)
         ∙ type-keeps (k .kind) (k .floor) c b (h .up) d m r
 
 no-cluster : (d : Doc) (m b : ℕ) (u : List ℕ) → Frees b u cluster-words → declaration-try Cluster d m b u ≡ fail b
 unfolding declaration-try
 no-cluster d m b u f = mapped-fail _ _ (cluster-elsewhere b u d m f)
 
+-- a type goes on where it would as a member
+top-from : (k : MemberKind) (f b : ℕ) (u : List ℕ) → MemberFrom k f b u → DeclarationFrom (typeKind k) f b u
+top-from Revision f b u g = tt
+top-from Bitmap f b u g = g
+top-from Enum f b u g = g
+top-from Struct f b u g = g
+top-from Attribute f b u g = tt
+top-from Command f b u g = tt
+top-from Event f b u g = tt
+top-from Unknown f b u g = tt
+
+pub from-kind : {j k : DeclarationKind} (f b : ℕ) (u : List ℕ) → j ≡ k → DeclarationFrom j f b u → DeclarationFrom k f b u
+from-kind f b u e h = subst (λ (x : DeclarationKind). DeclarationFrom x f b u) e h
+
+pub start-from : {s : DeclarationStart} {b : ℕ} {u v : List ℕ} → StartTo s b u → Rest b u (s .next) v → DeclarationFrom (s .kind) (s .from) (s .next) v
+start-from h q = rw (q .same) (h .goes)
+
 -- How a declaration starts: with `endpoint`, which leaves no maturity,
-pub start-endpoint : (b : ℕ) (u : List ℕ) → whitespace0 b u ≡ ok no-doc b u → found (any-keyword (ascii "endpoint" ∷ []) b u) ≡ true → StartTo (record { kind = Endpoint; floor = b; maturity = 0; next = b }) b u
+pub start-endpoint : (b : ℕ) (u : List ℕ) → whitespace0 b u ≡ ok no-doc b u → found (any-keyword (ascii "endpoint" ∷ []) b u) ≡ true → StartTo (record { kind = Endpoint; floor = b; maturity = 0; next = b; from = b }) b u
 unfolding same-bytes
 start-endpoint b u clear x = record {
   from = omega arith;
@@ -132,10 +149,11 @@ start-endpoint b u clear x = record {
   leaves = λ d.
       let s = starts-any (ascii "endpoint" ∷ []) b u x in
       let h = maturity-elsewhere b u (starts-free s b maturity-words refl) in
-      let t = type-tried b u d h clear (at-word b u clear Unknown (ascii "endpoint" ∷ []) refl s) in
+      let t = type-tried b u d h clear (at-word b u clear Unknown (ascii "endpoint" ∷ []) refl s (starts-free s b (ascii "shared" ∷ []) refl .0)) in
       let low : b ≤ b = omega arith in
       choice b (tries b u d h clear (declaration-try Endpoint d 0 b u) (lost b) kept (lost b) (lost b) (lost b) (no-cluster d 0 b u (starts-free s b cluster-words refl)) refl (t Enum) (t Bitmap) (t Struct)) (low, (tt, (low, (low, (low, tt))))) (inl refl)
       ∙ ap (λ (v : List ℕ). further b (declaration-try Endpoint d 0 b v)) (rest-self b u .same);
+  goes = tt;
 }
 
 -- or with a maturity that may be absent, and blanks up to c,
@@ -153,26 +171,28 @@ module _ (b : ℕ) (u : List ℕ) (clear : whitespace0 b u ≡ ok no-doc b u) (x
   unfolding declaration-try
   no-endpoint d = mapped-fail _ _ (endpoint-elsewhere b u clear (frees-all (ascii "endpoint" ∷ []) b u x .0))
 
-  start-of : (k : DeclarationKind) (q : ℕ) → ((d : Doc) → declaration d b u ≡ further q (declaration-try k d m c (drop (c - b) u))) → StartTo (record { kind = k; floor = q; maturity = m; next = c }) b u
-  start-of k q h = record { from = low; inside = t₂ .inside; small = small; leaves = h }
+  start-of : (k : DeclarationKind) (q : ℕ) {f : ℕ} → DeclarationFrom k f c (drop (c - b) u) → ((d : Doc) → declaration d b u ≡ further q (declaration-try k d m c (drop (c - b) u))) → StartTo (record { kind = k; floor = q; maturity = m; next = c; from = f }) b u
+  start-of k q g h = record { from = low; inside = t₂ .inside; small = small; leaves = h; goes = g }
 
   module _ {r : List ℕ} (q : Rest b u c r) {y : Bool} (f : y ≡ found (any-keyword cluster-words c r)) where
     seen : y ≡ found (any-keyword cluster-words c (drop (c - b) u))
     seen = f ∙ ap (λ (v : List ℕ). found (any-keyword cluster-words c v)) (q .same)
 
     -- then one of a cluster's words
-    pub start-cluster : y ≡ true → StartTo (record { kind = Cluster; floor = c; maturity = m; next = c }) b u
+    pub start-cluster : y ≡ true → StartTo (record { kind = Cluster; floor = c; maturity = m; next = c; from = c }) b u
     unfolding same-bytes
-    start-cluster z = start-of Cluster c λ d.
+    start-cluster z = start-of Cluster c tt λ d.
         let s = starts-any cluster-words c (drop (c - b) u) (sym seen ∙ z) in
-        let t = type-tried b u d h₁ (t₂ .goes) (at-word c (drop (c - b) u) clear₂ Unknown cluster-words refl s) in
+        let t = type-tried b u d h₁ (t₂ .goes) (at-word c (drop (c - b) u) clear₂ Unknown cluster-words refl s (starts-free s c (ascii "shared" ∷ []) refl .0)) in
         let same : c ≤ c = omega arith in
         choice c (tries b u d h₁ (t₂ .goes) (declaration-try Cluster d m c (drop (c - b) u)) kept (lost b) (lost c) (lost c) (lost c) refl (no-endpoint d) (t Enum) (t Bitmap) (t Struct)) (tt, (low, (same, (same, (same, tt))))) (inr (inl refl))
 
     -- or another word, by the kind that a member would be
-    pub start-type : y ≡ false → {v : List ℕ} → Rest b u c v → {k : Candidate} → KindTo k c v → {j : DeclarationKind} → j ≡ typeKind (k .kind) → StartTo (record { kind = j; floor = k .floor; maturity = m; next = c }) b u
-    start-type z {v} q' {k} h {j} w = rw w (start-of (typeKind (k .kind)) (k .floor) λ d.
-        types-left b u d h₁ (t₂ .goes) (subst (λ (r : List ℕ). KindTo k c r) (q' .same) h) low (no-cluster d m c (drop (c - b) u) (frees-all cluster-words c (drop (c - b) u) (sym seen ∙ z))) (no-endpoint d))
+    pub start-type : y ≡ false → {v : List ℕ} → Rest b u c v → {k : Candidate} → KindTo k c v → {j : DeclarationKind} → j ≡ typeKind (k .kind) → StartTo (record { kind = j; floor = k .floor; maturity = m; next = c; from = k .from }) b u
+    start-type z {v} q' {k} h {j} w =
+        let g : KindTo k c (drop (c - b) u) = subst (λ (r : List ℕ). KindTo k c r) (q' .same) h in
+        rw w (start-of (typeKind (k .kind)) (k .floor) (top-from (k .kind) (k .from) c (drop (c - b) u) (g .goes)) λ d.
+        types-left b u d h₁ (t₂ .goes) g low (no-cluster d m c (drop (c - b) u) (frees-all cluster-words c (drop (c - b) u) (sym seen ∙ z))) (no-endpoint d))
 
 -- The tries of each kind by their readers.
 module _ (d : Doc) (m : ℕ) where

@@ -3,10 +3,11 @@ use mathlib.Core.Path.{_≡_, refl, sym, ap, _∙_, subst}
 use mathlib.Core.Bool.{Bool, true, false, false≢true}
 use mathlib.Core.Option.{Option, none, some}
 use mathlib.Core.List.{List, [], _∷_, map}
-use Prim.Native.Nat.{ℕ, _+_, _-_, _*_, _≤_, _<_}
+use Prim.Native.Nat.{ℕ, suc, _+_, _-_, _*_, _≤_, _<_}
 use native.Mathlib.Omega.{arith}
 use lib.Dec.{eqb}
 use lib.ListN.{length, take, drop}
+use lib.Seq.{length-take-le}
 use Rattle.lexing.specs.bytes.{ascii, within, lower}
 use Rattle.lexing.specs.reply.{ok, fail, stop, Parser, ret, opt, pick, many0}
 use Rattle.lexing.specs.words.{Word, bytesOf, isKeyword, isLower, keyword, any-keyword, tag}
@@ -14,15 +15,14 @@ use Rattle.lexing.specs.word_sets.{same-bytes, bit}
 use Rattle.lexing.specs.answers.{Rest, lostReply, wordAt, wordReply, numberReply, numberLost}
 use Rattle.lexing.specs.declared.answers.Lost.{Lost}
 use Rattle.lexing.specs.declared.answers.Lost.the-variants.{Fail, Stop}
-use Rattle.lexing.specs.declared.answers.Step.{Step}
 use Rattle.lexing.specs.declared.answers.Step.the-variants.{Next}
 use Rattle.lexing.specs.declared.integers.Number.{Number}
 use Rattle.lexing.specs.declared.integers.Number.the-variants.{Value, NoNumber}
-use Rattle.lexing.proofs.Tests.{false-if}
+use Rattle.lexing.proofs.Tests.{false-if, and-right}
 use Rattle.lexing.proofs.Locality.{chain-opt, chain-many0}
 use Rattle.lexing.proofs.TokenLocality.{any-keyword-chain}
 use Rattle.lexing.proofs.Onward.{Onward}
-use Rattle.lexing.proofs.Slicing.{Took, took, walks, reads-in, told-next}
+use Rattle.lexing.proofs.Slicing.{Took, took, walks, reads-in, rest-self, keyword-took}
 use Rattle.lexing.proofs.words.Laws.{keyword-says}
 use Rattle.lexing.proofs.word_sets.Laws.{same-eq, like-keyword}
 use Rattle.items.specs.entries.{present}
@@ -31,8 +31,8 @@ use Rattle.items.specs.records.{Record, at, bits, value, spanned, flag, 
 use Rattle.items.specs.layout.{packed, width, from-top, offset, size, layout-20, further-word, record-words, big-endian, words-bytes, catalogue-words, catalogue-bytes, word-count, text-limit}
 use Rattle.items.specs.members.{or-else}
 use Rattle.items.specs.buffers.{put}
-use Rattle.items.specs.answers.{optionOf, wordBetween, Front, Room, Written, first-of, spanWord, docWord, docBit, frontOf}
-use Rattle.items.specs.answers.structs.{fieldAt, fieldLost, FieldBetween, FieldTo, structFieldAt, structFieldLost, StructFieldBetween, StructFieldTo, typeOf, headAt, headLost, HeadBetween, StructHeadTo}
+use Rattle.items.specs.answers.{optionOf, BlankAt, wordBetween, Front, Room, Written, first-of, spanWord, docWord, docBit, frontOf}
+use Rattle.items.specs.answers.structs.{fieldAt, fieldLost, FieldBetween, FieldTo, structFieldAt, structFieldLost, StructFieldBetween, StructFieldTo, StructFrom, behind-shared, not-shared, typeOf, headAt, headLost, HeadBetween, StructHeadTo}
 use Rattle.items.specs.inner.structs.{lengthReply, lengthLost, optionalLength, MarkerTo, kindBy, typeBy, struct-words, StructWordTo, codeReply, field-parts, kindNumber, responseNumber, struct-first}
 use Rattle.items.specs.declared.writing.FrontParts.{FrontParts}
 use Rattle.items.specs.declared.structs.FieldParts.{FieldParts}
@@ -58,7 +58,9 @@ use Rattle.items.proofs.WordBetween.{word-moved, extent-between}
 use Rattle.items.proofs.writing.Laws.{put-two, put-next, plain-bytes, documented-put, Writing, writing-fits, writing-more, writing-ends}
 use Rattle.items.proofs.counts.Laws.{Counting, counting-more}
 use Rattle.items.proofs.Choice.{or-lost}
+use Rattle.items.proofs.Tries.{shared-any}
 use Rattle.items.proofs.optional.Laws.{opt-ok, opt-fail, opt-stop}
+use Rattle.items.proofs.steps.Laws.{blank-at-took}
 
 -- the two ways of a length that is absent
 pub length-fail : (r : Number) (b : ℕ) (l k : Lost) (p : ℕ) → r ≡ NoNumber l → k ≡ numberLost r → k ≡ Fail p → Length false 0 b ≡ optionalLength r b
@@ -207,32 +209,73 @@ kind-means : (w k : List ℕ) (x : StructKind) → isKeyword w k ≡ true → st
 unfolding typeBy
 kind-means w k x i s = by-case struct-kind (λ t. typeBy (kindBy t x)) w k i s (other-kind w)
 
--- the keyword k, which says the kind x
-pub word-is : (k : List ℕ) (x t : StructKind) (b c : ℕ) (u : List ℕ) (a : Step) → wordReply a b u ≡ keyword k b u → a ≡ Next c → struct-kind k ≡ typeBy x
-    → t ≡ kindBy (isLower (take (c - b) u)) x → ok (wordAt b u c) c (drop (c - b) u) ≡ any-keyword struct-words b u → StructWordTo (record { kind = t; next = c }) b u
+-- the bytes of a keyword that was read
+keyword-bytes : (k u : List ℕ) {b c : ℕ} → ok (wordAt b u c) c (drop (c - b) u) ≡ keyword k b u → isKeyword (take (c - b) u) k ≡ true
+unfolding bytesOf
+keyword-bytes k u {b} {c} e = rw (← e) at (keyword-says k b u)
+
+-- the keyword k, which says the kind x, and the blanks behind it
+pub word-is : (k : List ℕ) (x t : StructKind) {b c n : ℕ} {u : List ℕ} → ok (wordAt b u c) c (drop (c - b) u) ≡ keyword k b u → struct-kind k ≡ typeBy x
+    → t ≡ kindBy (isLower (take (c - b) u)) x → ok (wordAt b u c) c (drop (c - b) u) ≡ any-keyword struct-words b u → BlankAt n b u c → StructWordTo (record { kind = t; next = n }) b u
 unfolding struct-type-of bytesOf
-word-is k x t b c u a h e s d r =
-    let z = told-next (wordAt b u) a c b u (keyword k b u) e h in
-    let i : isKeyword (take (c - b) u) k ≡ true = rw (← z) at (keyword-says k b u) in
-    let p = reads-in (walks (any-keyword-chain struct-words)) b c u (wordAt b u c) r in
-    record {
-      read = some (wordAt b u c);
-      reads = opt-ok (any-keyword struct-words) b u (wordAt b u c) c (drop (c - b) u) r;
-      means = rw d (kind-means (take (c - b) u) k x i s);
-      up = p .0;
-      inside = p .1;
-    }
+word-is k x t {b} {c} {n} {u} z s d r g = record {
+  read = some (wordAt b u c);
+  end = c;
+  reads = opt-ok (any-keyword struct-words) b u (wordAt b u c) c (drop (c - b) u) r;
+  means = rw d (kind-means (take (c - b) u) k x (keyword-bytes k u z) s);
+  blanks = g;
+}
 
 -- and none
-pub word-none : (b : ℕ) (u : List ℕ) → fail b ≡ keyword (ascii "request") b u → fail b ≡ keyword (ascii "response") b u → fail b ≡ keyword (ascii "shared") b u
-    → StructWordTo (record { kind = Regular; next = b }) b u
+pub word-none : {b n : ℕ} {u : List ℕ} → fail b ≡ keyword (ascii "request") b u → fail b ≡ keyword (ascii "response") b u → fail b ≡ keyword (ascii "shared") b u → BlankAt n b u b
+    → StructWordTo (record { kind = Regular; next = n }) b u
 unfolding any-keyword struct-type-of typeBy
-word-none b u x y z =
+word-none {b} {n} {u} x y z g =
     let e = sym (or-lost _ _ (sym x) (or-lost _ _ (sym y) (or-lost _ _ (sym z) refl))) in
     let o : b - b ≡ 0 = omega arith in
-    record { read = none; reads = rw o (opt-fail (any-keyword struct-words) b u _ e); means = refl; up = omega arith; inside = omega arith }
+    record { read = none; end = b; reads = rw o (opt-fail (any-keyword struct-words) b u _ e); means = refl; blanks = g }
 
-pub struct-word-took : {b n : ℕ} {u r : List ℕ} {t : StructWord} → Rest b u n r → (h : StructWordTo t n r) → Took (opt (any-keyword struct-words)) b u n (h .read) (t .next)
+-- `shared`, whose blanks were read
+keyword-size : (w k : List ℕ) → isKeyword w k ≡ true → length w ≡ length k
+unfolding isKeyword
+keyword-size [] [] e = refl
+keyword-size [] (x ∷ k) e = absurd (false≢true e)
+keyword-size (a ∷ w) [] e = absurd (false≢true e)
+keyword-size (a ∷ w) (x ∷ k) e = ap suc (keyword-size w k (and-right (eqb (lower a) x) (isKeyword w k) e))
+
+record SharedWord (f b : ℕ) (u : List ℕ) : Type 0 where
+  pub end : ℕ
+  pub word : ok (wordAt b u end) end (drop (end - b) u) ≡ keyword (ascii "shared") b u
+  pub blanks : BlankAt f b u end
+  pub six : end - b ≡ 6
+  pub up : b ≤ end
+  pub inside : end ≤ b + length u
+
+six-bytes : {f b : ℕ} {u : List ℕ} (c : ℕ) → wordReply (Next c) b u ≡ keyword (ascii "shared") b u → BlankAt f b u c → SharedWord f b u
+six-bytes {f} {b} {u} c k g =
+    let t = keyword-took (rest-self b u) refl (ascii "shared") k in
+    let n : c - b ≤ length u = omega (arith, t .inside, t .up) in
+    record { end = c; word = k; blanks = g; six = sym (length-take-le (c - b) u n) ∙ keyword-size (take (c - b) u) (ascii "shared") (keyword-bytes (ascii "shared") u k); up = t .up; inside = t .inside }
+
+module _ {f b : ℕ} {u : List ℕ} where
+  shared-word : StructFrom f b u → b < f → SharedWord f b u
+  shared-word (behind-shared c k g) l = six-bytes c k g
+  shared-word (not-shared e k) l = absurd (omega (arith, e, l))
+
+  pub shared-fits : StructFrom f b u → b < f → 6 ≤ length u
+  shared-fits h l = let s = shared-word h l in omega (arith, s .six, s .inside)
+
+  pub word-shared : StructFrom f b u → b < f → {t : StructKind} → t ≡ kindBy (isLower (take 6 u)) Shared → StructWordTo (record { kind = t; next = f }) b u
+  word-shared h l {t} d =
+      let s = shared-word h l in
+      word-is (ascii "shared") Shared t (s .word) shared-kind (rw (s .six) d) (sym (shared-any b u (sym (s .word)))) (s .blanks)
+
+  -- nor is it there where a struct goes on at its start
+  pub word-unshared : StructFrom f b u → f ≤ b → fail b ≡ keyword (ascii "shared") b u
+  word-unshared (behind-shared c k g) l = let s = six-bytes c k g in absurd (omega (arith, s .six, blank-at-took (s .blanks) .up, l))
+  word-unshared (not-shared e k) l = sym k
+
+pub struct-word-took : {b n : ℕ} {u r : List ℕ} {t : StructWord} → Rest b u n r → (h : StructWordTo t n r) → Took (opt (any-keyword struct-words)) b u n (h .read) (h .end)
 struct-word-took q h = took (walks (chain-opt (any-keyword-chain struct-words))) q (h .reads)
 
 -- the code of a struct that has none

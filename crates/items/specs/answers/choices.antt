@@ -1,16 +1,22 @@
 -- What the answers of the readers of enums and bitmaps say, as replies of the definitions.
 use Prim.Native.Nat.{ℕ, _≤_, _<_}
 use mathlib.Core.List.{List}
+use Rattle.lexing.specs.reply.{opt}
 use Rattle.lexing.specs.answers.{Answer, got, lost}
 use Rattle.lexing.specs.declared.answers.Lost.{Lost}
 use Rattle.lexing.specs.declared.answers.Lost.the-variants.{Fail}
-use Rattle.items.specs.entries.{ChoiceHead as ChoiceHeadOf, choice-head, choice-after-doc-maturity}
+use Rattle.lexing.specs.declared.answers.Step.the-variants.{Next}
+use Rattle.items.specs.entries.{shared-before, ChoiceHead as ChoiceHeadOf, choice-head, choice-after-doc-maturity}
 use Rattle.items.specs.records.{choice-records}
-use Rattle.items.specs.answers.{ReadTo, wordBetween, Front, CountsTo}
+use Rattle.items.specs.answers.{ReadTo, Skips, wordBetween, Front, CountsTo}
 use Rattle.items.specs.declared.counts.Count.{Count}
 use Rattle.items.specs.declared.choices.ChoiceHeadParts.{ChoiceHeadParts}
 use Rattle.items.specs.declared.choices.ChoiceHeadRead.{ChoiceHeadRead}
 use Rattle.items.specs.declared.choices.ChoiceHeadRead.the-variants.{ChoiceHead, NoChoiceHead}
+
+-- where an enum or a bitmap goes on: behind `shared` and its blanks, or at its start where they are not there
+abbrev pub ChoiceFrom : ℕ → ℕ → List ℕ → Type 0
+ChoiceFrom f b u = Skips (opt shared-before) (Next f) b u
 
 -- an enum or a bitmap up to its entries
 abbrev pub choiceHeadAt : ℕ → List ℕ → ChoiceHeadParts → ChoiceHeadOf

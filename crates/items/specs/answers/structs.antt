@@ -1,13 +1,17 @@
 -- What the answers of the readers of fields and structs say, as replies of the definitions.
 use Prim.Native.Nat.{ℕ, _≤_, _<_}
+use mathlib.Core.Path.{_≡_}
 use mathlib.Core.List.{List}
-use Rattle.lexing.specs.reply.{Parser}
-use Rattle.lexing.specs.answers.{Answer, got, lost}
+use Rattle.lexing.specs.bytes.{ascii}
+use Rattle.lexing.specs.reply.{fail, Parser}
+use Rattle.lexing.specs.words.{keyword}
+use Rattle.lexing.specs.answers.{Answer, got, lost, wordReply}
 use Rattle.lexing.specs.declared.answers.Lost.{Lost}
 use Rattle.lexing.specs.declared.answers.Lost.the-variants.{Fail}
+use Rattle.lexing.specs.declared.answers.Step.the-variants.{Next}
 use Rattle.items.specs.structs.{Field as FieldOf, StructField as StructFieldOf, parse-field, StructType, regular, request, response, shared, StructHead, struct-head, parse-struct-after-doc-maturity}
 use Rattle.items.specs.records.{struct-records}
-use Rattle.items.specs.answers.{optionOf, ReadTo, wordBetween, Front, CountsTo}
+use Rattle.items.specs.answers.{optionOf, ReadTo, BlankAt, wordBetween, Front, CountsTo}
 use Rattle.items.specs.declared.counts.Count.{Count}
 use Rattle.items.specs.declared.structs.FieldParts.{FieldParts}
 use Rattle.items.specs.declared.structs.FieldRead.{FieldRead}
@@ -76,6 +80,11 @@ structFieldWithin b (NoStructField l) = Unit {0}
 
 abbrev pub StructFieldTo : Parser StructFieldOf → StructFieldRead → ℕ → List ℕ → Type 0
 StructFieldTo m r b u = ReadTo structFieldAnswer structFieldWithin m r b u
+
+-- where a struct goes on: behind `shared` and the blanks that may follow it, or at its start where it is not there
+pub data StructFrom (f b : ℕ) (u : List ℕ) : Type 0 where
+  behind-shared : (c : ℕ) → wordReply (Next c) b u ≡ keyword (ascii "shared") b u → BlankAt f b u c → StructFrom f b u
+  not-shared : f ≡ b → keyword (ascii "shared") b u ≡ fail b → StructFrom f b u
 
 -- the type of a struct by its kind and the code of a response
 abbrev pub typeOf : StructKind → ℕ → StructType

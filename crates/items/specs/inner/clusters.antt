@@ -9,12 +9,16 @@ use Rattle.lexing.specs.reply.{Reply, ok, fail, stop, Parser, ret, _>>=_, _>>_,
 use Rattle.lexing.specs.words.{tag}
 use Rattle.lexing.specs.blanks.{Doc, whitespace0}
 use Rattle.lexing.specs.answers.{docOf}
+use Rattle.lexing.specs.declared.integers.Number.{Number}
+use Rattle.lexing.specs.declared.integers.Number.the-variants.{Value, NoNumber}
 use Rattle.items.specs.entries.{where-missing, api-maturity, parse-bitmap-after-doc-maturity, parse-enum-after-doc-maturity}
 use Rattle.items.specs.structs.{parse-struct-after-doc-maturity}
 use Rattle.items.specs.members.{parse-attribute-after-doc-maturity, parse-command-after-doc-maturity, parse-event-after-doc-maturity}
 use Rattle.items.specs.clusters.{Member, bitmap, enum, struct, attribute, command, event, mapped, parse-revision, member-tries, cluster-members}
 use Rattle.items.specs.records.{Record, at, value, documented, each, last-revision, member-records}
 use Rattle.items.specs.answers.{Written}
+use Rattle.items.specs.answers.choices.{ChoiceFrom}
+use Rattle.items.specs.answers.structs.{StructFrom}
 use Rattle.items.specs.declared.writing.FrontParts.{FrontParts}
 use Rattle.items.specs.declared.writing.Wrote.{Wrote}
 use Rattle.items.specs.declared.clusters.ClusterHeadParts.{ClusterHeadParts}
@@ -90,10 +94,22 @@ fails-at q b Command = b
 fails-at q b Event = b
 fails-at q b Unknown = b
 
+-- where the try of a kind goes on: `shared` may stand before a type
+abbrev pub MemberFrom : MemberKind → ℕ → ℕ → List ℕ → Type 0
+MemberFrom Revision f b u = Unit {0}
+MemberFrom Bitmap f b u = ChoiceFrom f b u
+MemberFrom Enum f b u = ChoiceFrom f b u
+MemberFrom Struct f b u = StructFrom f b u
+MemberFrom Attribute f b u = Unit {0}
+MemberFrom Command f b u = Unit {0}
+MemberFrom Event f b u = Unit {0}
+MemberFrom Unknown f b u = Unit {0}
+
 -- a first word leaves the try of one kind: those of all others fail
 pub record KindTo (r : Candidate) (b : ℕ) (u : List ℕ) : Type 0 where
   pub up : b ≤ r .floor
   pub others : (k : MemberKind) → same-kind k (r .kind) ≡ false → (d : Doc) (m : ℕ) → member-try k d m b u ≡ fail (fails-at (r .floor) b k)
+  pub goes : MemberFrom (r .kind) (r .from) b u
 
 -- a count that fails no earlier than at q
 abbrev pub countRaised : Count → ℕ → Count
@@ -131,6 +147,11 @@ pub record MemberWritten (z : ℕ) (m : Parser Member) (b : ℕ) (u : List ℕ) 
 pub record MembersWritten (m : Parser (List Member)) (b : ℕ) (u : List ℕ) (at : ℕ) (w : MembersWrote) (old new : List ℕ) : Type 0 where
   pub written : Written (each unhoisted) m b u at (wroteTo w) old new
   pub latest : w .revision ≡ last-revision 0 (written .value)
+
+-- what a revision at b leaves, with the place p of its records and z the last one before it: no records, and it is the last one now
+abbrev pub revisionWrote : Number → (b p z : ℕ) → MembersWrote
+revisionWrote (Value n c) b p z = record { next = c; to = p; revision = n }
+revisionWrote (NoNumber l) b p z = record { next = b; to = p; revision = z }
 
 -- the first record of a cluster, by offsets
 abbrev pub cluster-first : FrontParts → ClusterHeadParts → ℕ → Record

@@ -12,6 +12,8 @@ use Rattle.items.specs.clusters.{mapped, cluster-after-doc-maturity}
 use Rattle.items.specs.endpoints.{endpoint}
 use Rattle.items.specs.items.{Item, cluster-item, endpoint-item, enum-item, bitmap-item, struct-item, declaration}
 use Rattle.items.specs.answers.{Front, CountsTo}
+use Rattle.items.specs.answers.choices.{ChoiceFrom}
+use Rattle.items.specs.answers.structs.{StructFrom}
 use Rattle.items.specs.answers.items.{unhoisted-item}
 use Rattle.items.specs.declared.counts.Count.{Count}
 use Rattle.items.specs.declared.clusters.MemberKind.{MemberKind}
@@ -44,6 +46,15 @@ declaration-try BitmapType d m = mapped (parse-bitmap-after-doc-maturity d m) bi
 declaration-try StructType d m = mapped (parse-struct-after-doc-maturity d m) struct-item
 declaration-try NoDeclaration d m = λ b u. fail b
 
+-- where it goes on: `shared` may stand before a type
+abbrev pub DeclarationFrom : DeclarationKind → ℕ → ℕ → List ℕ → Type 0
+DeclarationFrom Cluster f b u = Unit {0}
+DeclarationFrom Endpoint f b u = Unit {0}
+DeclarationFrom EnumType f b u = ChoiceFrom f b u
+DeclarationFrom BitmapType f b u = ChoiceFrom f b u
+DeclarationFrom StructType f b u = StructFrom f b u
+DeclarationFrom NoDeclaration f b u = Unit {0}
+
 -- its count, whatever the doc comment and the maturity before it
 abbrev pub KindCountTo : DeclarationKind → Count → ℕ → List ℕ → Type 0
 KindCountTo k r b u = CountsTo {I = Front} (λ i. unhoisted-item) (λ i. declaration-try k (i .doc) (i .maturity)) r b u
@@ -54,3 +65,4 @@ pub record StartTo (r : DeclarationStart) (b : ℕ) (u : List ℕ) : Type 0 wher
   pub inside : r .next ≤ b + length u
   pub small : r .maturity < 4
   pub leaves : (d : Doc) → declaration d b u ≡ further (r .floor) (declaration-try (r .kind) d (r .maturity) (r .next) (drop (r .next - b) u))
+  pub goes : DeclarationFrom (r .kind) (r .from) (r .next) (drop (r .next - b) u)

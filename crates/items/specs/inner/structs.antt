@@ -16,7 +16,7 @@ use Rattle.lexing.specs.declared.integers.Number.the-variants.{Value, NoNumber}
 use Rattle.items.specs.structs.{list-marker, StructType, regular, request, shared, response-code, struct-type-of}
 use Rattle.items.specs.members.{or-else}
 use Rattle.items.specs.records.{Record, at, bits, value, spanned, flag, plain, documented}
-use Rattle.items.specs.answers.{optionOf}
+use Rattle.items.specs.answers.{optionOf, BlankAt}
 use Rattle.items.specs.answers.structs.{typeOf}
 use Rattle.items.specs.declared.structs.MaxLength.{MaxLength}
 use Rattle.items.specs.declared.structs.MaxLength.the-variants.{Length, NoLength}
@@ -68,13 +68,13 @@ typeBy Shared = ret shared
 abbrev pub struct-words : List (List ℕ)
 struct-words = ascii "request" ∷ ascii "response" ∷ ascii "shared" ∷ []
 
--- the word before a struct, by the kind that it says
+-- the word before a struct, by the kind that it says, and the blanks behind it
 pub record StructWordTo (r : StructWord) (b : ℕ) (u : List ℕ) : Type 0 where
   pub read : Option Word
-  pub reads : reply (got read (r .next)) b u ≡ opt (any-keyword struct-words) b u
+  pub end : ℕ
+  pub reads : reply (got read end) b u ≡ opt (any-keyword struct-words) b u
   pub means : struct-type-of read ≡ typeBy (r .kind)
-  pub up : b ≤ r .next
-  pub inside : r .next ≤ b + length u
+  pub blanks : BlankAt (r .next) b u end
 
 -- the type of a struct whose code was read
 abbrev pub codeAnswer : StructKind → Number → Answer StructType

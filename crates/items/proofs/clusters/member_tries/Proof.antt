@@ -8,7 +8,7 @@ member-kind-requires : tie.Need-member-kind-requires
 member-kind-requires c κs = search needs
 
 count-member-requires : tie.Need-count-member-requires
-count-member-requires c κs = search needs
+count-member-requires c κs = (c .before .before .pre .0, c .member-kind .ensures .goes)
 
 raise-requires : tie.Need-raise-requires
 raise-requires c κs = tt

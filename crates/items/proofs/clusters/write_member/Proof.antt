@@ -26,7 +26,7 @@ member-kind-requires : tie.Need-member-kind-requires
 member-kind-requires c κs = (omega (arith, c .rest-at2 .ensures .size, c .before .before .before .before .before .before .pre .0), rest-clear (blank-took (c .before .before .rest-at .ensures) (c .before .whitespace0 .ensures)) (c .rest-at2 .ensures))
 
 write-kind-requires : tie.Need-write-kind-requires
-write-kind-requires c κs = (omega (arith, c .before .before .rest-at2 .ensures .size, c .before .before .before .before .before .before .before .before .pre .0), (c .before .before .before .before .before .before .before .before .pre .1 .0, (c .before .before .before .before .before .api-maturity .ensures .small, (left-room (c .before .member-kind .ensures) (docOf (c .before .before .before .before .before .before .before .before .args .doc)) _ (behind-room (docOf (c .before .before .before .before .before .before .before .before .args .doc)) (maturity-took (rest-self _ _) (c .before .before .before .before .before .api-maturity .ensures)) (blank-took (c .before .before .before .before .rest-at .ensures) (c .before .before .before .whitespace0 .ensures)) (c .before .before .rest-at2 .ensures) (c .before .before .before .before .before .before .before .before .pre .1 .1))))))
+write-kind-requires c κs = (omega (arith, c .before .before .rest-at2 .ensures .size, c .before .before .before .before .before .before .before .before .pre .0), (c .before .member-kind .ensures .goes, (c .before .before .before .before .before .before .before .before .pre .1 .0, (c .before .before .before .before .before .api-maturity .ensures .small, (left-room (c .before .member-kind .ensures) (docOf (c .before .before .before .before .before .before .before .before .args .doc)) _ (behind-room (docOf (c .before .before .before .before .before .before .before .before .args .doc)) (maturity-took (rest-self _ _) (c .before .before .before .before .before .api-maturity .ensures)) (blank-took (c .before .before .before .before .rest-at .ensures) (c .before .before .before .whitespace0 .ensures)) (c .before .before .rest-at2 .ensures) (c .before .before .before .before .before .before .before .before .pre .1 .1)))))))
 
 same-length : tie.Need-same-length
 same-length c = written-same (left-room (c .before .before .before .before .member-kind .ensures) (docOf (c .before .before .before .before .before .before .before .before .before .before .before .args .doc)) _ (behind-room (docOf (c .before .before .before .before .before .before .before .before .before .before .before .args .doc)) (maturity-took (rest-self _ _) (c .before .before .before .before .before .before .before .before .api-maturity .ensures)) (blank-took (c .before .before .before .before .before .before .before .rest-at .ensures) (c .before .before .before .before .before .before .whitespace0 .ensures)) (c .before .before .before .before .before .rest-at2 .ensures) (c .before .before .before .before .before .before .before .before .before .before .before .pre .1 .1))) (c .before .before .write-kind .ensures .written) refl

@@ -5,7 +5,7 @@ use mathlib.Core.Path.{refl}
 use native.Mathlib.Omega.{arith}
 use Rattle.lexing.specs.answers.{docOf}
 use Rattle.items.proofs.writing.Laws.{written-same}
-use Rattle.items.proofs.items.Laws.{start-room, start-written}
+use Rattle.items.proofs.items.Laws.{start-from, start-room, start-written}
 
 declaration-start-requires : tie.Need-declaration-start-requires
 declaration-start-requires c κs = search needs
@@ -14,7 +14,7 @@ rest-at-requires : tie.Need-rest-at-requires
 rest-at-requires c κs = omega (arith, (c .declaration-start .ensures) .from, (c .declaration-start .ensures) .inside)
 
 write-kind-requires : tie.Need-write-kind-requires
-write-kind-requires c κs = (omega (arith, c .before .rest-at .ensures .size, c .before .before .before .before .before .pre .0), (c .before .before .before .before .before .pre .1 .1 .0, ((c .before .before .declaration-start .ensures) .small, (start-room (docOf (c .before .before .before .before .before .args .doc)) (c .before .before .declaration-start .ensures) (c .before .rest-at .ensures) (c .before .before .before .before .before .pre .1 .1 .1)))))
+write-kind-requires c κs = (omega (arith, c .before .rest-at .ensures .size, c .before .before .before .before .before .pre .0), (start-from (c .before .before .declaration-start .ensures) (c .before .rest-at .ensures), (c .before .before .before .before .before .pre .1 .1 .0, ((c .before .before .declaration-start .ensures) .small, (start-room (docOf (c .before .before .before .before .before .args .doc)) (c .before .before .declaration-start .ensures) (c .before .rest-at .ensures) (c .before .before .before .before .before .pre .1 .1 .1))))))
 
 same-length : tie.Need-same-length
 same-length c = written-same (start-room (docOf (c .before .before .before .before .before .before .before .before .args .doc)) (c .before .before .before .before .before .declaration-start .ensures) (c .before .before .before .before .rest-at .ensures) (c .before .before .before .before .before .before .before .before .pre .1 .1 .1)) (c .before .before .write-kind .ensures) refl

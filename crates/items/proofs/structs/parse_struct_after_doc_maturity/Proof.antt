@@ -9,7 +9,7 @@ use Rattle.items.proofs.counts.Laws.{count-took, count-lost}
 use Rattle.items.proofs.structs.Laws.{head-took, head-none, struct-fields-on, struct-headed}
 
 struct-head-requires : tie.Need-struct-head-requires
-struct-head-requires c κs = search needs
+struct-head-requires c κs = c .before .pre
 
 enum-known-head : tie.Need-enum-known-head
 enum-known-head c = c .match .keys1
@@ -38,8 +38,8 @@ enum-told-2 c = c .match2 .keys2
 returns-2 : tie.Need-returns-2
 returns-2 c = headed-pass struct-headed (head-took (rest-self _ _) (c .before .before .before .before .before .before .before .struct-head .ensures) (c .before .before .before .before .before .head .given .1)) _ _ (c .enum-told2 .given .1) (c .before .before .before .rest-at .ensures) (count-lost _ (c .enum-told2 .given .1) _ _ (c .before .before .struct-fields .ensures))
 
-add-t10 : tie.Need-add-t10
-add-t10 c = let k = (count-took struct-fields-on (c .before .before .before .before .rest-at .ensures) (c .before .fields .given .1) (c .before .before .before .struct-fields .ensures)) in omega (arith, k .few, k .step .inside, c .before .before .before .before .before .before .before .before .before .before .pre)
+add-t11 : tie.Need-add-t11
+add-t11 c = let k = (count-took struct-fields-on (c .before .before .before .before .rest-at .ensures) (c .before .fields .given .1) (c .before .before .before .struct-fields .ensures)) in omega (arith, k .few, k .step .inside, c .before .before .before .before .before .before .before .before .before .before .pre .0)
 
 returns-3 : tie.Need-returns-3
 returns-3 c = headed-counted struct-headed (head-took (rest-self _ _) (c .before .before .before .before .before .before .before .before .struct-head .ensures) (c .before .before .before .before .before .before .head .given .1)) struct-head-consumes (omega arith) (count-took struct-fields-on (c .before .before .before .before .rest-at .ensures) (c .before .fields .given .1) (c .before .before .before .struct-fields .ensures))
@@ -58,5 +58,5 @@ parse-struct-after-doc-maturity-spec =
     enum-known-fields
     enum-told-2
     returns-2
-    add-t10
+    add-t11
     returns-3)

@@ -1,4 +1,3 @@
-use borrow.Author.Needs.{needs}
 use Rattle.items.proofs.structs.write_struct.Statement.{statement}
 use Rattle.items.proofs.structs.write_struct.Tie as tie
 use mathlib.Core.Path.{refl, sym, ap}
@@ -11,7 +10,7 @@ use Rattle.items.proofs.writing.Laws.{written-same}
 use Rattle.items.proofs.structs.Laws.{head-took, head-none, head-between, struct-fields-on, struct-headed, struct-first-is, head-in-limit}
 
 struct-head-requires : tie.Need-struct-head-requires
-struct-head-requires c κs = search needs
+struct-head-requires c κs = (c .before .before .pre .0, c .before .before .pre .1 .0)
 
 enum-known-head : tie.Need-enum-known-head
 enum-known-head c = c .match .keys1
@@ -20,25 +19,25 @@ enum-told : tie.Need-enum-told
 enum-told c = c .match .keys2
 
 returns : tie.Need-returns
-returns c = absurd (headed-found struct-headed (frontOf (c .before .before .before .before .before .args .front)) (c .before .before .before .before .before .pre .1 .1) (c .enum-told .given .0 .0) (head-none (rest-self _ _) (c .before .before .struct-head .ensures) (sym (ap headLost (c .enum-told .given .1))) (c .enum-told .given .1)))
+returns c = absurd (headed-found struct-headed (frontOf (c .before .before .before .before .before .args .front)) (c .before .before .before .before .before .pre .1 .1 .1) (c .enum-told .given .0 .0) (head-none (rest-self _ _) (c .before .before .struct-head .ensures) (sym (ap headLost (c .enum-told .given .1))) (c .enum-told .given .1)))
 
 rest-at-requires : tie.Need-rest-at-requires
 rest-at-requires c κs = omega (arith, (head-took (rest-self _ _) (c .before .before .before .struct-head .ensures) (c .before .head .given .1)) .up, (head-took (rest-self _ _) (c .before .before .before .struct-head .ensures) (c .before .head .given .1)) .inside)
 
 add-write-struct-fields : tie.Need-add-write-struct-fields
-add-write-struct-fields c = let z = (headed-room struct-headed (frontOf (c .before .before .before .before .before .before .before .before .args .front)) (c .before .before .before .before .before .before .before .before .pre .1 .1) struct-fields-on (head-took (rest-self _ _) (c .before .before .before .before .before .struct-head .ensures) (c .before .before .before .head .given .1)) (c .before .rest-at .ensures)) in omega (arith, z .fits)
+add-write-struct-fields c = let z = (headed-room struct-headed (frontOf (c .before .before .before .before .before .before .before .before .args .front)) (c .before .before .before .before .before .before .before .before .pre .1 .1 .1) struct-fields-on (head-took (rest-self _ _) (c .before .before .before .before .before .struct-head .ensures) (c .before .before .before .head .given .1)) (c .before .rest-at .ensures)) in omega (arith, z .fits)
 
 write-struct-fields-requires : tie.Need-write-struct-fields-requires
-write-struct-fields-requires c κs = (omega (arith, c .before .rest-at .ensures .size, c .before .before .before .before .before .before .before .before .pre .0), (headed-room struct-headed (frontOf (c .before .before .before .before .before .before .before .before .args .front)) (c .before .before .before .before .before .before .before .before .pre .1 .1) struct-fields-on (head-took (rest-self _ _) (c .before .before .before .before .before .struct-head .ensures) (c .before .before .before .head .given .1)) (c .before .rest-at .ensures)))
+write-struct-fields-requires c κs = (omega (arith, c .before .rest-at .ensures .size, c .before .before .before .before .before .before .before .before .pre .0), (headed-room struct-headed (frontOf (c .before .before .before .before .before .before .before .before .args .front)) (c .before .before .before .before .before .before .before .before .pre .1 .1 .1) struct-fields-on (head-took (rest-self _ _) (c .before .before .before .before .before .struct-head .ensures) (c .before .before .before .head .given .1)) (c .before .rest-at .ensures)))
 
 put-struct-requires : tie.Need-put-struct-requires
-put-struct-requires c κs = let z = (headed-room struct-headed (frontOf (c .before .before .before .before .before .before .before .before .before .before .before .before .args .front)) (c .before .before .before .before .before .before .before .before .before .before .before .before .pre .1 .1) struct-fields-on (head-took (rest-self _ _) (c .before .before .before .before .before .before .before .before .before .struct-head .ensures) (c .before .before .before .before .before .before .before .head .given .1)) (c .before .before .before .before .before .rest-at .ensures)) in let y = written-same z (c .before .before .before .write-struct-fields .ensures) refl in (omega (arith, z .fits, y), (c .before .before .before .before .before .before .before .before .before .before .before .before .pre .1 .0, head-in-limit (head-between (rest-self _ _) (c .before .before .before .before .before .before .before .before .before .struct-head .ensures) (c .before .before .before .before .before .before .before .head .given .1)) (omega (arith, (head-took (rest-self _ _) (c .before .before .before .before .before .before .before .before .before .struct-head .ensures) (c .before .before .before .before .before .before .before .head .given .1)) .inside, c .before .before .before .before .before .before .before .before .before .before .before .before .pre .0))))
+put-struct-requires c κs = let z = (headed-room struct-headed (frontOf (c .before .before .before .before .before .before .before .before .before .before .before .before .args .front)) (c .before .before .before .before .before .before .before .before .before .before .before .before .pre .1 .1 .1) struct-fields-on (head-took (rest-self _ _) (c .before .before .before .before .before .before .before .before .before .struct-head .ensures) (c .before .before .before .before .before .before .before .head .given .1)) (c .before .before .before .before .before .rest-at .ensures)) in let y = written-same z (c .before .before .before .write-struct-fields .ensures) refl in (omega (arith, z .fits, y), (c .before .before .before .before .before .before .before .before .before .before .before .before .pre .1 .1 .0, head-in-limit (head-between (rest-self _ _) (c .before .before .before .before .before .before .before .before .before .struct-head .ensures) (c .before .before .before .before .before .before .before .head .given .1)) (omega (arith, (head-took (rest-self _ _) (c .before .before .before .before .before .before .before .before .before .struct-head .ensures) (c .before .before .before .before .before .before .before .head .given .1)) .inside, c .before .before .before .before .before .before .before .before .before .before .before .before .pre .0))))
 
 same-length : tie.Need-same-length
-same-length c = written-same (c .before .before .before .before .before .before .before .before .before .before .before .before .before .before .before .pre .1 .1) (headed-written struct-headed (frontOf (c .before .before .before .before .before .before .before .before .before .before .before .before .before .before .before .args .front)) (c .before .before .before .before .before .before .before .before .before .before .before .before .before .before .before .pre .1 .1) struct-fields-on (head-took (rest-self _ _) (c .before .before .before .before .before .before .before .before .before .before .before .before .struct-head .ensures) (c .before .before .before .before .before .before .before .before .before .before .head .given .1)) (c .before .before .before .before .before .before .before .before .rest-at .ensures) (c .before .before .before .before .before .before .write-struct-fields .ensures) refl (struct-first-is (c .before .before .before .before .before .before .before .before .before .before .before .before .before .before .before .args .front) _ (c .before .before .before .before .before .before .before .before .before .before .before .before .before .before .before .args .part .now) _ _ _ (head-between (rest-self _ _) (c .before .before .before .before .before .before .before .before .before .before .before .before .struct-head .ensures) (c .before .before .before .before .before .before .before .before .before .before .head .given .1)) ((head-took (rest-self _ _) (c .before .before .before .before .before .before .before .before .before .before .before .before .struct-head .ensures) (c .before .before .before .before .before .before .before .before .before .before .head .given .1)) .inside)) (c .before .before .put-struct .ensures)) refl
+same-length c = written-same (c .before .before .before .before .before .before .before .before .before .before .before .before .before .before .before .pre .1 .1 .1) (headed-written struct-headed (frontOf (c .before .before .before .before .before .before .before .before .before .before .before .before .before .before .before .args .front)) (c .before .before .before .before .before .before .before .before .before .before .before .before .before .before .before .pre .1 .1 .1) struct-fields-on (head-took (rest-self _ _) (c .before .before .before .before .before .before .before .before .before .before .before .before .struct-head .ensures) (c .before .before .before .before .before .before .before .before .before .before .head .given .1)) (c .before .before .before .before .before .before .before .before .rest-at .ensures) (c .before .before .before .before .before .before .write-struct-fields .ensures) refl (struct-first-is (c .before .before .before .before .before .before .before .before .before .before .before .before .before .before .before .args .front) _ (c .before .before .before .before .before .before .before .before .before .before .before .before .before .before .before .args .part .now) _ _ _ (head-between (rest-self _ _) (c .before .before .before .before .before .before .before .before .before .before .before .before .struct-head .ensures) (c .before .before .before .before .before .before .before .before .before .before .head .given .1)) ((head-took (rest-self _ _) (c .before .before .before .before .before .before .before .before .before .before .before .before .struct-head .ensures) (c .before .before .before .before .before .before .before .before .before .before .head .given .1)) .inside)) (c .before .before .put-struct .ensures)) refl
 
 returns-2 : tie.Need-returns-2
-returns-2 c = (headed-written struct-headed (frontOf (c .before .before .before .before .before .before .before .before .before .before .before .before .before .before .before .args .front)) (c .before .before .before .before .before .before .before .before .before .before .before .before .before .before .before .pre .1 .1) struct-fields-on (head-took (rest-self _ _) (c .before .before .before .before .before .before .before .before .before .before .before .before .struct-head .ensures) (c .before .before .before .before .before .before .before .before .before .before .head .given .1)) (c .before .before .before .before .before .before .before .before .rest-at .ensures) (c .before .before .before .before .before .before .write-struct-fields .ensures) refl (struct-first-is (c .before .before .before .before .before .before .before .before .before .before .before .before .before .before .before .args .front) _ (c .before .before .before .before .before .before .before .before .before .before .before .before .before .before .before .args .part .now) _ _ _ (head-between (rest-self _ _) (c .before .before .before .before .before .before .before .before .before .before .before .before .struct-head .ensures) (c .before .before .before .before .before .before .before .before .before .before .head .given .1)) ((head-took (rest-self _ _) (c .before .before .before .before .before .before .before .before .before .before .before .before .struct-head .ensures) (c .before .before .before .before .before .before .before .before .before .before .head .given .1)) .inside)) (c .before .before .put-struct .ensures))
+returns-2 c = (headed-written struct-headed (frontOf (c .before .before .before .before .before .before .before .before .before .before .before .before .before .before .before .args .front)) (c .before .before .before .before .before .before .before .before .before .before .before .before .before .before .before .pre .1 .1 .1) struct-fields-on (head-took (rest-self _ _) (c .before .before .before .before .before .before .before .before .before .before .before .before .struct-head .ensures) (c .before .before .before .before .before .before .before .before .before .before .head .given .1)) (c .before .before .before .before .before .before .before .before .rest-at .ensures) (c .before .before .before .before .before .before .write-struct-fields .ensures) refl (struct-first-is (c .before .before .before .before .before .before .before .before .before .before .before .before .before .before .before .args .front) _ (c .before .before .before .before .before .before .before .before .before .before .before .before .before .before .before .args .part .now) _ _ _ (head-between (rest-self _ _) (c .before .before .before .before .before .before .before .before .before .before .before .before .struct-head .ensures) (c .before .before .before .before .before .before .before .before .before .before .head .given .1)) ((head-took (rest-self _ _) (c .before .before .before .before .before .before .before .before .before .before .before .before .struct-head .ensures) (c .before .before .before .before .before .before .before .before .before .before .head .given .1)) .inside)) (c .before .before .put-struct .ensures))
 
 pub write-struct-spec : {M : Type 1} → statement M
 write-struct-spec =
