@@ -7,14 +7,14 @@ use borrow.Author.Tests.{le-leb}
 use Rattle.lexing.specs.outcomes.{written, fitted}
 use Rattle.items.specs.records.{moved, each}
 use Rattle.items.specs.layout.{Layout, layout-20, catalogue-bytes, text-limit}
-use Rattle.items.proofs.RecordWords.{words-bytes-length}
 use Rattle.matter_idl.specs.hoisting.{no-ids, hoisted}
 use Rattle.matter_idl.specs.reading.{Verdict, accepted, turned-down, verdict, into-catalogue, reading}
 use Rattle.matter_idl.specs.sections.{sections}
-use Rattle.matter_idl.specs.survey.{items-of, accepted-items, Entry, sound, spoilt, ReportLayout, report-20, entry-words, report-bytes, surveyed, for-catalogue, into-buffers, survey}
+use Rattle.matter_idl.specs.survey.{items-of, accepted-items, ReportLayout, report-20, surveyed, for-catalogue, into-buffers, survey}
 use Rattle.matter_idl.specs.demand_3.{alone, own-records, fed, globals, entries-alone, catalogue-for, report-for, LongEnough, EachAccepted, moved-entry, extent-of, Replacement, Replaced, Demand3Over, Demand3Now}
 use Rattle.matter_idl.proofs.HandedOut.{handed-own, handed-places, handed-hoisted, handed-ids}
 use Rattle.matter_idl.proofs.hoisting.Types.{hoisted-globals}
+use Rattle.matter_idl.proofs.survey.Laws.{report-length}
 use Rattle.matter_idl.proofs.Replacing.{moved-by, entries-along, entries-moved, numbers-same, saved-own, saved-along, saved-moved, old-along, new-along}
 use Rattle.matter_idl.proofs.Cutting.{sections-joined}
 use Rattle.matter_idl.proofs.SectionsAlone.{each-short, entries-as-alone}
@@ -92,20 +92,14 @@ demand-3 L R u n m h k =
     }
 
 -- Document 01's layouts: a report has 8 bytes a section.
-words-20 : (l : List Entry) → length (each (entry-words report-20) l) ≡ length l
-unfolding each entry-words report-20
-words-20 [] = refl
-words-20 (sound b n ∷ l) = ap suc (words-20 l)
-words-20 (spoilt b n k p ∷ l) = ap suc (words-20 l)
-
 entries-count : (b : ℕ) (ss : List (List ℕ)) → length (entries-alone b ss) ≡ length ss
 unfolding entries-alone
 entries-count b [] = refl
 entries-count b (s ∷ ss) = ap suc (entries-count (b + length s) ss)
 
-pub report-length : (u : List ℕ) → length (report-for report-20 u) ≡ 8 * length (sections u)
-unfolding report-for report-bytes
-report-length u = words-bytes-length (each (entry-words report-20) (entries-alone 0 (sections u))) ∙ ap (λ n. 8 * n) (words-20 (entries-alone 0 (sections u)) ∙ entries-count 0 (sections u))
+rows : (u : List ℕ) → length (report-for report-20 u) ≡ 8 * length (sections u)
+unfolding report-for
+rows u = report-length (entries-alone 0 (sections u)) ∙ ap (λ n. 8 * n) (entries-count 0 (sections u))
 
 pub demand-3-now : Demand3Now
-demand-3-now u n m h k j = demand-3 layout-20 report-20 u n m h (record { catalogue = k; report = rw (report-length u) j })
+demand-3-now u n m h k j = demand-3 layout-20 report-20 u n m h (record { catalogue = k; report = rw (rows u) j })

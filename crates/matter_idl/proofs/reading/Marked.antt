@@ -15,7 +15,7 @@ use Rattle.items.specs.buffers.{put}
 use Rattle.items.specs.answers.{Room, Written}
 use Rattle.items.specs.answers.items.{unhoisted-item}
 use Rattle.items.specs.declared.writing.Wrote.{Wrote}
-use Rattle.items.proofs.Truth.{All, ItemTrue}
+use Rattle.items.proofs.Truth.{ItemTrue}
 use Rattle.items.proofs.RecordsFit.{all-append}
 use Rattle.items.proofs.RecordWords.{catalogue-bytes-none, catalogue-bytes-append, catalogue-bytes-length, word-count-none, word-count-append, word-count-more, each-elementwise}
 use Rattle.matter_idl.specs.hoisting.{Tables, no-ids, after-items, hoisted}

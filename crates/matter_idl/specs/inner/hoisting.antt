@@ -4,10 +4,10 @@ use mathlib.Core.Path.{_≡_}
 use mathlib.Core.Bool.{Bool, true, false, _&&_, _||_}
 use mathlib.Core.List.{List, [], _∷_, _++_}
 use lib.Dec.{eqb}
-use lib.ListN.{length, take, drop}
+use lib.ListN.{length}
 use Rattle.lexing.specs.word_sets.{same-bytes}
 use Rattle.items.specs.records.{Extent, at, Record}
-use Rattle.items.specs.layout.{from-top, offset, size, layout-20, big-endian, catalogue-bytes, word-count}
+use Rattle.items.specs.layout.{from-top, offset, layout-20, big-endian, catalogue-bytes, word-count}
 use Rattle.items.specs.items.{Item}
 use Rattle.items.specs.answers.items.{unhoisted-item}
 use Rattle.items.proofs.Truth.{All, ItemTrue}
