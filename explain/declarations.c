@@ -152,10 +152,8 @@ static void print_cluster(struct text text, const struct declaration *current) {
     if (revision)
         printf(", revision %" PRIu64, revision);
     print_counts(current, parts);
-    if (current->global_types)
-        printf("; %zu of the types global", current->global_types);
-    if (current->dropped_types)
-        printf("; %zu of the types dropped", current->dropped_types);
+    if (current->global_types || current->dropped_types)
+        printf("; shared types: %zu global, %zu dropped", current->global_types, current->dropped_types);
 }
 
 static void print_endpoint(const struct declaration *current) {
@@ -193,7 +191,8 @@ static void print_struct(struct text text, const struct declaration *current) {
     print_counts(current, parts);
 }
 
-static void print_declaration(struct text text, const struct declaration *current) {
+static void print_declaration(struct text text, const struct declaration *current, const char *lead) {
+    printf("%-14s ", lead);
     switch (matter_idl_kind(matter_idl_word(current->record))) {
     case MATTER_IDL_CLUSTER:
         print_cluster(text, current);
@@ -218,8 +217,7 @@ void tell_declarations(struct text text, const uint8_t *records, size_t length, 
         int starts = starts_declaration(text, &current, first);
         if (starts) {
             if (current.record) {
-                printf("%-14s ", lead);
-                print_declaration(text, &current);
+                print_declaration(text, &current, lead);
                 lead = "";
             }
             start(&current, records + at, totals);
@@ -227,8 +225,6 @@ void tell_declarations(struct text text, const uint8_t *records, size_t length, 
         count(&current, first, !starts, totals);
         at += 8 * matter_idl_record_words(matter_idl_kind(first));
     }
-    if (current.record) {
-        printf("%-14s ", lead);
-        print_declaration(text, &current);
-    }
+    if (current.record)
+        print_declaration(text, &current, lead);
 }

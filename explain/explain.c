@@ -24,7 +24,7 @@ static const char *cause(unsigned number, int at_end) {
     case MATTER_IDL_NOT_UTF8:
         return "the bytes that start here are not UTF-8";
     case MATTER_IDL_NO_ITEM:
-        return at_end ? "the section ends here, where a declaration has yet to go on"
+        return at_end ? "the section ends here, before its declaration does"
                       : "what starts here can't be read as a declaration or as a part of one";
     case MATTER_IDL_NUMBER_TOO_LARGE:
         return "this number is larger than 18446744073709551615 (2^64 - 1)";
@@ -89,9 +89,12 @@ static const char *plural(size_t count) {
 }
 
 static void print_summary(const struct totals *t) {
-    printf("\n%zu section%s: %zu accepted", t->sections, plural(t->sections), t->sections - t->refused);
+    /* An empty line parts it from what is above. */
+    if (t->sections > t->blank)
+        putchar('\n');
+    printf("%zu section%s: %zu accepted", t->sections, plural(t->sections), t->sections - t->refused);
     if (t->blank)
-        printf(" (%zu of them blank)", t->blank);
+        printf(" (%zu blank)", t->blank);
     printf(", %zu refused; %zu declaration%s; %zu global type%s, %zu dropped\n", t->refused, t->declarations,
            plural(t->declarations), t->global_types, plural(t->global_types), t->dropped_types);
 }

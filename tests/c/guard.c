@@ -340,7 +340,7 @@ struct state {
 static volatile sig_atomic_t text_number;
 
 static void outside(int signal_number) {
-    char line[] = "guard: a byte outside a buffer is touched, at text ..........\n";
+    char line[] = "guard: a byte outside a buffer is touched, or one of a text written, at text ..........\n";
     unsigned long n = (unsigned long)text_number;
     (void)signal_number;
     for (size_t i = sizeof line - 3; line[i] == '.' || n; n /= 10)
