@@ -70,9 +70,13 @@ static size_t print_refused(const uint8_t *report, size_t sections) {
 
 int main(int argc, char **argv) {
     size_t length = 0;
-    uint8_t *text = argc == 2 ? load(argv[1], &length) : NULL;
+    if (argc != 2) {
+        fputs("usage: clusters FILE\n", stderr);
+        return 2;
+    }
+    uint8_t *text = load(argv[1], &length);
     if (!text) {
-        fputs("clusters FILE: the file can't be read\n", stderr);
+        fprintf(stderr, "clusters: %s can't be read\n", argv[1]);
         return 2;
     }
     size_t sections = matter_idl_sections(text, length);
