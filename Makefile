@@ -13,12 +13,12 @@ CALLS = 1000000
 HEADER = include/matter_idl.h
 COMPILE = $(CC) $(CFLAGS) -Iinclude
 PROGRAMS = build/explain build/clusters
-TESTS = build/known build/guard build/header_c99
+TESTS = build/header_c99 build/known build/survey build/guard
 
 all: $(PROGRAMS)
 
-$(ARCHIVE):
-	@command -v rt >/dev/null || { echo "$(ARCHIVE) isn't there, and neither is rt, which makes it (rt staticlib matter_idl)"; exit 1; }
+target/staticlib/libmatter_idl.a:
+	@command -v rt >/dev/null || { echo "$@ isn't there, and neither is rt, which makes it (rt staticlib matter_idl)"; exit 1; }
 	rt staticlib matter_idl
 
 build:
@@ -31,6 +31,9 @@ build/clusters: examples/c/clusters.c $(HEADER) $(ARCHIVE) | build
 	$(COMPILE) -o $@ $< $(ARCHIVE)
 
 build/known: tests/c/known.c $(ARCHIVE) | build
+	$(COMPILE) -o $@ $< $(ARCHIVE)
+
+build/survey: tests/c/survey.c $(HEADER) $(ARCHIVE) | build
 	$(COMPILE) -o $@ $< $(ARCHIVE)
 
 build/guard: tests/c/guard.c $(HEADER) $(ARCHIVE) | build
@@ -47,6 +50,7 @@ test: $(PROGRAMS) $(TESTS)
 	build/header_c99
 	if command -v $(CXX) >/dev/null; then $(MAKE) build/header_cxx && build/header_cxx; fi
 	build/known
+	build/survey
 	tests/explain
 	tests/client
 	build/guard $(CALLS)
