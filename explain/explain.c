@@ -25,7 +25,7 @@ static const char *cause(unsigned number, int at_end) {
         return "the bytes that start here are not UTF-8";
     case MATTER_IDL_NO_ITEM:
         return at_end ? "the section ends here, before its declaration does"
-                      : "what starts here can't be read as a declaration or as a part of one";
+                      : "nothing that may stand here can be read; look at what starts here and at the end of what stands before";
     case MATTER_IDL_NUMBER_TOO_LARGE:
         return "this number is larger than 18446744073709551615 (2^64 - 1)";
     case MATTER_IDL_ESCAPED_RETURN:
