@@ -1,0 +1,30 @@
+/* What the files of `explain` share. */
+#ifndef EXPLAIN_H
+#define EXPLAIN_H
+
+#include <stddef.h>
+#include <stdint.h>
+
+struct text {
+    const uint8_t *bytes;
+    size_t length;
+};
+
+/* What the summary adds up. Declarations are those at the top of the text: clusters, endpoints and types. */
+struct totals {
+    size_t sections, refused, blank, declarations, global_types, dropped_types;
+};
+
+/* input.c: the whole of a file, or of standard input if the name is NULL. Answers 0 if it can't be had, having said why. */
+int read_input(const char *name, struct text *text);
+
+/* declarations.c: one line for each declaration that a section's records hold, the first one behind `lead`. */
+void tell_declarations(struct text text, const uint8_t *records, size_t length, const char *lead, struct totals *totals);
+
+/* place.c: how many characters of its line stand before the place, and 1. */
+size_t column_of(struct text text, size_t place);
+
+/* place.c: the place's line, or what stands around the place if the line is long, and a caret below. */
+void show_place(struct text text, size_t place, size_t line);
+
+#endif

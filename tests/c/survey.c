@@ -1,0 +1,92 @@
+/* Known answers of the survey through the C interface: result, catalogue and report, and what both hold if it is refused. */
+#include "matter_idl.h"
+
+#include <stdio.h>
+#include <string.h>
+
+#define WORDS(...) {__VA_ARGS__}, sizeof((const uint64_t[]){__VA_ARGS__}) / sizeof(uint64_t)
+#define NO_WORDS {0}, 0
+
+struct known {
+    const char *text;
+    uint64_t words[16];
+    size_t count;
+    uint64_t sections[4];
+    size_t section_count;
+};
+
+static const struct known surveys[] = {
+    /* The empty text is one empty section. */
+    {"", NO_WORDS, WORDS(0)},
+    /* docs/FORMAT.md's example, whole and with its first section spoilt. */
+    {"enum A:t{\n}\nenum B:t{\n}", WORDS(0x0240000005000010, 0, 0x0000700001000000, 0x0240000011000010, 0, 0x0001300001000000),
+     WORDS(0x000000000b000000, 0x0000b0000c000000, 0x0001700000000000)},
+    {"enum A:?{\n}\nenum B:t{\n}", WORDS(0x0240000011000010, 0, 0x0001300001000000),
+     WORDS(0x000000000b300007, 0x0000b0000c000000, 0x0001700000000000)},
+    /* An id of an accepted section is known to those behind it, one of a refused section is not. */
+    {"cluster C=1{\nshared enum E:t{}\n}cluster D=2{\nshared enum E:t{}\n}",
+     WORDS(0x0100000008000010, 0, 1, 0, 0x0244000019000010, 0, 0x0001b00001000000, 0x0100000028000010, 0, 2, 0, 0x0284000039000010, 0, 0x0003b00001000000),
+     WORDS(0x0000000020000000, 0x0002000020000000, 0x0004000000000000)},
+    {"cluster ?=1{\nshared enum E:t{}\n}cluster D=2{\nshared enum E:t{}\n}",
+     WORDS(0x0100000028000010, 0, 2, 0, 0x0244000039000010, 0, 0x0003b00001000000),
+     WORDS(0x0000000020300008, 0x0002000020000000, 0x0004000000000000)},
+    /* A doc comment that is empty has an offset, which moves; one that is absent stays 0. */
+    {"enum A:t{\n}/***/enum B:t{\n}", WORDS(0x0240000005000010, 0, 0x0000700001000000, 0x0248000015000010, 0x0000e00000000000, 0x0001700001000000),
+     WORDS(0x000000000b000000, 0x0000b00010000000, 0x0001b00000000000)},
+    /* The numbers 2, 4, 5 and 6 with offsets of the whole text. A cut inside a comment spoils both sides. */
+    {"\n}\n\xff", NO_WORDS, WORDS(0x0000000002300001, 0x0000200002200003)},
+    {"\n}enum E:t{a=18446744073709551616;}", NO_WORDS, WORDS(0x0000000002300001, 0x000020002140000d)},
+    {"\n}endpoint 0{server cluster C{ram attribute a default=\"\\r\";}}", NO_WORDS, WORDS(0x0000000002300001, 0x000020003b500037)},
+    {"\n}cluster C=1{attribute access(READ: view) t a=1;}", NO_WORDS, WORDS(0x0000000002300001, 0x000020003060001f)},
+    {"/*\n}*/", NO_WORDS, WORDS(0x0000000004300000, 0x0000400002300004)},
+};
+
+static int failed;
+
+static void expect(int holds, const char *what, const char *text) {
+    if (!holds) {
+        printf("%s: %s\n", what, text);
+        failed = 1;
+    }
+}
+
+static void put_words(uint8_t *bytes, const uint64_t *words, size_t count) {
+    for (size_t i = 0; i < 8 * count; i++)
+        bytes[i] = (uint8_t)(words[i / 8] >> (56 - 8 * (i % 8)));
+}
+
+static void surveyed(const struct known *k, size_t catalogue_length, size_t report_length) {
+    uint8_t catalogue[256], report[64], catalogue_after[256], report_after[64];
+    uint64_t needed = 8 * k->count, report_needed = 8 * k->section_count, result = needed;
+    memset(catalogue, 0xa5, sizeof catalogue);
+    memset(report, 0x5a, sizeof report);
+    memcpy(catalogue_after, catalogue, sizeof catalogue);
+    memcpy(report_after, report, sizeof report);
+    if (report_length < report_needed) {
+        result = ((uint64_t)MATTER_IDL_REPORT_TOO_SHORT << 56) + report_needed;
+    } else if (catalogue_length < needed) {
+        result = ((uint64_t)MATTER_IDL_CATALOGUE_TOO_SHORT << 56) + needed;
+    } else {
+        put_words(catalogue_after, k->words, k->count);
+        put_words(report_after, k->sections, k->section_count);
+    }
+    uint64_t is = matter_idl_survey((const uint8_t *)k->text, strlen(k->text), catalogue, catalogue_length, report, report_length);
+    expect(is == result, "result", k->text);
+    expect(memcmp(catalogue, catalogue_after, sizeof catalogue) == 0, "catalogue", k->text);
+    expect(memcmp(report, report_after, sizeof report) == 0, "report", k->text);
+}
+
+int main(void) {
+    size_t count = sizeof surveys / sizeof surveys[0];
+    for (size_t i = 0; i < count; i++) {
+        const struct known *k = &surveys[i];
+        expect(matter_idl_sections((const uint8_t *)k->text, strlen(k->text)) == k->section_count, "sections", k->text);
+        surveyed(k, 256, 64);
+        for (size_t length = 0; length <= 8 * k->count; length++)
+            surveyed(k, length, 8 * k->section_count);
+        for (size_t length = 0; length < 8 * k->section_count; length++)
+            surveyed(k, 8 * k->count - (k->count ? length % 2 : 0), length);
+    }
+    printf("%zu surveys from C, %s\n", count, failed ? "some answers differ" : "all as known");
+    return failed;
+}
