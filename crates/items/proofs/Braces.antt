@@ -14,6 +14,8 @@ use Rattle.lexing.specs.blanks.{Doc, no-doc, one-blank, whitespace0}
 use Rattle.lexing.specs.answers.{Rest, lostReply}
 use Rattle.lexing.specs.declared.answers.Lost.{Lost}
 use Rattle.lexing.specs.declared.answers.Lost.the-variants.{Fail, Stop}
+use Rattle.lexing.specs.declared.answers.Step.{Step as Answered}
+use Rattle.lexing.specs.declared.answers.Step.the-variants.{Next, Not}
 use Rattle.lexing.proofs.Runs.{suf-length}
 use Rattle.lexing.proofs.Chain.{MovesTo, to-suf}
 use Rattle.lexing.proofs.Onward.{Ends, Onward}
@@ -23,10 +25,15 @@ use Rattle.lexing.proofs.words.Laws.{keyword-no-word}
 use Rattle.lexing.proofs.Slicing.{Took, took, begin, go, on, lose, fall, done, rest-self, rest-from, suf-drop}
 use Rattle.items.specs.entries.{enclosed, where-missing, braces}
 use Rattle.items.specs.records.{Record}
-use Rattle.items.specs.answers.{Room, Written}
+use Rattle.items.specs.answers.{SkipsAt, CountTo, Room, Written}
+use Rattle.items.specs.inner.counts.{EndsIn, closedCount, ClosedTo}
+use Rattle.items.specs.declared.counts.Count.{Count}
+use Rattle.items.specs.declared.counts.Count.the-variants.{Words, NoCount}
 use Rattle.items.specs.declared.writing.Wrote.{Wrote}
 use Rattle.items.proofs.Locality.{close-moves}
 use Rattle.items.proofs.Tries.{bind-fail}
+use Rattle.items.proofs.steps.Laws.{tag-behind-took, skips-lost}
+use Rattle.items.proofs.counts.Laws.{Counted, count-took, count-lost, count-is, count-not}
 use Rattle.items.proofs.writing.Laws.{no-room, written-took}
 
 -- what is lost, where a failure is caught
@@ -59,28 +66,38 @@ module _ (b : ℕ) (u : List ℕ) where
   unfolding whitespace0 one-blank keep isSpace within
   brace-blank = iter-fail one-blank keep one-blank-consumes no-doc b (125 ∷ u) b (bind-fail _ _ (no-group b 125 u refl))
 
--- the closing brace
-module _ {b n : ℕ} {u : List ℕ} {d : Doc} {c : ℕ} (t : Took whitespace0 b u n d c) where
-  pub close-took : (h : ℕ → Parser (Unit {0})) {e : ℕ} → Took (tag 125) b u c tt e → Took (catch (whitespace0 >> tag 125) h) b u n tt e
-  unfolding catch
-  close-took h {e} s =
-      let q : ok tt e (drop (e - b) u) ≡ (whitespace0 >> tag 125) n (drop (n - b) u) = on (tag 125) t (sym (s .goes)) in
-      record { goes = rw (sym q, catch) refl; up = omega (arith, t .up, s .up); inside = s .inside }
+-- the closing brace behind blanks
+closing-took : (h : ℕ → Parser (Unit {0})) {b n : ℕ} {u : List ℕ} {v : Unit {0}} {e : ℕ} → Took (whitespace0 >> tag 125) b u n v e → Took (catch (whitespace0 >> tag 125) h) b u n v e
+unfolding catch
+closing-took h t = record { goes = rw (t .goes, catch) refl; up = t .up; inside = t .inside }
 
-  -- lost, by what is done where it fails
+-- lost, by what is done where it fails
+closing-caught : (h : ℕ → Parser (Unit {0})) (l : Lost) (n : ℕ) (r : List ℕ) → lostReply l ≡ (whitespace0 >> tag 125) n r → caught h l n r ≡ catch (whitespace0 >> tag 125) h n r
+unfolding catch
+closing-caught h (Fail p) n r q = rw (sym q, catch) refl
+closing-caught h (Stop i p) n r q = rw (sym q, catch) refl
+
+closing-lost : {S : Type 0} (x : S) (l : Lost) (n : ℕ) (r : List ℕ) → lostReply l ≡ (whitespace0 >> tag 125) n r → lostReply l ≡ catch (whitespace0 >> tag 125) (λ p. failAt (where-missing x p)) n r
+unfolding failAt where-missing
+closing-lost x (Fail p) n r q = closing-caught (λ p. failAt (where-missing x p)) (Fail p) n r q
+closing-lost x (Stop i p) n r q = closing-caught (λ p. failAt (where-missing x p)) (Stop i p) n r q
+
+-- the same where the blanks were read before
+module _ {b n : ℕ} {u : List ℕ} {d : Doc} {c : ℕ} (t : Took whitespace0 b u n d c) where
+  both-took : {e : ℕ} → Took (tag 125) b u c tt e → Took (whitespace0 >> tag 125) b u n tt e
+  both-took s = record { goes = sym (on (tag 125) t (sym (s .goes))); up = omega (arith, t .up, s .up); inside = s .inside }
+
+  both-lost : (l : Lost) {r : List ℕ} → Rest b u c r → lostReply l ≡ tag 125 c r → lostReply l ≡ (whitespace0 >> tag 125) n (drop (n - b) u)
+  both-lost l z e = on (tag 125) t (e ∙ ap (tag 125 c) (z .same))
+
+  pub close-took : (h : ℕ → Parser (Unit {0})) {e : ℕ} → Took (tag 125) b u c tt e → Took (catch (whitespace0 >> tag 125) h) b u n tt e
+  close-took h s = closing-took h (both-took s)
+
   pub close-caught : (h : ℕ → Parser (Unit {0})) (l : Lost) {r : List ℕ} → Rest b u c r → lostReply l ≡ tag 125 c r → caught h l n (drop (n - b) u) ≡ catch (whitespace0 >> tag 125) h n (drop (n - b) u)
-  unfolding catch
-  close-caught h (Fail p) {r} z e =
-      let q : fail p ≡ (whitespace0 >> tag 125) n (drop (n - b) u) = on (tag 125) t (e ∙ ap (tag 125 c) (z .same)) in
-      rw (sym q, catch) refl
-  close-caught h (Stop i p) {r} z e =
-      let q : stop i p ≡ (whitespace0 >> tag 125) n (drop (n - b) u) = on (tag 125) t (e ∙ ap (tag 125 c) (z .same)) in
-      rw (sym q, catch) refl
+  close-caught h l z e = closing-caught h l n (drop (n - b) u) (both-lost l z e)
 
   pub close-lost : {S : Type 0} (x : S) (l : Lost) {r : List ℕ} → Rest b u c r → lostReply l ≡ tag 125 c r → lostReply l ≡ catch (whitespace0 >> tag 125) (λ p. failAt (where-missing x p)) n (drop (n - b) u)
-  unfolding failAt where-missing
-  close-lost x (Fail p) z e = close-caught (λ p. failAt (where-missing x p)) (Fail p) z e
-  close-lost x (Stop i p) z e = close-caught (λ p. failAt (where-missing x p)) (Stop i p) z e
+  close-lost x l z e = closing-lost x l n (drop (n - b) u) (both-lost l z e)
 
 module _ {A : Type 0} (m : Parser A) (b : ℕ) (u : List ℕ) where
   -- no opening brace
@@ -94,15 +111,15 @@ module _ {A : Type 0} (m : Parser A) (b : ℕ) (u : List ℕ) where
     unfolding braces enclosed
     braces-lost l q e = begin (braces m) b u (on _ t₁ (lose _ _ l q e))
 
-    module _ {a : A} {c₂ c₃ : ℕ} {d : Doc} (t₂ : Took m b u c₁ a c₂) (t₃ : Took whitespace0 b u c₂ d c₃) where
+    module _ {a : A} {c₂ : ℕ} (t₂ : Took m b u c₁ a c₂) where
       -- no closing brace
-      pub braces-unclosed : (l : Lost) {r : List ℕ} → Rest b u c₃ r → lostReply l ≡ tag 125 c₃ r → lostReply l ≡ braces m b u
+      braces-unclosed : (l : Lost) → lostReply l ≡ (whitespace0 >> tag 125) c₂ (drop (c₂ - b) u) → lostReply l ≡ braces m b u
       unfolding braces enclosed
-      braces-unclosed l q e = begin (braces m) b u (on _ t₁ (go _ t₂ (fall _ _ l (rest-from b c₂ u (omega (arith, t₁ .up, t₂ .up)) (t₂ .inside)) (close-lost t₃ a l q e))))
+      braces-unclosed l e = begin (braces m) b u (on _ t₁ (go _ t₂ (fall _ _ l (rest-from b c₂ u (omega (arith, t₁ .up, t₂ .up)) (t₂ .inside)) (closing-lost a l c₂ (drop (c₂ - b) u) e))))
 
-      pub braces-read : {c : ℕ} → Took (tag 125) b u c₃ tt c → ok a c (drop (c - b) u) ≡ braces m b u
+      braces-read : {v : Unit {0}} {c : ℕ} → Took (whitespace0 >> tag 125) b u c₂ v c → ok a c (drop (c - b) u) ≡ braces m b u
       unfolding braces enclosed
-      braces-read {c} t = begin (braces m) b u (on _ t₁ (go _ t₂ (on _ (close-took t₃ _ t) (done a b c u))))
+      braces-read {v} {c} t = begin (braces m) b u (on _ t₁ (go _ t₂ (on _ (closing-took _ t) (done a b c u))))
 
 -- a sequence that was read, taken apart
 pub record Step {A B : Type 0} (m : Parser A) (k : A → Parser B) (v : B) (e : ℕ) (s : List ℕ) (c : ℕ) (r : List ℕ) : Type 0 where
@@ -187,7 +204,24 @@ module _ {A : Type 0} {records : A → List Record} (m : Parser A) {b : ℕ} {u 
 
     -- no closing brace
     pub braces-close : {o : Wrote} {old new : List ℕ} (h : Written records m c₁ r p o old new) {d : Doc} {c₃ : ℕ} → Took whitespace0 b u (o .next) d c₃ → (l : Lost) {r' : List ℕ} → Rest b u c₃ r' → lostReply l ≡ tag 125 c₃ r' → ⊥
-    braces-close h t l q' e = no-room room l (braces-unclosed m b u t₁ (written-took w q h) t l q' e)
+    braces-close h t l q' e = no-room room l (braces-unclosed m b u t₁ (written-took w q h) l (both-lost t l q' e))
 
     pub braces-written : {o : Wrote} {old new : List ℕ} (h : Written records m c₁ r p o old new) {d : Doc} {c₃ : ℕ} → Took whitespace0 b u (o .next) d c₃ → {c : ℕ} → Took (tag 125) b u c₃ tt c → Written records (braces m) b u p (record { next = c; to = o .to }) old new
-    braces-written h t t₄ = record { value = h .value; is = braces-read m b u t₁ (written-took w q h) t t₄; place = h .place; bytes = h .bytes }
+    braces-written h t t₄ = record { value = h .value; is = braces-read m b u t₁ (written-took w q h) (both-took t t₄); place = h .place; bytes = h .bytes }
+
+-- The first pass: what was counted between them.
+module _ {A : Type 0} {f : A → List Record} {m : Parser A} (w : Onward m) {b : ℕ} {u : List ℕ} {c : ℕ} (t : Took (tag 123) b u b tt c) {r : List ℕ} (q : Rest b u c r) where
+  pub run-inside : (a : Count) → CountTo f m a c r → EndsIn a b u
+  run-inside (Words n e) h = let k = count-took w q refl h in omega (arith, t .up, k .step .up, k .step .inside)
+  run-inside (NoCount l) h = tt
+
+  pub braces-counted : (a x : Count) → CountTo f m a c r → ClosedTo a x b u → CountTo f (braces m) x b u
+  braces-counted (NoCount l) x h e = rw e (count-not f (braces m) b u l (braces-lost m b u t l q (count-lost l refl c r h)))
+  braces-counted (Words n e) x h g = rw (g .is) (go (g .close) (g .skips))
+    where
+      k : Counted f m b u c n e
+      k = count-took w q refl h
+
+      go : (y : Answered) → SkipsAt (whitespace0 >> tag 125) y b u e → CountTo f (braces m) (closedCount n y) b u
+      go (Next d) s = let z = tag-behind-took 125 refl s in count-is f (braces m) b u (k .value) n d (k .words) (omega (arith, k .few, k .step .up, t .up, z .up)) (braces-read m b u t (k .step) z)
+      go (Not l) s = count-not f (braces m) b u l (braces-unclosed m b u t (k .step) l (skips-lost refl refl s))

@@ -1,4 +1,5 @@
 -- What private functions promise. No public contract rests on it.
+pub mod counts
 pub mod entries
 pub mod structs
 pub mod choices

@@ -22,6 +22,7 @@ use crate::attributes::write_attribute;
 use crate::choices::choice_after_doc_maturity;
 use crate::choices::write_choice;
 use crate::counts::Count;
+use crate::counts::closed;
 use crate::counts::count_end;
 use crate::counts::count_lost;
 use crate::endpoints::further;
@@ -369,20 +370,11 @@ fn braced_members(part: &[u8], base: usize) -> Count
     ensures { λ r. ⌜ MembersCountTo (braces cluster-members) r base (now (part .entry)) ⌝ }
 {
     let brace = tag(part, base, b'{');
-    let Step::Next(c1) = brace else {
+    let Step::Next(c) = brace else {
         return Count::NoCount(step_lost(brace));
     };
-    let run = cluster_members(rest_at(part, base, c1), c1);
-    let Count::Words(n, c2) = run else {
-        return run;
-    };
-    let w = whitespace0(rest_at(part, base, c2), c2);
-    let c3 = w.next;
-    let close = tag(rest_at(part, base, c3), c3, b'}');
-    let Step::Next(c4) = close else {
-        return Count::NoCount(step_lost(close));
-    };
-    Count::Words(n, c4)
+    let run = cluster_members(rest_at(part, base, c), c);
+    closed(part, base, run)
 }
 
 // One keyword or, where it is not there, another.

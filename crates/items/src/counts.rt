@@ -1,7 +1,14 @@
 // The first pass: how many words the records of a declaration take.
 ghost use mathlib.Core.Path.{_≡_};
+ghost use Prim.Native.Nat.{_+_, _≤_};
+ghost use lib.ListN.{length};
+ghost use Rattle.items.specs.layout.{text-limit};
 ghost use Rattle.items.specs.answers.{countLost, countEnd};
+ghost use Rattle.items.specs.inner.counts.{EndsIn, ClosedTo};
+use crate::steps::tag_behind;
 use lexing::answers::Lost;
+use lexing::answers::Step;
+use lexing::answers::step_lost;
 
 // The words needed and the offset behind the declaration, or why there is none.
 pub enum Count {
@@ -26,4 +33,20 @@ pub fn count_end(l: Lost, n: usize, c: usize) -> Count
         Lost::Fail(_) => Count::Words(n, c),
         Lost::Stop(i, p) => Count::NoCount(Lost::Stop(i, p)),
     }
+}
+
+// A count between braces: behind it stand blanks and the closing brace.
+pub fn closed(part: &[u8], base: usize, run: Count) -> Count
+    requires { ⌜ base + length (now part) ≤ text-limit ⌝ }
+    requires { ⌜ EndsIn run base (now part) ⌝ }
+    ensures { λ r. ⌜ ClosedTo run r base (now (part .entry)) ⌝ }
+{
+    let Count::Words(n, c1) = run else {
+        return run;
+    };
+    let close = tag_behind(part, base, c1, b'}');
+    let Step::Next(c2) = close else {
+        return Count::NoCount(step_lost(close));
+    };
+    Count::Words(n, c2)
 }

@@ -13,6 +13,7 @@ ghost use Rattle.items.specs.answers.{Skips, CountTo, Room, Written};
 ghost use Rattle.items.specs.answers.entries.{EntryTo, entryLost};
 ghost use Rattle.items.specs.inner.entries.{EndTo, parts-record};
 use crate::counts::Count;
+use crate::counts::closed;
 use crate::counts::count_end;
 use crate::maturity::api_maturity;
 use crate::optional::optional;
@@ -224,20 +225,11 @@ pub fn constant_entries_list(part: &[u8], base: usize) -> Count
     ensures { λ r. ⌜ CountTo (map entry-record) constant-entries-list r base (now (part .entry)) ⌝ }
 {
     let brace = tag(part, base, b'{');
-    let Step::Next(c1) = brace else {
+    let Step::Next(c) = brace else {
         return Count::NoCount(step_lost(brace));
     };
-    let run = count_entries(rest_at(part, base, c1), c1);
-    let Count::Words(n, c2) = run else {
-        return run;
-    };
-    let w = whitespace0(rest_at(part, base, c2), c2);
-    let c3 = w.next;
-    let close = tag(rest_at(part, base, c3), c3, b'}');
-    let Step::Next(c4) = close else {
-        return Count::NoCount(step_lost(close));
-    };
-    Count::Words(n, c4)
+    let run = count_entries(rest_at(part, base, c), c);
+    closed(part, base, run)
 }
 
 // The two words of an entry's record.

@@ -14,6 +14,7 @@ ghost use Rattle.items.specs.answers.{optionOf, CountTo, FrontFits, Room
 ghost use Rattle.items.specs.answers.structs.{FieldTo, fieldLost, StructFieldBetween, StructFieldTo, structFieldLost, StructFrom, HeadBetween, StructHeadTo, headLost, StructCountTo};
 ghost use Rattle.items.specs.inner.structs.{optionalLength, lengthLost, MarkerTo, kindBy, StructWordTo, codeReply, responseReply, typeBy, field-parts, kindNumber, responseNumber, struct-first};
 use crate::counts::Count;
+use crate::counts::closed;
 use crate::counts::count_end;
 use crate::maturity::api_maturity;
 use crate::steps::blank_at;
@@ -309,20 +310,11 @@ pub fn struct_fields(part: &[u8], base: usize) -> Count
     ensures { λ r. ⌜ CountTo (map field-record) struct-fields r base (now (part .entry)) ⌝ }
 {
     let brace = tag(part, base, b'{');
-    let Step::Next(c1) = brace else {
+    let Step::Next(c) = brace else {
         return Count::NoCount(step_lost(brace));
     };
-    let run = count_fields(rest_at(part, base, c1), c1);
-    let Count::Words(n, c2) = run else {
-        return run;
-    };
-    let w = whitespace0(rest_at(part, base, c2), c2);
-    let c3 = w.next;
-    let close = tag(rest_at(part, base, c3), c3, b'}');
-    let Step::Next(c4) = close else {
-        return Count::NoCount(step_lost(close));
-    };
-    Count::Words(n, c4)
+    let run = count_fields(rest_at(part, base, c), c);
+    closed(part, base, run)
 }
 
 // The kind that a word of n bytes says: only in lower case it counts.

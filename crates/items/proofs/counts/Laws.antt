@@ -4,10 +4,14 @@ use mathlib.Core.List.{List, [], _∷_, _++_}
 use Prim.Native.Nat.{ℕ, _+_, _-_, _*_, _≤_, _<_}
 use native.Mathlib.Omega.{arith}
 use lib.ListN.{length, drop, length-drop}
-use Rattle.lexing.specs.reply.{ok, Parser, many0}
-use Rattle.lexing.specs.answers.{Answer, got, Rest, lostReply, reply}
+use Rattle.lexing.specs.reply.{ok, Parser, _>>_, many0}
+use Rattle.lexing.specs.words.{tag}
+use Rattle.lexing.specs.blanks.{whitespace0}
+use Rattle.lexing.specs.answers.{Answer, got, Rest, lostReply, lostOf, reply}
 use Rattle.lexing.specs.declared.answers.Lost.{Lost}
 use Rattle.lexing.specs.declared.answers.Lost.the-variants.{Fail, Stop}
+use Rattle.lexing.specs.declared.answers.Step.{Step}
+use Rattle.lexing.specs.declared.answers.Step.the-variants.{Next, Not}
 use Rattle.lexing.proofs.Onward.{Onward}
 use Rattle.lexing.proofs.Locality.{Consumes}
 use Rattle.lexing.proofs.Slicing.{Took, took}
@@ -15,7 +19,8 @@ use Rattle.lexing.proofs.Repetition.{ManyAt, manyEnd, many0-start, many0-step, 
 use Rattle.items.specs.clusters.{mapped}
 use Rattle.items.specs.records.{Record}
 use Rattle.items.specs.layout.{word-count}
-use Rattle.items.specs.answers.{ReadTo, counted, countLost, countEnd, CountTo, Room}
+use Rattle.items.specs.answers.{ReadTo, SkipsAt, counted, countLost, countEnd, CountTo, Room}
+use Rattle.items.specs.inner.counts.{EndsIn, closedCount, ClosedTo}
 use Rattle.items.specs.declared.counts.Count.{Count}
 use Rattle.items.specs.declared.counts.Count.the-variants.{Words, NoCount}
 use Rattle.items.proofs.Answers.{reads-as, read-on}
@@ -130,3 +135,20 @@ count-behind f m k w (Words i c) {b} {n} {u} {v} q e h =
     let t = took w q (s .is) in
     count-is f m b u (s .value) i c (s .words) (omega (arith, h .few, q .from, t .up)) (sym (t .goes) ∙ e)
 count-behind f m k w (NoCount l) {b} {n} {u} {v} q e h = count-not f m b u l (count-lost l refl n v h ∙ (ap (k n) (q .same) ∙ e))
+
+-- The ways of a count that the closing brace stands behind.
+pub ends-at : {a : Count} {n c : ℕ} (b : ℕ) (u : List ℕ) → a ≡ Words n c → EndsIn a b u → (b ≤ c) × (c ≤ b + length u)
+ends-at b u e h = subst (λ (x : Count). EndsIn x b u) e h
+
+pub closed-pass : {a : Count} {l : Lost} (b : ℕ) (u : List ℕ) → a ≡ NoCount l → ClosedTo a a b u
+closed-pass b u e = subst (λ (x : Count). ClosedTo x x b u) (sym e) refl
+
+module _ {a : Count} {n c b : ℕ} {u : List ℕ} {s : Step} (e : a ≡ Words n c) (h : SkipsAt (whitespace0 >> tag 125) s b u c) where
+  closed-by : {x : Count} → x ≡ closedCount n s → ClosedTo a x b u
+  closed-by {x} z = subst (λ (y : Count). ClosedTo y x b u) (sym e) (record { close = s; skips = h; is = z })
+
+  pub closed-lost : {l l' : Lost} → l' ≡ lostOf s → s ≡ Not l → ClosedTo a (NoCount l') b u
+  closed-lost d z = closed-by (ap NoCount (d ∙ ap lostOf z) ∙ sym (ap (closedCount n) z))
+
+  pub closed-is : {d : ℕ} → s ≡ Next d → ClosedTo a (Words n d) b u
+  closed-is z = closed-by (sym (ap (closedCount n) z))

@@ -1,0 +1,33 @@
+-- What the count of a list between braces promises.
+use Prim.Native.Nat.{ℕ, _+_, _≤_}
+use mathlib.Core.Path.{_≡_}
+use mathlib.Core.List.{List}
+use lib.ListN.{length}
+use Rattle.lexing.specs.bytes.{byte}
+use Rattle.lexing.specs.words.{tag}
+use Rattle.lexing.specs.declared.answers.Step.{Step}
+use Rattle.lexing.specs.declared.answers.Step.the-variants.{Next, Not}
+use Rattle.items.specs.answers.{SkipsAt, behind-blanks}
+use Rattle.items.specs.declared.counts.Count.{Count}
+use Rattle.items.specs.declared.counts.Count.the-variants.{Words, NoCount}
+
+-- what was counted ends inside the part
+abbrev pub EndsIn : Count → ℕ → List ℕ → Type 0
+EndsIn (Words n c) b u = (b ≤ c) × (c ≤ b + length u)
+EndsIn (NoCount l) b u = Unit {0}
+
+-- n words, by what the closing brace answers
+abbrev pub closedCount : ℕ → Step → Count
+closedCount n (Next c) = Words n c
+closedCount n (Not l) = NoCount l
+
+-- n words up to c, and the closing brace behind blanks
+pub record Closing (n c : ℕ) (r : Count) (b : ℕ) (u : List ℕ) : Type 0 where
+  pub close : Step
+  pub skips : SkipsAt (behind-blanks (tag (byte "}"))) close b u c
+  pub is : r ≡ closedCount n close
+
+-- the same of a count, which may be lost
+abbrev pub ClosedTo : Count → Count → ℕ → List ℕ → Type 0
+ClosedTo (Words n c) r b u = Closing n c r b u
+ClosedTo (NoCount l) r b u = r ≡ NoCount l
