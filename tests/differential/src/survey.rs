@@ -148,10 +148,9 @@ pub fn stored(seed: u64) -> Vec<Vec<u8>> {
     .map(|text| text.as_bytes().to_vec())
     .collect();
     all.push(b"\xff\n}enum B:t{\n}\xc3".to_vec());
-    all.push(b"\n}".repeat(3_000));
     all.push([&b"\n}".repeat(4_095)[..], &b"enum E:t{\n}".repeat(4), b"?\n}enum F:t{}"].concat());
     let mut random = Random(seed);
-    while all.len() < 400 {
+    while all.len() < 150 {
         let text = many(&mut random);
         if text.len() <= 160 && sections(&text).len() > 1 {
             all.push(text);
