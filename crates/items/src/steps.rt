@@ -3,8 +3,9 @@ ghost use Prim.Native.Nat.{_+_, _≤_};
 ghost use lib.ListN.{length};
 ghost use Rattle.lexing.specs.integers.{u64-max, positive-integer};
 ghost use Rattle.lexing.specs.words.{tag, keyword};
-ghost use Rattle.lexing.specs.blanks.{whitespace1};
-ghost use Rattle.items.specs.answers.{BlankAt, SkipsAt, NumberAt, behind-blanks};
+ghost use Rattle.lexing.specs.blanks.{whitespace0, whitespace1};
+ghost use Rattle.lexing.specs.declared.answers.Step.the-variants.{Next};
+ghost use Rattle.items.specs.answers.{Skips, BlankAt, SkipsAt, NumberAt, behind-blanks};
 use lexing::answers::Step;
 use lexing::blanks::Gap;
 use lexing::blanks::gap_lost;
@@ -12,17 +13,29 @@ use lexing::blanks::whitespace0;
 use lexing::blanks::whitespace1;
 use lexing::integers::Number;
 use lexing::integers::positive_integer;
+use lexing::parts::peek;
 use lexing::parts::rest_at;
 use lexing::words::keyword;
 use lexing::words::tag;
+
+// The offset behind the blanks at the front. No byte above the slash starts one, and most calls end with that test.
+fn blank_end(part: &[u8], base: usize) -> usize
+    requires { ⌜ base + length (now part) ≤ u64-max ⌝ }
+    ensures { λ r. ⌜ Skips whitespace0 (Next r) base (now (part .entry)) ⌝ }
+{
+    if b'/' < peek(part, 0) {
+        return base;
+    }
+    let w = whitespace0(part, base);
+    w.next
+}
 
 // The offset behind blanks.
 pub fn blank_at(part: &[u8], base: usize, c: usize) -> usize
     requires { ⌜ ((base ≤ c) × (c ≤ base + length (now part))) × (base + length (now part) ≤ u64-max) ⌝ }
     ensures { λ r. ⌜ BlankAt r base (now (part .entry)) c ⌝ }
 {
-    let w = whitespace0(rest_at(part, base, c), c);
-    w.next
+    blank_end(rest_at(part, base, c), c)
 }
 
 // At least one blank.
@@ -43,8 +56,7 @@ pub fn tag_behind(part: &[u8], base: usize, c: usize, t: u8) -> Step
     ensures { λ r. ⌜ SkipsAt (behind-blanks (tag t)) r base (now (part .entry)) c ⌝ }
 {
     let rest = rest_at(part, base, c);
-    let w = whitespace0(rest, c);
-    let n = w.next;
+    let n = blank_end(rest, c);
     tag(rest_at(rest, c, n), n, t)
 }
 
@@ -54,8 +66,7 @@ pub fn keyword_behind(part: &[u8], base: usize, c: usize, key: &[u8]) -> Step
     ensures { λ r. ⌜ SkipsAt (behind-blanks (keyword (now (key .entry)))) r base (now (part .entry)) c ⌝ }
 {
     let rest = rest_at(part, base, c);
-    let w = whitespace0(rest, c);
-    let n = w.next;
+    let n = blank_end(rest, c);
     keyword(rest_at(rest, c, n), n, key)
 }
 
@@ -65,7 +76,6 @@ pub fn integer_behind(part: &[u8], base: usize, c: usize) -> Number
     ensures { λ r. ⌜ NumberAt (behind-blanks positive-integer) r base (now (part .entry)) c ⌝ }
 {
     let rest = rest_at(part, base, c);
-    let w = whitespace0(rest, c);
-    let n = w.next;
+    let n = blank_end(rest, c);
     positive_integer(rest_at(rest, c, n), n)
 }

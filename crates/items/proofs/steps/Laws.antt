@@ -1,12 +1,17 @@
 -- Steps from an offset of a part: what they answer, and what they give the sequence that takes them.
 use mathlib.Core.Path.{_≡_, refl, sym, ap, _∙_, subst}
-use mathlib.Core.List.{List}
-use Prim.Native.Nat.{ℕ, _+_, _-_}
-use lib.ListN.{length, drop}
-use Rattle.lexing.specs.reply.{Parser, _>>_}
+use mathlib.Core.List.{List, [], _∷_}
+use mathlib.Core.Bool.{false, _||_}
+use Prim.Native.Nat.{ℕ, _+_, _-_, _≤_, _<_}
+use native.Mathlib.Omega.{arith}
+use borrow.Author.Tests.{ne-eqb}
+use lib.Dec.{eqb}
+use lib.ListN.{length, drop, getD}
+use Rattle.lexing.specs.bytes.{slash, isSpace}
+use Rattle.lexing.specs.reply.{Parser, ok, fail, _>>=_, _>>_, keep}
 use Rattle.lexing.specs.words.{keyword, tag}
 use Rattle.lexing.specs.integers.{positive-integer}
-use Rattle.lexing.specs.blanks.{no-doc, whitespace0, whitespace1}
+use Rattle.lexing.specs.blanks.{no-doc, one-blank, whitespace0, whitespace1}
 use Rattle.lexing.specs.answers.{Rest, BlankTo, docOf, lostOf, lostReply, gapLost, gapReply, numberAnswer, numberLost, numberReply, tagReply, wordReply}
 use Rattle.lexing.specs.declared.answers.Lost.{Lost}
 use Rattle.lexing.specs.declared.answers.Step.{Step}
@@ -18,7 +23,8 @@ use Rattle.lexing.specs.declared.integers.Number.{Number}
 use Rattle.lexing.specs.declared.integers.Number.the-variants.{Value, NoNumber}
 use Rattle.lexing.proofs.Onward.{Onward, advances-onward, tag-advances, integer-advances}
 use Rattle.lexing.proofs.Slicing.{Took, took, walks, rest-self, blank-took, gap-lost, integer-lost}
-use Rattle.lexing.proofs.TokenLocality.{keyword-chain, whitespace0-chain, whitespace1-chain}
+use Rattle.lexing.proofs.Repetition.{iter-fail}
+use Rattle.lexing.proofs.TokenLocality.{keyword-chain, whitespace0-chain, whitespace1-chain, no-group, one-blank-consumes}
 use Rattle.items.specs.answers.{Skips, SkipsAt, BlankAt, NumberAt}
 use Rattle.items.proofs.Dropping.{behind, skip-behind, tag-skips, keyword-skips}
 use Rattle.items.proofs.Onward.{onward-then}
@@ -27,12 +33,39 @@ use Rattle.items.proofs.optional.Laws.{skip-took, skip-lost}
 blank-on : Onward whitespace0
 blank-on = walks whitespace0-chain
 
+-- the blanks at the front, by their end
+pub blank-ends : {b : ℕ} {u : List ℕ} {t : Blank} → BlankTo t b u → Skips whitespace0 (Next (t .next)) b u
+blank-ends {t = t} h = record { value = docOf (t .doc); reads = h .reads }
+
+-- no byte above the slash starts one
+above-slash : (x : ℕ) → slash < x → (eqb x slash || isSpace x) ≡ false
+unfolding isSpace
+above-slash x h = rw (ne-eqb x slash (λ e. omega (arith, e)), ne-eqb x 32 (λ e. omega (arith, e)), ne-eqb x 9 (λ e. omega (arith, e)), ne-eqb x 10 (λ e. omega (arith, e)), ne-eqb x 13 (λ e. omega (arith, e))) refl
+
+blank-fails : (b : ℕ) (u : List ℕ) → slash < getD u 0 0 → one-blank no-doc b u ≡ fail b
+unfolding one-blank _>>=_
+blank-fails b [] h = absurd (omega arith)
+blank-fails b (x ∷ u) h = rw (no-group b x u (above-slash x h), one-blank, _>>=_)
+
+no-blank : (b : ℕ) (u : List ℕ) → slash < getD u 0 0 → ok no-doc b u ≡ whitespace0 b u
+unfolding whitespace0 keep
+no-blank b u h = sym (iter-fail one-blank keep one-blank-consumes no-doc b u b (blank-fails b u h))
+
+pub blank-none : (b : ℕ) (u : List ℕ) (x : ℕ) → x ≡ getD u 0 0 → slash < x → Skips whitespace0 (Next b) b u
+blank-none b u x e h = let z : b - b ≡ 0 = omega arith in record { value = no-doc; reads = rw z (no-blank b u (rw e at h)) }
+
+pub blank-bounds : {n b : ℕ} {u : List ℕ} → Skips whitespace0 (Next n) b u → (b ≤ n) × (n ≤ b + length u)
+blank-bounds {n} {b} {u} h = let t = skip-took blank-on (rest-self b u) refl h in (t .up, t .inside)
+
 module _ {b c : ℕ} {u r : List ℕ} (q : Rest b u c r) where
   rest-here : Rest b u c (drop (c - b) u)
   rest-here = record { from = q .from; same = refl; size = ap (λ v. c + length v) (sym (q .same)) ∙ q .size }
 
   skips-at : {A : Type 0} {m : Parser A} {a : Step} → Skips m a c r → SkipsAt m a b u c
   skips-at {A} {m} {a} h = record { at = rest-here; skips = subst (λ v. Skips m a c v) (q .same) h }
+
+  pub blank-skipped : {n : ℕ} → Skips whitespace0 (Next n) c r → BlankAt n b u c
+  blank-skipped h = skips-at h
 
   pub blank-is : {t : Blank} → BlankTo t c r → BlankAt (t .next) b u c
   blank-is {t} h = skips-at (record { value = docOf (t .doc); reads = h .reads })
@@ -45,16 +78,19 @@ module _ {b c : ℕ} {u r : List ℕ} (q : Rest b u c r) where
     gap-not e d = skips-at (record { value = no-doc; reads = gap-lost e d c r (whitespace1 c r) h })
 
   -- a token behind blanks
-  module _ {t : Blank} (h : BlankTo t c r) {v : List ℕ} (p : Rest c r (t .next) v) where
-    pub tag-behind-is : (k : ℕ) (a : Step) → tagReply a (t .next) v ≡ tag k (t .next) v → SkipsAt (whitespace0 >> tag k) a b u c
-    tag-behind-is k a e = skips-at (skip-behind (advances-onward (tag-advances k)) p (blank-took (rest-self c r) h) (tag-skips k a e))
+  module _ {n : ℕ} (h : Skips whitespace0 (Next n) c r) {v : List ℕ} (p : Rest c r n v) where
+    blanks : Took whitespace0 c r c (h .value) n
+    blanks = skip-took blank-on (rest-self c r) refl h
 
-    pub keyword-behind-is : (k : List ℕ) (a : Step) → wordReply a (t .next) v ≡ keyword k (t .next) v → SkipsAt (whitespace0 >> keyword k) a b u c
-    keyword-behind-is k a e = skips-at (skip-behind (walks (keyword-chain k)) p (blank-took (rest-self c r) h) (keyword-skips k a e))
+    pub tag-behind-is : (k : ℕ) (a : Step) → tagReply a n v ≡ tag k n v → SkipsAt (whitespace0 >> tag k) a b u c
+    tag-behind-is k a e = skips-at (skip-behind (advances-onward (tag-advances k)) p blanks (tag-skips k a e))
 
-    pub integer-behind-is : (a : Number) → numberReply a (t .next) v ≡ positive-integer (t .next) v → NumberAt (whitespace0 >> positive-integer) a b u c
+    pub keyword-behind-is : (k : List ℕ) (a : Step) → wordReply a n v ≡ keyword k n v → SkipsAt (whitespace0 >> keyword k) a b u c
+    keyword-behind-is k a e = skips-at (skip-behind (walks (keyword-chain k)) p blanks (keyword-skips k a e))
+
+    pub integer-behind-is : (a : Number) → numberReply a n v ≡ positive-integer n v → NumberAt (whitespace0 >> positive-integer) a b u c
     integer-behind-is a e =
-        let x = behind (advances-onward integer-advances) (numberAnswer a) p (blank-took (rest-self c r) h) e in
+        let x = behind (advances-onward integer-advances) (numberAnswer a) p blanks e in
         record { at = rest-here; reads = subst (λ w. numberReply a c w ≡ (whitespace0 >> positive-integer) c w) (q .same) x }
 
 -- as steps of a sequence
