@@ -31,4 +31,6 @@ pub mod RefusedPlaces
 pub mod Packing
 -- every record of what is read fits its words
 pub mod RecordsFit
+-- the records of what is read take at most a word for each byte
+pub mod WordsPerByte
 pub mod KnownAnswers

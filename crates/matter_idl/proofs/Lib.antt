@@ -24,4 +24,6 @@ pub mod Replacing
 pub mod Demand3
 -- what the survey writes fits its bits
 pub mod ReportFits
+-- buffers that are always long enough
+pub mod EnoughRoom
 pub mod Demand3Examples

@@ -39,7 +39,7 @@ survey-written {s} {c} {r} e z h cat rep w y =
     (written-result k z h, (written-left k cat (w ∙ put-behind 0 [] c cat refl), written-left l rep (y ∙ put-behind 0 [] r rep refl)))
 
 -- an entry for each section
-entries-count : (b : ℕ) (ss : List (List ℕ)) → length (entries b ss) ≡ length ss
+pub entries-count : (b : ℕ) (ss : List (List ℕ)) → length (entries b ss) ≡ length ss
 unfolding entries
 entries-count b [] = refl
 entries-count b (s ∷ ss) = ap suc (entries-count (b + length s) ss)

@@ -1,0 +1,174 @@
+-- Buffers that are long enough for every text of n bytes: a catalogue of 8 * n bytes, read or surveyed, and a report of 4 * n + 8.
+use Prim.Native.Nat.{ℕ, suc, _+_, _*_, _≤_}
+use mathlib.Core.Path.{_≡_, refl, sym, _∙_, ap}
+use mathlib.Core.Bool.{Bool, true, false}
+use mathlib.Core.Option.{Option, none, some}
+use mathlib.Core.List.{List, [], _∷_}
+use native.Mathlib.Omega.{arith}
+use lib.Dec.{leb, eqb}
+use lib.ListN.{length, length-append}
+use borrow.Author.Tests.{le-leb}
+use Rattle.lexing.specs.reply.{Reply, ok, fail, stop}
+use Rattle.lexing.specs.outcomes.{Outcome, refused, written, fitted}
+use Rattle.lexing.specs.utf8.{utf8-error}
+use Rattle.lexing.specs.word_sets.{bit}
+use Rattle.lexing.proofs.Tests.{and-left}
+use Rattle.items.specs.items.{Item}
+use Rattle.items.specs.layout.{layout-20, catalogue-bytes, word-count, text-limit}
+use Rattle.items.proofs.RecordWords.{word-count-none, catalogue-bytes-length}
+use Rattle.items.proofs.RefusedPlaces.{RefusedIn}
+use Rattle.items.proofs.WordsPerByte.{items-words}
+use Rattle.matter_idl.specs.hoisting.{no-ids, hoisted}
+use Rattle.matter_idl.specs.reading.{all-items, Verdict, accepted, turned-down, by-reply, by-utf8, verdict-at, verdict, into-catalogue, reading}
+use Rattle.matter_idl.specs.sections.{line-feed, closing-brace, cut-after, before-first, cut-from, sections, joined}
+use Rattle.matter_idl.specs.survey.{items-of, accepted-items, entries, report-20, report-bytes, Surveyed, not-surveyed, surveyed, into-buffers, survey}
+use Rattle.matter_idl.proofs.AllItems.{accepted-many}
+use Rattle.matter_idl.proofs.Places.{hoisted-words}
+use Rattle.matter_idl.proofs.Cutting.{sections-joined}
+use Rattle.matter_idl.proofs.reading.Judged.{all-refused}
+use Rattle.matter_idl.proofs.survey.Laws.{report-length, words-more}
+use Rattle.matter_idl.proofs.interface.SurveyOutcomes.{entries-count}
+
+-- how many words the records of items take
+abbrev words : List Item → ℕ
+words l = word-count (hoisted no-ids l)
+
+no-items : words [] ≡ 0
+unfolding hoisted
+no-items = word-count-none
+
+-- a verdict on n bytes: its items take n words at the most, and its refusals are by 1 to 6
+abbrev Bounded : ℕ → Verdict → Type 0
+Bounded n (accepted l) = words l ≤ n
+Bounded n (turned-down k v) = k ≤ 6
+
+module _ (b : ℕ) (u : List ℕ) where
+  reply-bounded : (x : Reply (List Item)) → all-items b u ≡ x → RefusedIn b u x → Bounded (length u) (by-reply x)
+  unfolding by-reply
+  reply-bounded (ok l c r) e h = omega (arith, hoisted-words no-ids l, items-words b u (accepted-many b u (sym e) .0))
+  reply-bounded (fail p) e h = omega arith
+  reply-bounded (stop n p) e h = h .2
+
+  verdict-at-bounded : Bounded (length u) (verdict-at b u)
+  unfolding verdict-at by-utf8
+  verdict-at-bounded = go (utf8-error b u)
+    where
+      go : (o : Option ℕ) → Bounded (length u) (by-utf8 o (by-reply (all-items b u)))
+      go none = reply-bounded (all-items b u) refl (all-refused b u)
+      go (some p) = omega arith
+
+verdict-bounded : (u : List ℕ) → Bounded (length u) (verdict u)
+unfolding verdict
+verdict-bounded u = go (leb (length u) text-limit) refl
+  where
+    go : (t : Bool) → leb (length u) text-limit ≡ t → Bounded (length u) (verdict u)
+    go true e = rw (e, verdict) (verdict-at-bounded 0 u)
+    go false e = rw (e, verdict) (omega arith)
+
+-- the records of an accepted text take at most a word for each of its bytes
+pub accepted-words : (u : List ℕ) {l : List Item} → verdict u ≡ accepted l → word-count (hoisted no-ids l) ≤ length u
+accepted-words u e = rw e at (verdict-bounded u)
+
+pub accepted-bytes : (u : List ℕ) {l : List Item} → verdict u ≡ accepted l → length (catalogue-bytes layout-20 (hoisted no-ids l)) ≤ 8 * length u
+accepted-bytes u {l} e = omega (arith, catalogue-bytes-length (hoisted no-ids l), accepted-words u e)
+
+-- so a catalogue of that length is never too short
+into-enough : (n m : ℕ) → 8 * n ≤ m → (v : Verdict) → Bounded n v → {k : ℕ} → into-catalogue layout-20 m v ≡ refused 7 k → ⊥
+unfolding into-catalogue fitted
+into-enough n m h (accepted l) b e =
+    let f = le-leb (length (catalogue-bytes layout-20 (hoisted no-ids l))) m (omega (arith, h, b, catalogue-bytes-length (hoisted no-ids l))) in
+    let i = rw (f, fitted) at e in
+    let z : _≡_ {A = ℕ} 0 1 = cc in
+    omega arith
+into-enough n m h (turned-down j v) b e = let z : j ≡ 7 = cc in omega (arith, b, z)
+
+pub reading-enough : (u : List ℕ) (n : ℕ) → 8 * length u ≤ n → {v : ℕ} → reading layout-20 u n ≡ refused 7 v → ⊥
+unfolding reading
+reading-enough u n h e = into-enough (length u) n h (verdict u) (verdict-bounded u) e
+
+-- the accepted sections' items
+items-bounded : (n : ℕ) (v : Verdict) → Bounded n v → words (items-of v) ≤ n
+unfolding items-of
+items-bounded n (accepted l) b = b
+items-bounded n (turned-down k p) b = omega (arith, no-items)
+
+sections-words : (b : ℕ) (ss : List (List ℕ)) → words (accepted-items b ss) ≤ length (joined ss)
+unfolding accepted-items joined
+sections-words b [] = omega (arith, no-items)
+sections-words b (s ∷ ss) =
+    omega (arith, words-more (items-of (verdict-at b s)) (accepted-items (b + length s) ss), items-bounded (length s) (verdict-at b s) (verdict-at-bounded b s), sections-words (b + length s) ss, length-append s (joined ss))
+
+pub survey-words : (u : List ℕ) → word-count (hoisted no-ids (accepted-items 0 (sections u))) ≤ length u
+survey-words u = let z = ap length (sections-joined u) in omega (arith, z, sections-words 0 (sections u))
+
+-- A cut takes two bytes, so a text of n bytes has at most n / 2 + 1 sections.
+first-count : (x : ℕ) (ss : List (List ℕ)) {n : ℕ} → 2 ≤ n → 2 * length ss ≤ n → 2 * length (before-first x ss) ≤ n
+unfolding before-first
+first-count x [] h k = h
+first-count x (s ∷ ss) h k = k
+
+bit-small : (p : Bool) → bit p ≤ 1
+unfolding bit
+bit-small true = omega arith
+bit-small false = omega arith
+
+-- p says of the byte before the text whether it is LF
+cuts-count : (p : Bool) (u : List ℕ) → 2 * length (cut-from p u) ≤ 2 + (bit p + length u)
+unfolding cut-from bit
+cuts-count p [] = omega arith
+cuts-count p (x ∷ u) = go (cut-after p x) refl (λ q. cuts-count q u)
+  where
+    behind-feed : cut-after p x ≡ true → bit p ≡ 1
+    behind-feed e = ap bit (and-left p (eqb x closing-brace) (unfold cut-after in e))
+
+    go : (t : Bool) → cut-after p x ≡ t → ((q : Bool) → 2 * length (cut-from q u) ≤ 2 + (bit q + length u)) → 2 * length (cut-from p (x ∷ u)) ≤ 2 + (bit p + length (x ∷ u))
+    go true e ih = rw (e, cut-from) (omega (arith, behind-feed e, ih false))
+    go false e ih = rw (e, cut-from) (first-count x (cut-from (eqb x line-feed) u) (omega arith) (omega (arith, ih (eqb x line-feed), bit-small (eqb x line-feed))))
+
+pub sections-count : (u : List ℕ) → 2 * length (sections u) ≤ 2 + length u
+unfolding sections bit
+sections-count u = omega (arith, cuts-count false u)
+
+-- The survey's buffers.
+catalogue-size : (u : List ℕ) → length (catalogue-bytes layout-20 (hoisted no-ids (accepted-items 0 (sections u)))) ≤ 8 * length u
+catalogue-size u = omega (arith, catalogue-bytes-length (hoisted no-ids (accepted-items 0 (sections u))), survey-words u)
+
+report-size : (u : List ℕ) → length (report-bytes report-20 (entries 0 (sections u))) ≤ 4 * length u + 8
+report-size u = omega (arith, report-length (entries 0 (sections u)), entries-count 0 (sections u), sections-count u)
+
+module _ (n m : ℕ) (c r : List ℕ) {v : ℕ} where
+  catalogue-fits : length c ≤ n → into-buffers n m c r ≡ not-surveyed 7 v → ⊥
+  unfolding into-buffers
+  catalogue-fits h e = go (leb (length r) m) refl
+    where
+      go : (t : Bool) → leb (length r) m ≡ t → ⊥
+      go true f = let i = rw (f, le-leb (length c) n h, into-buffers) at e in let z : _≡_ {A = ℕ} 0 1 = cc in omega arith
+      go false f = let i = rw (f, into-buffers) at e in let z : _≡_ {A = ℕ} 8 7 = cc in omega arith
+
+  report-fits : length r ≤ m → into-buffers n m c r ≡ not-surveyed 8 v → ⊥
+  unfolding into-buffers
+  report-fits h e = go (leb (length c) n) refl
+    where
+      go : (t : Bool) → leb (length c) n ≡ t → ⊥
+      go true f = let i = rw (le-leb (length r) m h, f, into-buffers) at e in let z : _≡_ {A = ℕ} 0 1 = cc in omega arith
+      go false f = let i = rw (le-leb (length r) m h, f, into-buffers) at e in let z : _≡_ {A = ℕ} 7 8 = cc in omega arith
+
+module _ (u : List ℕ) (n m : ℕ) {v : ℕ} where
+  abbrev surveyed-20 : Surveyed
+  surveyed-20 = survey layout-20 report-20 u n m
+
+  within-limit : {k : ℕ} → 7 ≤ k → surveyed-20 ≡ not-surveyed k v → into-buffers n m (catalogue-bytes layout-20 (hoisted no-ids (accepted-items 0 (sections u)))) (report-bytes report-20 (entries 0 (sections u))) ≡ not-surveyed k v
+  unfolding survey
+  within-limit {k} h e = go (leb (length u) text-limit) refl
+    where
+      go : (t : Bool) → leb (length u) text-limit ≡ t → into-buffers n m (catalogue-bytes layout-20 (hoisted no-ids (accepted-items 0 (sections u)))) (report-bytes report-20 (entries 0 (sections u))) ≡ not-surveyed k v
+      go true f = rw (f, survey) at e
+      go false f = let i = rw (f, survey) at e in let z : _≡_ {A = ℕ} 1 k = cc in absurd (omega (arith, h, z))
+
+  -- never refused by 7, whatever the report
+  pub survey-catalogue-enough : 8 * length u ≤ n → surveyed-20 ≡ not-surveyed 7 v → ⊥
+  survey-catalogue-enough h e = catalogue-fits n m _ _ (omega (arith, h, catalogue-size u)) (within-limit (omega arith) e)
+
+  -- never refused by 8, whatever the catalogue
+  pub survey-report-enough : 4 * length u + 8 ≤ m → surveyed-20 ≡ not-surveyed 8 v → ⊥
+  survey-report-enough h e = report-fits n m _ _ (omega (arith, h, report-size u)) (within-limit (omega arith) e)
