@@ -20,8 +20,9 @@ extern "C" {
 /* The longest text, in bytes. A longer one is refused by MATTER_IDL_TEXT_TOO_LONG. */
 #define MATTER_IDL_TEXT_LIMIT 1048575
 
-/* Bytes of catalogue that are always enough for n bytes of text, whether read or surveyed. */
-#define MATTER_IDL_CATALOGUE_BYTES(n) ((size_t)64 * (size_t)(n))
+/* Bytes of catalogue that are always enough for n bytes of text, whether read or surveyed: no text takes more words than it
+   has bytes, which is proved (crates/matter_idl/proofs/EnoughRoom.antt). */
+#define MATTER_IDL_CATALOGUE_BYTES(n) ((size_t)8 * (size_t)(n))
 
 /* Bytes of report that a survey needs for a number of sections (see matter_idl_sections), no more and no less. */
 #define MATTER_IDL_REPORT_BYTES(sections) ((size_t)8 * (size_t)(sections))
