@@ -153,22 +153,22 @@ module _ (n m : ℕ) (c r : List ℕ) {v : ℕ} where
       go true f = let i = rw (le-leb (length r) m h, f, into-buffers) at e in let z : _≡_ {A = ℕ} 0 1 = cc in omega arith
       go false f = let i = rw (le-leb (length r) m h, f, into-buffers) at e in let z : _≡_ {A = ℕ} 7 8 = cc in omega arith
 
-module _ (u : List ℕ) (n m : ℕ) {v : ℕ} where
+module _ (u : List ℕ) (n m : ℕ) where
   abbrev surveyed-20 : Surveyed
   surveyed-20 = survey layout-20 report-20 u n m
 
-  within-limit : {k : ℕ} → 7 ≤ k → surveyed-20 ≡ not-surveyed k v → into-buffers n m (catalogue-bytes layout-20 (hoisted no-ids (accepted-items 0 (sections u)))) (report-bytes report-20 (entries 0 (sections u))) ≡ not-surveyed k v
+  within-limit : {k v : ℕ} → 7 ≤ k → surveyed-20 ≡ not-surveyed k v → into-buffers n m (catalogue-bytes layout-20 (hoisted no-ids (accepted-items 0 (sections u)))) (report-bytes report-20 (entries 0 (sections u))) ≡ not-surveyed k v
   unfolding survey
-  within-limit {k} h e = go (leb (length u) text-limit) refl
+  within-limit {k} {v} h e = go (leb (length u) text-limit) refl
     where
       go : (t : Bool) → leb (length u) text-limit ≡ t → into-buffers n m (catalogue-bytes layout-20 (hoisted no-ids (accepted-items 0 (sections u)))) (report-bytes report-20 (entries 0 (sections u))) ≡ not-surveyed k v
       go true f = rw (f, survey) at e
       go false f = let i = rw (f, survey) at e in let z : _≡_ {A = ℕ} 1 k = cc in absurd (omega (arith, h, z))
 
   -- never refused by 7, whatever the report
-  pub survey-catalogue-enough : 8 * length u ≤ n → surveyed-20 ≡ not-surveyed 7 v → ⊥
+  pub survey-catalogue-enough : 8 * length u ≤ n → {v : ℕ} → surveyed-20 ≡ not-surveyed 7 v → ⊥
   survey-catalogue-enough h e = catalogue-fits n m _ _ (omega (arith, h, catalogue-size u)) (within-limit (omega arith) e)
 
   -- never refused by 8, whatever the catalogue
-  pub survey-report-enough : 4 * length u + 8 ≤ m → surveyed-20 ≡ not-surveyed 8 v → ⊥
+  pub survey-report-enough : 4 * length u + 8 ≤ m → {v : ℕ} → surveyed-20 ≡ not-surveyed 8 v → ⊥
   survey-report-enough h e = report-fits n m _ _ (omega (arith, h, report-size u)) (within-limit (omega arith) e)
