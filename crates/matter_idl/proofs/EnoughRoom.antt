@@ -1,6 +1,6 @@
 -- Buffers that are long enough for every text of n bytes: a catalogue of 8 * n bytes, read or surveyed, and a report of 4 * n + 8.
-use Prim.Native.Nat.{ℕ, suc, _+_, _*_, _≤_}
-use mathlib.Core.Path.{_≡_, refl, sym, _∙_, ap}
+use Prim.Native.Nat.{ℕ, _+_, _*_, _≤_}
+use mathlib.Core.Path.{_≡_, refl, sym, ap}
 use mathlib.Core.Bool.{Bool, true, false}
 use mathlib.Core.Option.{Option, none, some}
 use mathlib.Core.List.{List, [], _∷_}
@@ -9,7 +9,7 @@ use lib.Dec.{leb, eqb}
 use lib.ListN.{length, length-append}
 use borrow.Author.Tests.{le-leb}
 use Rattle.lexing.specs.reply.{Reply, ok, fail, stop}
-use Rattle.lexing.specs.outcomes.{Outcome, refused, written, fitted}
+use Rattle.lexing.specs.outcomes.{refused, fitted}
 use Rattle.lexing.specs.utf8.{utf8-error}
 use Rattle.lexing.specs.word_sets.{bit}
 use Rattle.lexing.proofs.Tests.{and-left}
@@ -21,7 +21,7 @@ use Rattle.items.proofs.WordsPerByte.{items-words}
 use Rattle.matter_idl.specs.hoisting.{no-ids, hoisted}
 use Rattle.matter_idl.specs.reading.{all-items, Verdict, accepted, turned-down, by-reply, by-utf8, verdict-at, verdict, into-catalogue, reading}
 use Rattle.matter_idl.specs.sections.{line-feed, closing-brace, cut-after, before-first, cut-from, sections, joined}
-use Rattle.matter_idl.specs.survey.{items-of, accepted-items, entries, report-20, report-bytes, Surveyed, not-surveyed, surveyed, into-buffers, survey}
+use Rattle.matter_idl.specs.survey.{items-of, accepted-items, entries, report-20, report-bytes, Surveyed, not-surveyed, into-buffers, survey}
 use Rattle.matter_idl.proofs.AllItems.{accepted-many}
 use Rattle.matter_idl.proofs.Places.{hoisted-words}
 use Rattle.matter_idl.proofs.Cutting.{sections-joined}
