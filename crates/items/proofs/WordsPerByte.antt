@@ -7,9 +7,9 @@ use mathlib.Core.Option.{Option}
 use mathlib.Core.List.{List, [], _∷_, _++_, map, append-assoc, append-nil}
 use native.Mathlib.Omega.{arith}
 use lib.Dec.{lit≤}
-use lib.ListN.{length, length-append}
+use lib.ListN.{length}
 use Rattle.lexing.specs.bytes.{ascii}
-use Rattle.lexing.specs.reply.{Reply, ok, fail, stop, Parser, ret, _>>=_, _>>_, opt, further, _or_, prepend, manyWithin, many0, iterWithin, iter, position, failAt, catch}
+use Rattle.lexing.specs.reply.{Reply, ok, fail, stop, Parser, ret, _>>=_, _>>_, opt, further, _or_, prepend, manyWithin, many0, iterWithin, iter, failAt, catch}
 use Rattle.lexing.specs.words.{Word}
 use Rattle.lexing.specs.word_sets.{set-flags}
 use Rattle.lexing.specs.blanks.{Doc, whitespace0, whitespace1}
@@ -19,13 +19,13 @@ use Rattle.lexing.proofs.Slicing.{walks}
 use Rattle.lexing.proofs.Chain.{Shorter}
 use Rattle.lexing.proofs.Locality.{OnChain, Consumes, chain-then, chain-opt, chain-local, chain-inside, chain-position}
 use Rattle.lexing.proofs.TokenLocality.{parse-id-consumes, keyword-consumes, any-keyword-consumes, tag-consumes, integer-consumes, whitespace1-consumes, parse-id-chain, any-keyword-chain, whitespace0-chain, whitespace1-chain, set-flags-chain}
-use Rattle.items.specs.entries.{enclosed, where-missing, braces, api-maturity, constant-annotations-list, Entry, constant-entry, blank-entry, constant-entries, constant-entries-list, Choice, choice-head, choice-after-doc-maturity, parse-enum-after-doc-maturity, parse-bitmap-after-doc-maturity}
-use Rattle.items.specs.structs.{parse-field, StructField, parse-struct-field, closed-field, fields-run, struct-fields, Struct, struct-type-of, struct-head, parse-struct-after-doc-maturity}
-use Rattle.items.specs.members.{Event, event-head, parse-event-after-doc-maturity, Command, command-types, parse-command-after-doc-maturity, attribute-access, Attribute, parse-attribute-after-doc-maturity}
-use Rattle.items.specs.clusters.{Member, revision, bitmap, enum, struct, attribute, command, event, mapped, parse-revision, member-tries, parse-cluster-member, cluster-members, Cluster, cluster-head, cluster-after-doc-maturity, parse-cluster}
-use Rattle.items.specs.endpoints.{Tried, Deep, intercept, deep-step, deeper, deep-run, deep-place, deep-braces, device-version, device-type, attribute-instantiation, Instance, attribute-instance, command-instance, event-instance, instance-tries, Instantiation, cluster-instantiation, Part, device, binding, instantiation, part-tries, Endpoint, endpoint-head, endpoint}
+use Rattle.items.specs.entries.{enclosed, where-missing, braces, api-maturity, constant-annotations-list, constant-entry, blank-entry, constant-entries, constant-entries-list, choice-head, choice-after-doc-maturity, parse-enum-after-doc-maturity, parse-bitmap-after-doc-maturity}
+use Rattle.items.specs.structs.{parse-field, parse-struct-field, closed-field, fields-run, struct-fields, struct-type-of, struct-head, parse-struct-after-doc-maturity}
+use Rattle.items.specs.members.{event-head, parse-event-after-doc-maturity, command-types, parse-command-after-doc-maturity, attribute-access, parse-attribute-after-doc-maturity}
+use Rattle.items.specs.clusters.{Member, bitmap, enum, struct, attribute, command, event, mapped, parse-revision, member-tries, parse-cluster-member, cluster-members, cluster-head, parse-cluster}
+use Rattle.items.specs.endpoints.{Tried, Deep, intercept, deep-step, deeper, deep-run, deep-place, deep-braces, device-version, device-type, attribute-instantiation, attribute-instance, command-instance, event-instance, instance-tries, cluster-instantiation, device, binding, instantiation, part-tries, endpoint-head, endpoint}
 use Rattle.items.specs.items.{Item, cluster-item, endpoint-item, enum-item, bitmap-item, struct-item, blank-item, with-doc-maturity, item}
-use Rattle.items.specs.records.{Record, each, plain, documented, entry-record, choice-records, field-record, struct-records, attribute-records, command-record, event-records, member-records, cluster-records, instance-record, part-records, endpoint-records, item-records}
+use Rattle.items.specs.records.{Record, each, plain, entry-record, choice-records, field-record, struct-records, attribute-records, command-record, event-records, member-records, cluster-records, instance-record, part-records, endpoint-records, item-records}
 use Rattle.items.specs.layout.{layout-20, record-words, catalogue-words, word-count}
 use Rattle.items.specs.answers.items.{unhoisted-item}
 use Rattle.items.proofs.Onward.{onward-then, onward-catch, onward-fail}
@@ -427,7 +427,7 @@ blank-item-weighs : Weighs 0 (λ i. word-count (unhoisted-item i)) (whitespace1 
 unfolding item-records
 blank-item-weighs = weighs-then (takes-any whitespace1-chain) (weighs-ret blank-item (omega (arith, word-count-none)))
 
-item-weighs : Weighs 0 (λ i. word-count (unhoisted-item i)) item
+pub item-weighs : Weighs 0 (λ i. word-count (unhoisted-item i)) item
 unfolding item item-records parse-enum-after-doc-maturity parse-bitmap-after-doc-maturity
 item-weighs =
     weighs-or (weighs-mapped cluster-item cluster-weighs) (
