@@ -4,8 +4,8 @@ set -eu
 cd "$(dirname "$0")/.."
 mkdir -p target/bench
 rt staticlib matter_idl >/dev/null
-bench/grow 262144 samples/[a-z]*[a-z].matter >target/bench/device_256k.matter
-bench/grow 1048575 samples/[a-z]*[a-z].matter >target/bench/device_1m.matter
+bench/grow 262144 samples/{door_flasher,pillow_shaker,streamer}.matter >target/bench/device_256k.matter
+bench/grow 1048575 samples/{door_flasher,pillow_shaker,streamer}.matter >target/bench/device_1m.matter
 gcc -O2 -Wall -Wextra -o target/bench/shapes bench/shapes.c target/staticlib/libmatter_idl.a
 target/bench/shapes target/bench/device_256k.matter target/bench/device_1m.matter
 if command -v cargo >/dev/null; then
