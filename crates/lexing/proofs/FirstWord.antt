@@ -16,7 +16,7 @@ use Rattle.lexing.specs.word_sets.{next-word, set-step, keywords-set, sa
 use Rattle.lexing.proofs.Tests.{and-left, and-right, blank-fails, false-if}
 use Rattle.lexing.proofs.TokenLocality.{blank-no-letter, no-group, one-blank-consumes, set-step-consumes}
 use Rattle.lexing.proofs.Repetition.{iter-fail}
-use Rattle.lexing.proofs.words.Laws.{no-letter, keyword-no-word, keyword-other, keyword-same}
+use Rattle.lexing.proofs.words.Laws.{no-letter, keyword-no-word, keyword-other, keyword-same, key-differs}
 
 -- the first word of u is the keyword k
 pub record Starts (k u : List ℕ) : Type 0 where
@@ -66,6 +66,10 @@ free-set b u n l = rw (iter-fail (set-step (set-of n)) keep (set-step-consumes (
   where
     none : set-step (set-of n) [] b u ≡ fail b
     none = rw (free-keywords b u (set-of n) l, set-step, next-word, _>>=_)
+
+-- a keyword that begins with another byte than the text, in lower case, is not there
+pub other-first : (x : ℕ) (k : List ℕ) (b : ℕ) (u : List ℕ) → (lower (getD u 0 0) ≡ x → ⊥) → keyword (x ∷ k) b u ≡ fail b
+other-first x k b u h = sym (key-differs (x ∷ k) b u 0 (omega arith) h)
 
 -- a first word out of some, and so none of others
 abbrev lacks : List ℕ → List (List ℕ) → Bool
