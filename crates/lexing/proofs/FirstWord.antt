@@ -69,7 +69,7 @@ free-set b u n l = rw (iter-fail (set-step (set-of n)) keep (set-step-consumes (
 
 -- a keyword that begins with another byte than the text, in lower case, is not there
 pub other-first : (x : ℕ) (k : List ℕ) (b : ℕ) (u : List ℕ) → (lower (getD u 0 0) ≡ x → ⊥) → keyword (x ∷ k) b u ≡ fail b
-other-first x k b u h = sym (key-differs (x ∷ k) b u 0 (omega arith) h)
+other-first x k b u h = sym (key-differs (x ∷ k) b u 0 (omega arith) (λ e w. h e))
 
 -- a first word out of some, and so none of others
 abbrev lacks : List ℕ → List (List ℕ) → Bool
