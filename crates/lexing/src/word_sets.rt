@@ -220,9 +220,8 @@ fn word_start(part: &[u8], base: usize, first: bool) -> Start
     Start::Here(next)
 }
 
-// A set by its number: of a struct's field, a struct, an event, a command, an attribute; any other is empty. Most words that are in no set
-// are told by their first byte, before the walk over the keywords.
-pub fn keywords_set(part: &[u8], base: usize, set: u8) -> WordSet
+// The words of a set. A word that no keyword begins like ends it before the walk over the keywords.
+fn words_of_set(part: &[u8], base: usize, set: u8) -> WordSet
     requires { ⌜ base + length (now part) ≤ u64-max ⌝ }
     ensures { λ r. ⌜ WordSetTo r set base (now (part .entry)) ⌝ }
 {
@@ -253,4 +252,23 @@ pub fn keywords_set(part: &[u8], base: usize, set: u8) -> WordSet
         break;
     }
     WordSet { flags, next }
+}
+
+// A set by its number: of a struct's field, a struct, an event, a command, an attribute; any other is empty. Most sets have no word, which the
+// first byte tells. The loop over words is called at two places, so that it stays a function of its own and what is left here is short.
+pub fn keywords_set(part: &[u8], base: usize, set: u8) -> WordSet
+    requires { ⌜ base + length (now part) ≤ u64-max ⌝ }
+    ensures { λ r. ⌜ WordSetTo r set base (now (part .entry)) ⌝ }
+{
+    let x = peek(part, 0);
+    if is_initial(set, x) {
+        return words_of_set(part, base, set);
+    }
+    if is_initial(set, lower_of(x)) {
+        return words_of_set(part, base, set);
+    }
+    WordSet {
+        flags: 0,
+        next: base,
+    }
 }

@@ -488,6 +488,12 @@ module _ {n b : ℕ} {u : List ℕ} {f c : ℕ} {t : Bool} {m : ℕ} {r : List �
 pub set-no-initial : {n b : ℕ} {u : List ℕ} {f c : ℕ} {t : Bool} {m : ℕ} {r : List ℕ} → SetAt n b u f c t → Took (set-gap t) b u c tt m → Rest b u m r → initial (lower (getD r 0 0)) (set-of n) ≡ false → WordSetTo (record { flags = f; next = c }) n b u
 set-no-initial {n} {m = m} {r = r} i s d e = ended i m (on (any-keyword (set-of n)) s (sym (rw (d .same) at (free-keywords m r (set-of n) (no-initial m r (set-of n) e)))))
 
+pub set-none : (n b : ℕ) (u : List ℕ) → initial (lower (getD u 0 0)) (set-of n) ≡ false → WordSetTo (record { flags = 0; next = b }) n b u
+set-none n b u e = set-no-initial (set-start n b u) (start-took true (Here b) b here (start-first b u true refl) refl) here e
+  where
+    here : Rest b u b u
+    here = let z : b - b ≡ 0 = omega arith in record { from = omega arith; same = rw z; size = refl }
+
 -- the flags of a set, by its size
 pub set-fits : {r : WordSet} {n b : ℕ} {u : List ℕ} → WordSetTo r n b u → r .flags < 2 ^ length (set-of n)
 unfolding set-flags _>>=_ ret

@@ -1,10 +1,10 @@
 use borrow.Author.Needs.{needs}
 use Rattle.lexing.proofs.integers.positive_integer.Statement.{statement}
 use Rattle.lexing.proofs.integers.positive_integer.Tie as tie
+use borrow.Author.Tests.{not-true, not-false}
 use mathlib.Core.Path.{sym, _∙_, ap}
 use native.Mathlib.Omega.{arith}
 use denote.Ref.{now}
-use borrow.Author.Tests.{not-true, not-false}
 use Rattle.lexing.specs.bytes.{isDigit}
 use Rattle.lexing.proofs.integers.Laws.{digit-inside, no-digit, two-digits, one-digit}
 
