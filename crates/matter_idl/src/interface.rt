@@ -36,7 +36,8 @@ pub extern "C" fn matter_idl_read(text: &[u8], catalogue: &mut [u8]) -> u64
             if catalogue.len() < 8 * n {
                 return packed(7, 8 * n);
             }
-            write_items(text, text, 0, catalogue, 0);
+            let mut filter = [0; 65536];
+            write_items(text, text, 0, catalogue, &mut filter, 0);
             packed(0, 8 * n)
         }
     }
@@ -61,7 +62,8 @@ pub extern "C" fn matter_idl_survey(text: &[u8], catalogue: &mut [u8], report: &
     if catalogue.len() < 8 * words {
         return packed(7, 8 * words);
     }
-    write_sections(text, sections, &marks, catalogue, report);
+    let mut filter = [0; 65536];
+    write_sections(text, sections, &marks, catalogue, &mut filter, report);
     packed(0, 8 * words)
 }
 

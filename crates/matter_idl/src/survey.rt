@@ -9,6 +9,7 @@ ghost use Rattle.matter_idl.specs.hoisting.{no-ids, hoisted};
 ghost use Rattle.matter_idl.specs.sections.{sections};
 ghost use Rattle.matter_idl.specs.reading.{verdict-at};
 ghost use Rattle.matter_idl.specs.survey.{items-of, accepted-items, entries, report-20, report-bytes};
+ghost use Rattle.matter_idl.specs.inner.filter.{filter-size};
 ghost use Rattle.matter_idl.specs.inner.reading.{PartOf, HoistedFront};
 ghost use Rattle.matter_idl.specs.inner.survey.{entryWord, verdictWord, entryOf, PlaceFits, wordsOf, remembered, Marks, MarkTrue, Judged, SectionBehindTo};
 use crate::reading::Verdict;
@@ -121,29 +122,38 @@ fn write_accepted(
     base: usize,
     v: Verdict,
     catalogue: &mut [u8],
+    filter: &mut [u8],
     to: usize,
 ) -> usize
     requires { ⌜ length (now text) ≤ text-limit ⌝ }
     requires { ⌜ PartOf (now text) base (now part) ⌝ }
     requires { ⌜ Judged v base (now part) ⌝ }
     requires { ⌜ to + 8 * word-count (hoisted no-ids (items-of (verdict-at base (now part)))) ≤ length (now catalogue) ⌝ }
-    requires { ⌜ HoistedFront (now text) (now catalogue) to ⌝ }
-    ensures { λ r. ⌜ SectionBehindTo (now (catalogue .exit)) (now (text .entry)) (now (catalogue .entry)) to base (now (part .entry)) r ⌝ }
+    requires { ⌜ HoistedFront (now text) (now catalogue) (now filter) to ⌝ }
+    ensures { λ r. ⌜ SectionBehindTo (now (catalogue .exit)) (now (filter .exit)) (now (text .entry)) (now (catalogue .entry)) (now (filter .entry)) to base (now (part .entry)) r ⌝ }
 {
     let Verdict::Accepted(_) = v else {
         return to;
     };
-    let wrote = write_items(text, part, base, catalogue, to);
+    let wrote = write_items(text, part, base, catalogue, filter, to);
     wrote.to
 }
 
 // The second pass: each section's entry, and its records if it is accepted.
-pub fn write_sections(text: &[u8], m: usize, marks: &[u8], catalogue: &mut [u8], report: &mut [u8])
+pub fn write_sections(
+    text: &[u8],
+    m: usize,
+    marks: &[u8],
+    catalogue: &mut [u8],
+    filter: &mut [u8],
+    report: &mut [u8],
+)
     requires { ⌜ length (now text) ≤ text-limit ⌝ }
     requires { ⌜ m ≡ length (sections (now text)) ⌝ }
     requires { ⌜ Marks (now marks) (entries 0 (sections (now text))) ⌝ }
     requires { ⌜ 8 * word-count (hoisted no-ids (accepted-items 0 (sections (now text)))) ≤ length (now catalogue) ⌝ }
     requires { ⌜ 8 * m ≤ length (now report) ⌝ }
+    requires { ⌜ length (now filter) ≡ filter-size ⌝ }
     ensures { λ _. ⌜ now (catalogue .exit) ≡ put 0 (catalogue-bytes layout-20 (hoisted no-ids (accepted-items 0 (sections (now (text .entry)))))) (now (catalogue .entry)) ⌝ }
     ensures { λ _. ⌜ now (report .exit) ≡ put 0 (report-bytes report-20 (entries 0 (sections (now (text .entry))))) (now (report .entry)) ⌝ }
 {
@@ -155,7 +165,7 @@ pub fn write_sections(text: &[u8], m: usize, marks: &[u8], catalogue: &mut [u8],
         let part = section_at(text, start, end);
         let v = verdict_again(part, start, marks, i);
         put_entry(report, 8 * i, start, end - start, v);
-        to = write_accepted(text, part, start, v, catalogue, to);
+        to = write_accepted(text, part, start, v, catalogue, filter, to);
         start = end;
         i += 1;
     }

@@ -105,7 +105,7 @@ accepted-reads {n} {b} {u} h = go (utf8-error b u) refl (all-items b u) refl
 
 -- The records of a section behind those before it.
 module _ {v : Verdict} {b : ℕ} {u : List ℕ} (h : Judged v b u) where
-  pub refused-behind : {k p : ℕ} → v ≡ Refused k p → {t out : List ℕ} {at : ℕ} → SectionBehindTo out t out at b u at
+  pub refused-behind : {k p : ℕ} → v ≡ Refused k p → {t out filter : List ℕ} {at : ℕ} → SectionBehindTo out filter t out filter at b u at
   refused-behind e {at = at} f =
       let z : at - at ≡ 0 = omega arith in
       record { front = f; front-items = rw (refused-items (judged-as e h)) (sym (append-nil (f .items))); front-tail = rw z refl }
@@ -113,7 +113,7 @@ module _ {v : Verdict} {b : ℕ} {u : List ℕ} (h : Judged v b u) where
   pub judged-room : {n : ℕ} → v ≡ Accepted n → {at size : ℕ} → at + 8 * word-count (hoisted no-ids (items-of (verdict-at b u))) ≤ size → Room (each unhoisted-item) all-items b u at size
   judged-room e l = let r = accepted-reads (judged-as e h) in record { value = items-of (verdict-at b u); next = r .0; is = r .1; fits = omega (arith, hoisted-words no-ids (items-of (verdict-at b u)), l) }
 
-  pub accepted-behind : {n : ℕ} → v ≡ Accepted n → {new t old : List ℕ} {at : ℕ} {w : Wrote} → HoistedItemsTo new t old at b u w → SectionBehindTo new t old at b u (w .to)
+  pub accepted-behind : {n : ℕ} → v ≡ Accepted n → {new filter t old filter₀ : List ℕ} {at : ℕ} {w : Wrote} → HoistedItemsTo new filter t old filter₀ at b u w → SectionBehindTo new filter t old filter₀ at b u (w .to)
   accepted-behind e g f =
       let k = g f in
       let z = accepted-reads (judged-as e h) .1 ∙ sym (k .is) in

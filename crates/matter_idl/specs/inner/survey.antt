@@ -56,10 +56,10 @@ pub record Judged (v : Verdict) (b : ℕ) (u : List ℕ) : Type 0 where
   pub fits : PlaceFits v
 
 -- the items of a section, if it is accepted, hoisted behind those before; the rest of the buffer is as it was
-pub record SectionBehind {t old : List ℕ} {at : ℕ} (f : HoistedFront t old at) (b : ℕ) (u : List ℕ) (to : ℕ) (new : List ℕ) : Type 0 where
-  pub front : HoistedFront t new to
+pub record SectionBehind {t old filter₀ : List ℕ} {at : ℕ} (f : HoistedFront t old filter₀ at) (b : ℕ) (u : List ℕ) (to : ℕ) (new filter : List ℕ) : Type 0 where
+  pub front : HoistedFront t new filter to
   pub front-items : front .items ≡ f .items ++ items-of (verdict-at b u)
   pub front-tail : front .tail ≡ drop (to - at) (f .tail)
 
-abbrev pub SectionBehindTo : (new t old : List ℕ) → ℕ → ℕ → List ℕ → ℕ → Type 0
-SectionBehindTo new t old at b u to = (f : HoistedFront t old at) → SectionBehind f b u to new
+abbrev pub SectionBehindTo : (new filter t old filter₀ : List ℕ) → ℕ → ℕ → List ℕ → ℕ → Type 0
+SectionBehindTo new filter t old filter₀ at b u to = (f : HoistedFront t old filter₀ at) → SectionBehind f b u to new filter

@@ -1,0 +1,58 @@
+-- The filter before the search for an id: bytes whose bits are set for the ids of global types, and never cleared.
+use Prim.Native.Nat.{ℕ, _+_, _*_, _^_, _/_, _%_, _<_}
+use mathlib.Core.Path.{_≡_}
+use mathlib.Core.Bool.{Bool, true, false}
+use mathlib.Core.List.{List, [], _∷_}
+use lib.Dec.{eqb}
+use lib.ListN.{length, getD}
+use Rattle.items.specs.records.{Record}
+use Rattle.items.proofs.Truth.{All}
+use Rattle.matter_idl.specs.hoisting.{bytes-at}
+
+-- its bytes, of which each has eight bits
+abbrev pub filter-size : ℕ
+filter-size = 65536
+
+unfoldable pub has-bit : List ℕ → ℕ → Bool
+has-bit f p = eqb (getD f (p / 8) 0 / 2 ^ (p % 8) % 2) 1
+
+-- every bit of f is set in g
+pub record Grown (g f : List ℕ) : Type 0 where
+  pub size : length g ≡ length f
+  pub kept : (p : ℕ) → has-bit f p ≡ true → has-bit g p ≡ true
+
+pub record BitSet (g f : List ℕ) (p : ℕ) : Type 0 where
+  pub grown : Grown g f
+  pub is : has-bit g p ≡ true
+
+-- the hash of an id: its kind, and then the bytes of its name
+unfoldable pub hash-on : ℕ → List ℕ → ℕ
+hash-on h [] = h
+hash-on h (x ∷ l) = hash-on ((h * 0x1000193 + x) % 2 ^ 32) l
+
+unfoldable pub hash-of : ℕ → List ℕ → ℕ
+hash-of k l = hash-on (0x811c9dc5 + k) l
+
+-- the places of its four bits, as steps of an odd width from a first one
+unfoldable pub position-of : ℕ → ℕ → ℕ
+position-of h j = (h % 2 ^ 19 + j * (h / 2 ^ 19 * 2 + 1)) % 2 ^ 19
+
+pub record Holds (f : List ℕ) (h : ℕ) : Type 0 where
+  pub each-bit : (j : ℕ) → j < 4 → has-bit f (position-of h j) ≡ true
+
+-- the answer no is right
+abbrev pub MayHoldTo : Bool → List ℕ → ℕ → Type 0
+MayHoldTo r f h = r ≡ false → Holds f h → ⊥
+
+pub record Added (g f : List ℕ) (h : ℕ) : Type 0 where
+  pub grown : Grown g f
+  pub holds : Holds g h
+
+-- the filter has the id of a record of a text t, if that is a global type's
+abbrev pub HoldsId : List ℕ → List ℕ → Record → Type 0
+HoldsId f t r = r .place ≡ 1 → Holds f (hash-of (r .kind) (bytes-at t (r .name)))
+
+-- the filter has the ids of all global types among records
+pub record Filtered (f t : List ℕ) (l : List Record) : Type 0 where
+  pub size : length f ≡ filter-size
+  pub ids : All (HoldsId f t) l
