@@ -5,14 +5,12 @@ use mathlib.Core.Bool.{Bool, true, false}
 use mathlib.Core.Option.{Option, none, some}
 use mathlib.Core.List.{List, [], _∷_}
 use native.Mathlib.Omega.{arith}
-use lib.Dec.{leb, eqb}
+use lib.Dec.{leb}
 use lib.ListN.{length, length-append}
 use borrow.Author.Tests.{le-leb}
 use Rattle.lexing.specs.reply.{Reply, ok, fail, stop}
 use Rattle.lexing.specs.outcomes.{refused, fitted}
 use Rattle.lexing.specs.utf8.{utf8-error}
-use Rattle.lexing.specs.word_sets.{bit}
-use Rattle.lexing.proofs.Tests.{and-left}
 use Rattle.items.specs.items.{Item}
 use Rattle.items.specs.layout.{layout-20, catalogue-bytes, word-count, text-limit}
 use Rattle.items.proofs.RecordWords.{word-count-none, catalogue-bytes-length}
@@ -20,14 +18,13 @@ use Rattle.items.proofs.RefusedPlaces.{RefusedIn}
 use Rattle.items.proofs.WordsPerByte.{items-words}
 use Rattle.matter_idl.specs.hoisting.{no-ids, hoisted}
 use Rattle.matter_idl.specs.reading.{all-items, Verdict, accepted, turned-down, by-reply, by-utf8, verdict-at, verdict, into-catalogue, reading}
-use Rattle.matter_idl.specs.sections.{line-feed, closing-brace, cut-after, before-first, cut-from, sections, joined}
+use Rattle.matter_idl.specs.sections.{sections, joined}
 use Rattle.matter_idl.specs.survey.{items-of, accepted-items, entries, report-20, report-bytes, Surveyed, not-surveyed, into-buffers, survey}
 use Rattle.matter_idl.proofs.AllItems.{accepted-many}
 use Rattle.matter_idl.proofs.Places.{hoisted-words}
-use Rattle.matter_idl.proofs.Cutting.{sections-joined}
+use Rattle.matter_idl.proofs.Cutting.{sections-joined, sections-count}
 use Rattle.matter_idl.proofs.reading.Judged.{all-refused}
-use Rattle.matter_idl.proofs.survey.Laws.{report-length, words-more}
-use Rattle.matter_idl.proofs.interface.SurveyOutcomes.{entries-count}
+use Rattle.matter_idl.proofs.survey.Laws.{report-length, entries-count, words-more}
 
 -- how many words the records of items take
 abbrev words : List Item → ℕ
@@ -100,34 +97,6 @@ sections-words b (s ∷ ss) =
 
 pub survey-words : (u : List ℕ) → word-count (hoisted no-ids (accepted-items 0 (sections u))) ≤ length u
 survey-words u = let z = ap length (sections-joined u) in omega (arith, z, sections-words 0 (sections u))
-
--- A cut takes two bytes, so a text of n bytes has at most n / 2 + 1 sections.
-first-count : (x : ℕ) (ss : List (List ℕ)) {n : ℕ} → 2 ≤ n → 2 * length ss ≤ n → 2 * length (before-first x ss) ≤ n
-unfolding before-first
-first-count x [] h k = h
-first-count x (s ∷ ss) h k = k
-
-bit-small : (p : Bool) → bit p ≤ 1
-unfolding bit
-bit-small true = omega arith
-bit-small false = omega arith
-
--- p says of the byte before the text whether it is LF
-cuts-count : (p : Bool) (u : List ℕ) → 2 * length (cut-from p u) ≤ 2 + (bit p + length u)
-unfolding cut-from bit
-cuts-count p [] = omega arith
-cuts-count p (x ∷ u) = go (cut-after p x) refl (λ q. cuts-count q u)
-  where
-    behind-feed : cut-after p x ≡ true → bit p ≡ 1
-    behind-feed e = ap bit (and-left p (eqb x closing-brace) (unfold cut-after in e))
-
-    go : (t : Bool) → cut-after p x ≡ t → ((q : Bool) → 2 * length (cut-from q u) ≤ 2 + (bit q + length u)) → 2 * length (cut-from p (x ∷ u)) ≤ 2 + (bit p + length (x ∷ u))
-    go true e ih = rw (e, cut-from) (omega (arith, behind-feed e, ih false))
-    go false e ih = rw (e, cut-from) (first-count x (cut-from (eqb x line-feed) u) (omega arith) (omega (arith, ih (eqb x line-feed), bit-small (eqb x line-feed))))
-
-pub sections-count : (u : List ℕ) → 2 * length (sections u) ≤ 2 + length u
-unfolding sections bit
-sections-count u = omega (arith, cuts-count false u)
 
 -- The survey's buffers.
 catalogue-size : (u : List ℕ) → length (catalogue-bytes layout-20 (hoisted no-ids (accepted-items 0 (sections u)))) ≤ 8 * length u

@@ -2,7 +2,10 @@
 ghost use mathlib.Core.Path.{_≡_};
 ghost use Prim.Native.Nat.{_+_, _^_, _≤_, _<_};
 ghost use lib.ListN.{length, take, drop};
-ghost use Rattle.matter_idl.specs.inner.filter.{filter-size, has-bit, BitSet, hash-of, position-of, MayHoldTo, Added};
+ghost use Rattle.matter_idl.specs.inner.bits.{bits-size};
+ghost use Rattle.matter_idl.specs.inner.filter.{hash-of, position-of, MayHoldTo, Added};
+use crate::bits::has_bit;
+use crate::bits::set_bit;
 
 // The id of a type, which is its kind and the bytes of its name, as a number.
 pub fn hash_of(text: &[u8], kind: u8, name: usize, size: usize) -> u64
@@ -30,34 +33,9 @@ fn position(h: u64, j: u64) -> usize
     ((h % 0x8_0000 + j * step) % 0x8_0000) as usize
 }
 
-fn bit_of(i: usize) -> u8
-    requires { ⌜ i < 8 ⌝ }
-    ensures { λ r. ⌜ r ≡ 2 ^ i ⌝ }
-{
-    let bits = b"\x01\x02\x04\x08\x10\x20\x40\x80";
-    bits[i]
-}
-
-fn has_bit(filter: &[u8], p: usize) -> bool
-    requires { ⌜ length (now filter) ≡ filter-size ⌝ }
-    requires { ⌜ p < 2 ^ 19 ⌝ }
-    ensures { λ r. ⌜ r ≡ has-bit (now (filter .entry)) p ⌝ }
-{
-    filter[p / 8] / bit_of(p % 8) % 2 == 1
-}
-
-fn set_bit(filter: &mut [u8], p: usize)
-    requires { ⌜ length (now filter) ≡ filter-size ⌝ }
-    requires { ⌜ p < 2 ^ 19 ⌝ }
-    ensures { λ _. ⌜ BitSet (now (filter .exit)) (now (filter .entry)) p ⌝ }
-{
-    let i = p / 8;
-    filter[i] = filter[i] | bit_of(p % 8);
-}
-
 // Whether all bits of a hash are set.
 pub fn may_hold(filter: &[u8], h: u64) -> bool
-    requires { ⌜ length (now filter) ≡ filter-size ⌝ }
+    requires { ⌜ length (now filter) ≡ bits-size ⌝ }
     requires { ⌜ h < 2 ^ 32 ⌝ }
     ensures { λ r. ⌜ MayHoldTo r (now (filter .entry)) h ⌝ }
 {
@@ -73,7 +51,7 @@ pub fn may_hold(filter: &[u8], h: u64) -> bool
 
 // Sets all bits of a hash.
 pub fn add(filter: &mut [u8], h: u64)
-    requires { ⌜ length (now filter) ≡ filter-size ⌝ }
+    requires { ⌜ length (now filter) ≡ bits-size ⌝ }
     requires { ⌜ h < 2 ^ 32 ⌝ }
     ensures { λ _. ⌜ Added (now (filter .exit)) (now (filter .entry)) h ⌝ }
 {

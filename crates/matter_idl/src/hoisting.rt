@@ -4,7 +4,7 @@ ghost use Prim.Native.Nat.{_+_, _/_, _%_, _^_, _≤_, _<_};
 ghost use lib.ListN.{length, take, drop};
 ghost use Rattle.lexing.specs.word_sets.{same-bytes};
 ghost use Rattle.items.specs.layout.{from-big-endian, words-of-kind, text-limit};
-ghost use Rattle.matter_idl.specs.inner.filter.{filter-size};
+ghost use Rattle.matter_idl.specs.inner.bits.{bits-size};
 ghost use Rattle.matter_idl.specs.inner.hoisting.{NameIn, word-hits, word-hash, is-unmarked, Catalogue, HeldTo, KnownTo, Marking, MarkedTo, Unhoisted, HoistedTo};
 use crate::filter::add;
 use crate::filter::hash_of;
@@ -136,7 +136,7 @@ fn id_hash(text: &[u8], w: u64) -> u64
 fn is_known(text: &[u8], out: &[u8], filter: &[u8], end: usize, w: u64, h: u64) -> bool
     requires { ⌜ length (now text) ≤ text-limit ⌝ }
     requires { ⌜ Catalogue (length (now text)) (now out) end ⌝ }
-    requires { ⌜ length (now filter) ≡ filter-size ⌝ }
+    requires { ⌜ length (now filter) ≡ bits-size ⌝ }
     requires { ⌜ NameIn w (length (now text)) ⌝ }
     requires { ⌜ h ≡ word-hash (now text) w ⌝ }
     requires { ⌜ h < 2 ^ 32 ⌝ }

@@ -57,7 +57,7 @@ pub extern "C" fn matter_idl_survey(text: &[u8], catalogue: &mut [u8], report: &
     if report.len() < 8 * sections {
         return packed(8, 8 * sections);
     }
-    let mut marks = [0; 4096];
+    let mut marks = [0; 65536];
     let words = count_accepted(text, sections, &mut marks);
     if catalogue.len() < 8 * words {
         return packed(7, 8 * words);

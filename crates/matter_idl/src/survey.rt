@@ -1,7 +1,7 @@
 // The survey of a text: each section is read alone, with offsets of the whole text.
 ghost use mathlib.Core.Path.{_≡_};
 ghost use mathlib.Core.List.{[], _∷_};
-ghost use Prim.Native.Nat.{_+_, _*_, _≤_, _<_};
+ghost use Prim.Native.Nat.{_+_, _*_, _^_, _≤_, _<_};
 ghost use lib.ListN.{length};
 ghost use Rattle.items.specs.layout.{layout-20, catalogue-bytes, text-limit, word-count};
 ghost use Rattle.items.specs.buffers.{put};
@@ -9,16 +9,17 @@ ghost use Rattle.matter_idl.specs.hoisting.{no-ids, hoisted};
 ghost use Rattle.matter_idl.specs.sections.{sections};
 ghost use Rattle.matter_idl.specs.reading.{verdict-at};
 ghost use Rattle.matter_idl.specs.survey.{items-of, accepted-items, entries, report-20, report-bytes};
-ghost use Rattle.matter_idl.specs.inner.filter.{filter-size};
+ghost use Rattle.matter_idl.specs.inner.bits.{bits-size};
 ghost use Rattle.matter_idl.specs.inner.reading.{PartOf, HoistedFront};
-ghost use Rattle.matter_idl.specs.inner.survey.{entryWord, verdictWord, entryOf, PlaceFits, wordsOf, remembered, Marks, MarkTrue, Judged, SectionBehindTo};
+ghost use Rattle.matter_idl.specs.inner.survey.{entryWord, verdictWord, entryOf, PlaceFits, wordsOf, Marks, Remembered, MarkTrue, Judged, SectionBehindTo};
+use crate::bits::has_bit;
+use crate::bits::set_bit;
 use crate::reading::Verdict;
 use crate::reading::verdict_at;
 use crate::reading::write_items;
 use crate::sections::section_at;
 use crate::sections::section_end;
 use items::writing::put_word;
-use lexing::parts::peek;
 use lexing::parts::rest_at;
 
 fn entry_word(start: usize, size: usize, number: usize, place: usize) -> u64
@@ -67,17 +68,16 @@ fn accepted_words(v: Verdict) -> usize
     }
 }
 
-// Marks an accepted section, if there is a byte for it.
+// Marks section i, if it is accepted.
 fn remember(marks: &mut [u8], i: usize, v: Verdict)
-    ensures { λ _. ⌜ now (marks .exit) ≡ remembered i v (now (marks .entry)) ⌝ }
+    requires { ⌜ length (now marks) ≡ bits-size ⌝ }
+    requires { ⌜ i < 2 ^ 19 ⌝ }
+    ensures { λ _. ⌜ Remembered (now (marks .exit)) (now (marks .entry)) i v ⌝ }
 {
     let Verdict::Accepted(_) = v else {
         return;
     };
-    if marks.len() <= i {
-        return;
-    }
-    marks[i] = 1;
+    set_bit(marks, i);
 }
 
 // The first pass over the m sections of a text: the words of the accepted ones, and marks for them.
@@ -103,13 +103,13 @@ pub fn count_accepted(text: &[u8], m: usize, marks: &mut [u8]) -> usize
     n
 }
 
-// The verdict on section i once more, unless it is known that the section is accepted.
+// The verdict on section i: a refused one is judged once more, for its number and place.
 fn verdict_again(part: &[u8], base: usize, marks: &[u8], i: usize) -> Verdict
     requires { ⌜ base + length (now part) ≤ text-limit ⌝ }
     requires { ⌜ MarkTrue (now marks) i base (now part) ⌝ }
     ensures { λ r. ⌜ Judged r base (now (part .entry)) ⌝ }
 {
-    if peek(marks, i) == 1 {
+    if has_bit(marks, i) {
         return Verdict::Accepted(0);
     }
     verdict_at(part, base)
@@ -153,7 +153,7 @@ pub fn write_sections(
     requires { ⌜ Marks (now marks) (entries 0 (sections (now text))) ⌝ }
     requires { ⌜ 8 * word-count (hoisted no-ids (accepted-items 0 (sections (now text)))) ≤ length (now catalogue) ⌝ }
     requires { ⌜ 8 * m ≤ length (now report) ⌝ }
-    requires { ⌜ length (now filter) ≡ filter-size ⌝ }
+    requires { ⌜ length (now filter) ≡ bits-size ⌝ }
     ensures { λ _. ⌜ now (catalogue .exit) ≡ put 0 (catalogue-bytes layout-20 (hoisted no-ids (accepted-items 0 (sections (now (text .entry)))))) (now (catalogue .entry)) ⌝ }
     ensures { λ _. ⌜ now (report .exit) ≡ put 0 (report-bytes report-20 (entries 0 (sections (now (text .entry))))) (now (report .entry)) ⌝ }
 {

@@ -5,12 +5,11 @@ use mathlib.Core.Bool.{Bool, true, false, _&&_}
 use mathlib.Core.List.{List, [], _∷_, _++_}
 use native.Mathlib.Omega.{arith}
 use native.Mathlib.Decide.{ℕ-discrete}
-use native.Mathlib.Nat.{add-zero, mod-lt, div-self, mul-le-mul, one-le-pow}
-use lib.Bits.{bitOr, or-shr, or-mod, or-comm}
+use native.Mathlib.Nat.{add-zero, mod-lt, mul-le-mul}
 use lib.Dec.{eqb}
-use lib.ListN.{length, take, drop, getD, set, length-set}
-use lib.Seq.{drop-cons, getD-set-same, getD-set-other}
-use borrow.Author.Tests.{eqb-true, eq-eqb}
+use lib.ListN.{length, take, drop, getD}
+use lib.Seq.{drop-cons}
+use borrow.Author.Tests.{eqb-true}
 use Rattle.lexing.specs.word_sets.{same-bytes}
 use Rattle.lexing.proofs.Tests.{and-left, and-right, false-if}
 use Rattle.lexing.proofs.word_sets.Laws.{same-eq}
@@ -18,58 +17,8 @@ use Rattle.items.specs.records.{Record}
 use Rattle.items.proofs.Truth.{All}
 use Rattle.items.proofs.RecordsFit.{all-append}
 use Rattle.matter_idl.specs.hoisting.{bytes-at, hits, found}
-use Rattle.matter_idl.specs.inner.filter.{filter-size, has-bit, Grown, BitSet, hash-on, hash-of, position-of, Holds, Added, HoldsId, Filtered}
-
--- the powers of two in a byte
-pub power-at : (i : ℕ) → i < 8 → getD (1 ∷ 2 ∷ 4 ∷ 8 ∷ 16 ∷ 32 ∷ 64 ∷ 128 ∷ []) i 0 ≡ 2 ^ i
-power-at zero h = refl
-power-at (suc zero) h = refl
-power-at (suc (suc zero)) h = refl
-power-at (suc (suc (suc zero))) h = refl
-power-at (suc (suc (suc (suc zero)))) h = refl
-power-at (suc (suc (suc (suc (suc zero))))) h = refl
-power-at (suc (suc (suc (suc (suc (suc zero)))))) h = refl
-power-at (suc (suc (suc (suc (suc (suc (suc zero))))))) h = refl
-power-at (suc (suc (suc (suc (suc (suc (suc (suc i)))))))) h = absurd (omega arith)
-
--- a bit of either is a bit of both together
-or-one : (y : ℕ) → y < 2 → bitOr 1 y ≡ 1
-or-one zero h = refl
-or-one (suc zero) h = refl
-or-one (suc (suc y)) h = absurd (omega arith)
-
-or-left : (a b k : ℕ) → a / 2 ^ k % 2 ≡ 1 → bitOr a b / 2 ^ k % 2 ≡ 1
-or-left a b k h = ap (λ x. x % 2) (or-shr a b k) ∙ or-mod (a / 2 ^ k) (b / 2 ^ k) 1 ∙ rw h (or-one (b / 2 ^ k % 2) (mod-lt _ (omega arith)))
-
-or-right : (a b k : ℕ) → b / 2 ^ k % 2 ≡ 1 → bitOr a b / 2 ^ k % 2 ≡ 1
-or-right a b k h = ap (λ x. x / 2 ^ k % 2) (or-comm a b) ∙ or-left b a k h
-
--- Bits.
-
-bit-on : (f : List ℕ) (p : ℕ) → getD f (p / 8) 0 / 2 ^ (p % 8) % 2 ≡ 1 → has-bit f p ≡ true
-unfolding has-bit
-bit-on f p h = eq-eqb _ _ h
-
-bit-is : (f : List ℕ) (p : ℕ) → has-bit f p ≡ true → getD f (p / 8) 0 / 2 ^ (p % 8) % 2 ≡ 1
-unfolding has-bit
-bit-is f p h = eqb-true _ _ h
-
-module _ (f : List ℕ) (p : ℕ) (z : length f ≡ filter-size) (l : p < 2 ^ 19) where
-  abbrev put-bit : List ℕ
-  put-bit = set f (p / 8) (bitOr (getD f (p / 8) 0) (2 ^ (p % 8)))
-
-  byte-is : getD put-bit (p / 8) 0 ≡ bitOr (getD f (p / 8) 0) (2 ^ (p % 8))
-  byte-is = getD-set-same f (p / 8) _ 0 (omega arith)
-
-  pub bit-set : BitSet put-bit f p
-  bit-set = record {
-    grown = record { size = length-set f (p / 8) _; kept = λ q h. bit-on put-bit q (go q (bit-is f q h) (ℕ-discrete (q / 8) (p / 8))) };
-    is = bit-on put-bit p (ap (λ x. x / 2 ^ (p % 8) % 2) byte-is ∙ or-right (getD f (p / 8) 0) (2 ^ (p % 8)) (p % 8) (ap (λ x. x % 2) (div-self (one-le-pow (p % 8) 2 (omega arith)))));
-  }
-    where
-      go : (q : ℕ) → getD f (q / 8) 0 / 2 ^ (q % 8) % 2 ≡ 1 → Dec (q / 8 ≡ p / 8) → getD put-bit (q / 8) 0 / 2 ^ (q % 8) % 2 ≡ 1
-      go q h (yes e) = rw (e, byte-is) (or-left (getD f (p / 8) 0) (2 ^ (p % 8)) (q % 8) (rw e at h))
-      go q h (no e) = rw (getD-set-other f (p / 8) (q / 8) (bitOr (getD f (p / 8) 0) (2 ^ (p % 8))) 0 e) h
+use Rattle.matter_idl.specs.inner.bits.{bits-size, has-bit, BitSet}
+use Rattle.matter_idl.specs.inner.filter.{Grown, hash-on, hash-of, position-of, Holds, Added, HoldsId, Filtered}
 
 -- The hash of a name, of which the first i bytes are read.
 
@@ -111,6 +60,14 @@ grown-same f = record { size = refl; kept = λ p h. h }
 pub grown-on : {f g k : List ℕ} → Grown k g → Grown g f → Grown k f
 grown-on a b = record { size = a .size ∙ b .size; kept = λ p h. a .kept p (b .kept p h) }
 
+-- a bit that is set leaves the others
+set-grown : {f g : List ℕ} {p : ℕ} → BitSet g f p → Grown g f
+set-grown {f} {g} {p} b = record { size = b .size; kept = λ q h. go q h (ℕ-discrete q p) }
+  where
+    go : (q : ℕ) → has-bit f q ≡ true → Dec (q ≡ p) → has-bit g q ≡ true
+    go q h (yes e) = rw e (b .is)
+    go q h (no e) = b .others q e ∙ h
+
 -- the first j bits are set
 pub record Adding (g f : List ℕ) (h j : ℕ) : Type 0 where
   pub upto : j ≤ 4
@@ -122,18 +79,18 @@ adding-start f h = record { upto = omega arith; grown = grown-same f; bits = λ 
 
 module _ {g f : List ℕ} {h j : ℕ} (a : Adding g f h j) where
   pub adding-more : j < 4 → {p : ℕ} → p ≡ position-of h j → {k : List ℕ} → BitSet k g p → Adding k f h (j + 1)
-  adding-more l e {k} b = record { upto = omega arith; grown = grown-on (b .grown) (a .grown); bits = λ i m. go i m (ℕ-discrete i j) }
+  adding-more l e {k} b = record { upto = omega arith; grown = grown-on (set-grown b) (a .grown); bits = λ i m. go i m (ℕ-discrete i j) }
     where
       go : (i : ℕ) → i < j + 1 → Dec (i ≡ j) → has-bit k (position-of h i) ≡ true
       go i m (yes y) = rw (y, ← e) (b .is)
-      go i m (no y) = b .grown .kept _ (a .bits i (omega arith))
+      go i m (no y) = set-grown b .kept _ (a .bits i (omega arith))
 
   pub adding-end : 4 ≤ j → Added g f h
   adding-end l = record { grown = a .grown; holds = record { each-bit = λ i m. a .bits i (omega arith) } }
 
 -- The ids of records.
 
-pub filtered-none : {f : List ℕ} (t : List ℕ) → length f ≡ filter-size → Filtered f t []
+pub filtered-none : {f : List ℕ} (t : List ℕ) → length f ≡ bits-size → Filtered f t []
 filtered-none t z = record { size = z; ids = tt }
 
 -- the first of records

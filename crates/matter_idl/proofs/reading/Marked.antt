@@ -20,7 +20,8 @@ use Rattle.items.proofs.RecordsFit.{all-append}
 use Rattle.items.proofs.RecordWords.{catalogue-bytes-none, catalogue-bytes-append, catalogue-bytes-length, word-count-none, word-count-append, word-count-more, each-elementwise}
 use Rattle.matter_idl.specs.hoisting.{Tables, no-ids, after-items, hoisted}
 use Rattle.matter_idl.specs.reading.{all-items}
-use Rattle.matter_idl.specs.inner.filter.{filter-size, Filtered}
+use Rattle.matter_idl.specs.inner.bits.{bits-size}
+use Rattle.matter_idl.specs.inner.filter.{Filtered}
 use Rattle.matter_idl.specs.inner.hoisting.{Unhoisted, HoistedTo}
 use Rattle.matter_idl.specs.inner.reading.{PartOf, HoistedFront, HoistedBehind, HoistedItemsTo}
 use Rattle.matter_idl.proofs.Around.{item-whole, items-whole}
@@ -35,7 +36,7 @@ unfolding put
 put-behind at front xs tail e = rw (e, take-at front tail (length front) refl, drop-append-add front tail (length xs)) refl
 
 -- nothing stands at the front yet
-unfoldable pub front-none : (t out : List ℕ) {filter : List ℕ} → length filter ≡ filter-size → HoistedFront t out filter 0
+unfoldable pub front-none : (t out : List ℕ) {filter : List ℕ} → length filter ≡ bits-size → HoistedFront t out filter 0
 unfolding hoisted
 front-none t out z = record { items = []; true-items = tt; tail = out; bytes = rw (catalogue-bytes-none layout-20) refl; ends = omega (arith, word-count-none); filtered = filtered-none t z }
 
@@ -155,7 +156,7 @@ behind-same {old = old} {at = at} {w = w} room {f} h =
     )
 
 -- with nothing at the front, the items of the part alone
-pub hoisted-alone : {t old filter₀ new filter : List ℕ} {b : ℕ} {u : List ℕ} {w : Wrote} → length filter₀ ≡ filter-size → HoistedItemsTo new filter t old filter₀ 0 b u w → {l : List Item} {c : ℕ} {r : List ℕ} → ok l c r ≡ all-items b u → new ≡ catalogue-bytes layout-20 (hoisted no-ids l) ++ drop (8 * word-count (hoisted no-ids l)) old
+pub hoisted-alone : {t old filter₀ new filter : List ℕ} {b : ℕ} {u : List ℕ} {w : Wrote} → length filter₀ ≡ bits-size → HoistedItemsTo new filter t old filter₀ 0 b u w → {l : List Item} {c : ℕ} {r : List ℕ} → ok l c r ≡ all-items b u → new ≡ catalogue-bytes layout-20 (hoisted no-ids l) ++ drop (8 * word-count (hoisted no-ids l)) old
 unfolding front-none
 hoisted-alone {t} {old} {w = w} z g {l} e =
     let k = g (front-none t old z) in

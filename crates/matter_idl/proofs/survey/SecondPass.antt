@@ -3,12 +3,12 @@ use mathlib.Core.Path.{_≡_, refl, sym, ap, _∙_}
 use mathlib.Core.List.{List, [], _∷_, _++_}
 use Prim.Native.Nat.{ℕ, _+_, _-_, _*_, _≤_, _<_}
 use native.Mathlib.Omega.{arith}
-use lib.ListN.{length, take, drop, length-append, length-drop}
-use lib.Seq.{drop-drop, getD-append-seam}
+use lib.ListN.{length, take, drop, getD, length-append, length-drop}
+use lib.Seq.{drop-drop, getD-at}
 use Rattle.lexing.specs.answers.{Rest}
 use Rattle.items.specs.items.{Item}
 use Rattle.items.specs.records.{each}
-use Rattle.items.specs.layout.{layout-20, words-bytes, catalogue-bytes, word-count}
+use Rattle.items.specs.layout.{layout-20, words-bytes, catalogue-bytes, word-count, text-limit}
 use Rattle.items.specs.buffers.{put}
 use Rattle.items.proofs.RecordWords.{catalogue-bytes-length}
 use Rattle.items.proofs.writing.Laws.{put-length, put-nothing, put-on}
@@ -16,11 +16,12 @@ use Rattle.matter_idl.specs.hoisting.{no-ids, hoisted}
 use Rattle.matter_idl.specs.reading.{verdict-at}
 use Rattle.matter_idl.specs.sections.{sections}
 use Rattle.matter_idl.specs.survey.{items-of, accepted-items, Entry, entry, entries, report-20, report-bytes}
-use Rattle.matter_idl.specs.inner.filter.{filter-size}
+use Rattle.matter_idl.specs.inner.bits.{bits-size}
 use Rattle.matter_idl.specs.inner.reading.{PartOf, HoistedFront}
 use Rattle.matter_idl.specs.inner.sections.{FirstSection}
-use Rattle.matter_idl.specs.inner.survey.{entryOf, Marks, MarkTrue, Judged, SectionBehindTo}
+use Rattle.matter_idl.specs.inner.survey.{entryOf, is-sound, no-entry, Marks, MarkTrue, Judged, SectionBehindTo}
 use Rattle.matter_idl.specs.declared.reading.Verdict.{Verdict}
+use Rattle.matter_idl.proofs.Cutting.{section-number}
 use Rattle.matter_idl.proofs.reading.Marked.{put-behind, front-none}
 use Rattle.matter_idl.proofs.survey.Laws.{report-length, report-append, Passed, passed-start, all-seen, all-accepted, left-is, section-ends, passed-more, words-more}
 
@@ -34,7 +35,7 @@ pub record WritingSections (t cat₀ rep₀ : List ℕ) (i c to : ℕ) (cat filt
   pub front-tail : front .tail ≡ drop to cat₀
   pub report : rep ≡ put 0 (report-bytes report-20 seen) rep₀
 
-pub writing-start : (t cat rep : List ℕ) {filter : List ℕ} → length filter ≡ filter-size → WritingSections t cat rep 0 0 0 cat filter rep
+pub writing-start : (t cat rep : List ℕ) {filter : List ℕ} → length filter ≡ bits-size → WritingSections t cat rep 0 0 0 cat filter rep
 unfolding front-none report-bytes words-bytes each
 writing-start t cat rep z = record { seen = []; items = []; passed = passed-start t; front = front-none t cat z; front-items = refl; front-tail = refl; report = sym (put-nothing 0 rep) }
 
@@ -82,9 +83,12 @@ module _ {t cat₀ rep₀ : List ℕ} {i c to : ℕ} {cat filter rep : List ℕ}
     pub this-part : PartOf t c s
     this-part = section-part e ends (next .inside)
 
-    pub this-mark : {marks : List ℕ} → Marks marks (entries 0 (sections t)) → MarkTrue marks i c s
+    this-entry : getD (entries 0 (sections t)) i no-entry ≡ entry c (length s) (verdict-at c s)
     unfolding entries
-    this-mark m = record { sound-here = λ x. let k = m .sound-at i x in rw (h .passed .seen-are, left-is (h .passed) more q f e, ← h .passed .number, getD-append-seam) at k }
+    this-entry = rw (h .passed .seen-are, left-is (h .passed) more q f e) (getD-at (h .seen) _ _ no-entry i (h .passed .number))
+
+    pub this-mark : length t ≤ text-limit → {marks : List ℕ} → Marks marks (entries 0 (sections t)) → MarkTrue marks i c s
+    this-mark l m = record { size = m .size; place = section-number t l more; mark = m .each-bit i ∙ ap is-sound this-entry }
 
     pub entry-room : 8 * i + 8 ≤ length rep
     entry-room = omega (arith, report-same, rows, more)

@@ -3,27 +3,16 @@ use Prim.Native.Nat.{ℕ, _+_, _*_, _^_, _/_, _%_, _<_}
 use mathlib.Core.Path.{_≡_}
 use mathlib.Core.Bool.{Bool, true, false}
 use mathlib.Core.List.{List, [], _∷_}
-use lib.Dec.{eqb}
-use lib.ListN.{length, getD}
+use lib.ListN.{length}
 use Rattle.items.specs.records.{Record}
 use Rattle.items.proofs.Truth.{All}
 use Rattle.matter_idl.specs.hoisting.{bytes-at}
-
--- its bytes, of which each has eight bits
-abbrev pub filter-size : ℕ
-filter-size = 65536
-
-unfoldable pub has-bit : List ℕ → ℕ → Bool
-has-bit f p = eqb (getD f (p / 8) 0 / 2 ^ (p % 8) % 2) 1
+use Rattle.matter_idl.specs.inner.bits.{bits-size, has-bit}
 
 -- every bit of f is set in g
 pub record Grown (g f : List ℕ) : Type 0 where
   pub size : length g ≡ length f
   pub kept : (p : ℕ) → has-bit f p ≡ true → has-bit g p ≡ true
-
-pub record BitSet (g f : List ℕ) (p : ℕ) : Type 0 where
-  pub grown : Grown g f
-  pub is : has-bit g p ≡ true
 
 -- the hash of an id: its kind, and then the bytes of its name
 unfoldable pub hash-on : ℕ → List ℕ → ℕ
@@ -54,5 +43,5 @@ HoldsId f t r = r .place ≡ 1 → Holds f (hash-of (r .kind) (bytes-at t (r .na
 
 -- the filter has the ids of all global types among records
 pub record Filtered (f t : List ℕ) (l : List Record) : Type 0 where
-  pub size : length f ≡ filter-size
+  pub size : length f ≡ bits-size
   pub ids : All (HoldsId f t) l

@@ -3,10 +3,12 @@ use Rattle.matter_idl.proofs.interface.matter_idl_survey.Statement.{sta
 use Rattle.matter_idl.proofs.interface.matter_idl_survey.Tie as tie
 use borrow.Author.Tests.{le-leb, lt-leb}
 use denote.Ref.{now}
+use mathlib.Core.Path.{refl}
 use native.Mathlib.Omega.{arith}
 use Prim.Native.Nat.{ℕ}
 use lib.ListN.{length, length-replicate}
-use Rattle.matter_idl.proofs.interface.SurveyOutcomes.{survey-refused, survey-long, survey-rows, survey-short, survey-done, report-kept, catalogue-kept, unmarked}
+use Rattle.matter_idl.proofs.interface.SurveyOutcomes.{survey-refused, survey-long, survey-rows, survey-short, survey-done, report-kept, catalogue-kept}
+use Rattle.matter_idl.proofs.survey.Remembered.{unmarked}
 
 packed-requires : tie.Need-packed-requires
 packed-requires c κs = search needs
@@ -33,7 +35,7 @@ slice-aggregate-count-accepted : tie.Need-slice-aggregate-count-accepted
 slice-aggregate-count-accepted c = search needs
 
 count-accepted-requires : tie.Need-count-accepted-requires
-count-accepted-requires c κs = (omega (arith, c .before .before .before .if1 .left), (c .before .before .count-sections .ensures .0, unmarked 4096))
+count-accepted-requires c κs = (omega (arith, c .before .before .before .if1 .left), (c .before .before .count-sections .ensures .0, unmarked 65536 refl))
 
 mul-if3 : tie.Need-mul-if3
 mul-if3 c = omega (arith, c .before .count-accepted .ensures .1 .0, c .before .before .before .before .before .if1 .left)

@@ -26,7 +26,7 @@ section-at-requires : tie.Need-section-at-requires Inv-loop μ-loop
 section-at-requires c κs = (c .section-end .ensures .from, omega (arith, c .section-end .ensures .inside, c .before .rest-at .ensures .size))
 
 verdict-again-requires : tie.Need-verdict-again-requires Inv-loop μ-loop
-verdict-again-requires c κs = (omega (arith, section-ends ((c .before .before .before .before .loop .inv) .passed) (omega (arith, c .before .before .before .loop-test .taken, c .before .before .before .before .before .before .before .before .before .before .pre .1 .0)) (c .before .before .rest-at .ensures) (c .before .section-end .ensures) (c .section-at .ensures), c .before .section-end .ensures .inside, c .before .before .rest-at .ensures .size, c .before .before .before .before .before .before .before .before .before .before .pre .0), this-mark (c .before .before .before .before .loop .inv) (c .before .before .before .before .before .before .before .before .before .before .pre .1 .1 .1 .0) (omega (arith, c .before .before .before .before .before .before .before .before .before .before .pre .1 .0, c .before .before .before .before .before .before .before .before .before .before .pre .1 .1 .1 .1 .0)) (omega (arith, c .before .before .before .loop-test .taken, c .before .before .before .before .before .before .before .before .before .before .pre .1 .0)) (c .before .before .rest-at .ensures) (c .before .section-end .ensures) (c .section-at .ensures) (c .before .before .before .before .before .before .before .before .before .before .pre .1 .1 .0))
+verdict-again-requires c κs = (omega (arith, section-ends ((c .before .before .before .before .loop .inv) .passed) (omega (arith, c .before .before .before .loop-test .taken, c .before .before .before .before .before .before .before .before .before .before .pre .1 .0)) (c .before .before .rest-at .ensures) (c .before .section-end .ensures) (c .section-at .ensures), c .before .section-end .ensures .inside, c .before .before .rest-at .ensures .size, c .before .before .before .before .before .before .before .before .before .before .pre .0), this-mark (c .before .before .before .before .loop .inv) (c .before .before .before .before .before .before .before .before .before .before .pre .1 .1 .1 .0) (omega (arith, c .before .before .before .before .before .before .before .before .before .before .pre .1 .0, c .before .before .before .before .before .before .before .before .before .before .pre .1 .1 .1 .1 .0)) (omega (arith, c .before .before .before .loop-test .taken, c .before .before .before .before .before .before .before .before .before .before .pre .1 .0)) (c .before .before .rest-at .ensures) (c .before .section-end .ensures) (c .section-at .ensures) (c .before .before .before .before .before .before .before .before .before .before .pre .0) (c .before .before .before .before .before .before .before .before .before .before .pre .1 .1 .0))
 
 mul-put-entry : tie.Need-mul-put-entry Inv-loop μ-loop
 mul-put-entry c = omega (arith, entry-room (c .before .before .before .before .before .before .loop .inv) (c .before .before .before .before .before .before .before .before .before .before .before .before .pre .1 .1 .1 .0) (omega (arith, c .before .before .before .before .before .before .before .before .before .before .before .before .pre .1 .0, c .before .before .before .before .before .before .before .before .before .before .before .before .pre .1 .1 .1 .1 .0)) (omega (arith, c .before .before .before .before .before .loop-test .taken, c .before .before .before .before .before .before .before .before .before .before .before .before .pre .1 .0)) (c .before .before .before .before .rest-at .ensures) (c .before .before .before .section-end .ensures) (c .before .before .section-at .ensures))

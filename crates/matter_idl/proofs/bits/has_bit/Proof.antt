@@ -1,11 +1,11 @@
 use borrow.Author.Needs.{needs}
-use Rattle.matter_idl.proofs.filter.has_bit.Statement.{statement}
-use Rattle.matter_idl.proofs.filter.has_bit.Tie as tie
+use Rattle.matter_idl.proofs.bits.has_bit.Statement.{statement}
+use Rattle.matter_idl.proofs.bits.has_bit.Tie as tie
 use mathlib.Core.Path.{refl}
 use Prim.Native.Nat.{_%_}
 use native.Mathlib.Omega.{arith}
 use native.Mathlib.Nat.{one-le-pow}
-use Rattle.matter_idl.specs.inner.filter.{has-bit}
+use Rattle.matter_idl.specs.inner.bits.{has-bit}
 
 shared-slice-read-result : tie.Need-shared-slice-read-result
 shared-slice-read-result c = search needs
@@ -14,7 +14,7 @@ bit-of-requires : tie.Need-bit-of-requires
 bit-of-requires c κs = search needs
 
 div-result : tie.Need-div-result
-div-result c = omega (arith, c .bit-of .ensures, one-le-pow (c .before .before .before .args .p % 8) 2 (omega arith))
+div-result c = omega (arith, c .bit-of .ensures, one-le-pow (c .before .before .before .args .i % 8) 2 (omega arith))
 
 returns : tie.Need-returns
 unfolding has-bit

@@ -1,7 +1,7 @@
 use borrow.Author.Needs.{needs}
-use Rattle.matter_idl.proofs.filter.bit_of.Statement.{statement}
-use Rattle.matter_idl.proofs.filter.bit_of.Tie as tie
-use Rattle.matter_idl.proofs.filter.Laws.{power-at}
+use Rattle.matter_idl.proofs.bits.bit_of.Statement.{statement}
+use Rattle.matter_idl.proofs.bits.bit_of.Tie as tie
+use Rattle.matter_idl.proofs.bits.Laws.{power-at}
 
 element-copy-out-result : tie.Need-element-copy-out-result
 element-copy-out-result c = search needs
