@@ -1,9 +1,9 @@
-// A filter before the search for an id: four bits are set for the id of every global type, so an id that has one of its bits clear is that of none.
+// A filter before the search for an id: eight bits are set for the id of every global type, so an id that has one of its bits clear is that of none.
 ghost use mathlib.Core.Path.{_≡_};
 ghost use Prim.Native.Nat.{_+_, _^_, _≤_, _<_};
 ghost use lib.ListN.{length, take, drop};
 ghost use Rattle.matter_idl.specs.inner.bits.{bits-size};
-ghost use Rattle.matter_idl.specs.inner.filter.{hash-of, position-of, MayHoldTo, Added};
+ghost use Rattle.matter_idl.specs.inner.filter.{id-bits, hash-of, position-of, MayHoldTo, Added};
 use crate::bits::has_bit;
 use crate::bits::set_bit;
 
@@ -16,7 +16,7 @@ pub fn hash_of(text: &[u8], kind: u8, name: usize, size: usize) -> u64
     let mut h = 0x811c_9dc5 + kind as u64;
     let mut i = 0;
     while i < size {
-        h = (h * 0x100_0193 + text[name + i] as u64) % 0x1_0000_0000;
+        h = (h + text[name + i] as u64) * 0x100_0193 % 0x1_0000_0000;
         i += 1;
     }
     h
@@ -25,7 +25,7 @@ pub fn hash_of(text: &[u8], kind: u8, name: usize, size: usize) -> u64
 // The place of the j-th bit of a hash.
 fn position(h: u64, j: u64) -> usize
     requires { ⌜ h < 2 ^ 32 ⌝ }
-    requires { ⌜ j < 4 ⌝ }
+    requires { ⌜ j < id-bits ⌝ }
     ensures { λ r. ⌜ r ≡ position-of h j ⌝ }
     ensures { λ r. ⌜ r < 2 ^ 19 ⌝ }
 {
@@ -40,7 +40,7 @@ pub fn may_hold(filter: &[u8], h: u64) -> bool
     ensures { λ r. ⌜ MayHoldTo r (now (filter .entry)) h ⌝ }
 {
     let mut j = 0;
-    while j < 4 {
+    while j < 8 {
         if !has_bit(filter, position(h, j)) {
             return false;
         }
@@ -56,7 +56,7 @@ pub fn add(filter: &mut [u8], h: u64)
     ensures { λ _. ⌜ Added (now (filter .exit)) (now (filter .entry)) h ⌝ }
 {
     let mut j = 0;
-    while j < 4 {
+    while j < 8 {
         set_bit(filter, position(h, j));
         j += 1;
     }

@@ -18,7 +18,7 @@ use Rattle.items.proofs.Truth.{All}
 use Rattle.items.proofs.RecordsFit.{all-append}
 use Rattle.matter_idl.specs.hoisting.{bytes-at, hits, found}
 use Rattle.matter_idl.specs.inner.bits.{bits-size, has-bit, BitSet}
-use Rattle.matter_idl.specs.inner.filter.{Grown, hash-on, hash-of, position-of, Holds, Added, HoldsId, Filtered}
+use Rattle.matter_idl.specs.inner.filter.{Grown, id-bits, hash-on, hash-of, position-of, Holds, Added, HoldsId, Filtered}
 
 -- The hash of a name, of which the first i bytes are read.
 
@@ -37,7 +37,7 @@ module _ (t : List ℕ) (k o n : ℕ) where
     unfolding hash-on
     hash-end l = let z : n - i ≡ 0 = omega (arith, s .inside) in sym (s .left ∙ rw z refl)
 
-    pub hash-more : i < n → o + n ≤ length t → HashAt t k o n (i + 1) ((h * 0x1000193 + getD t (o + i) 0) % 2 ^ 32)
+    pub hash-more : i < n → o + n ≤ length t → HashAt t k o n (i + 1) ((h + getD t (o + i) 0) * 0x1000193 % 2 ^ 32)
     unfolding hash-on
     hash-more l r =
         let z : n - i ≡ suc (n - suc i) = omega arith in
@@ -46,12 +46,12 @@ module _ (t : List ℕ) (k o n : ℕ) where
         rw y (record { inside = l; small = mod-lt _ (omega arith); left = s .left ∙ rw (z, drop-cons t (o + i) 0 (omega arith), x) refl })
 
 -- the step from bit to bit
-pub steps-small : {h j : ℕ} → h < 2 ^ 32 → j < 4 → j * (h / 2 ^ 19 * 2 + 1) ≤ 3 * 16384
-steps-small {h} {j} l k = let a : j ≤ 3 = omega arith in let b : h / 2 ^ 19 * 2 + 1 ≤ 16384 = omega arith in mul-le-mul a b
+pub steps-small : {h j : ℕ} → h < 2 ^ 32 → j < id-bits → j * (h / 2 ^ 19 * 2 + 1) ≤ 7 * 16384
+steps-small {h} {j} l k = let a : j ≤ 7 = omega arith in let b : h / 2 ^ 19 * 2 + 1 ≤ 16384 = omega arith in mul-le-mul a b
 
 -- The bits of a hash.
 
-pub clear-bit : {f : List ℕ} {h j p : ℕ} → Holds f h → j < 4 → p ≡ position-of h j → has-bit f p ≡ false → ⊥
+pub clear-bit : {f : List ℕ} {h j p : ℕ} → Holds f h → j < id-bits → p ≡ position-of h j → has-bit f p ≡ false → ⊥
 clear-bit {f} a l e c = let z : true ≡ false = sym (a .each-bit _ l) ∙ (ap (has-bit f) (sym e) ∙ c) in let y : _≡_ {A = ℕ} 0 1 = cc in omega arith
 
 pub grown-same : (f : List ℕ) → Grown f f
@@ -70,7 +70,7 @@ set-grown {f} {g} {p} b = record { size = b .size; kept = λ q h. go q h (ℕ-di
 
 -- the first j bits are set
 pub record Adding (g f : List ℕ) (h j : ℕ) : Type 0 where
-  pub upto : j ≤ 4
+  pub upto : j ≤ id-bits
   pub grown : Grown g f
   pub bits : (i : ℕ) → i < j → has-bit g (position-of h i) ≡ true
 
@@ -78,14 +78,14 @@ pub adding-start : (f : List ℕ) (h : ℕ) → Adding f f h 0
 adding-start f h = record { upto = omega arith; grown = grown-same f; bits = λ i l. absurd (omega arith) }
 
 module _ {g f : List ℕ} {h j : ℕ} (a : Adding g f h j) where
-  pub adding-more : j < 4 → {p : ℕ} → p ≡ position-of h j → {k : List ℕ} → BitSet k g p → Adding k f h (j + 1)
+  pub adding-more : j < id-bits → {p : ℕ} → p ≡ position-of h j → {k : List ℕ} → BitSet k g p → Adding k f h (j + 1)
   adding-more l e {k} b = record { upto = omega arith; grown = grown-on (set-grown b) (a .grown); bits = λ i m. go i m (ℕ-discrete i j) }
     where
       go : (i : ℕ) → i < j + 1 → Dec (i ≡ j) → has-bit k (position-of h i) ≡ true
       go i m (yes y) = rw (y, ← e) (b .is)
       go i m (no y) = set-grown b .kept _ (a .bits i (omega arith))
 
-  pub adding-end : 4 ≤ j → Added g f h
+  pub adding-end : id-bits ≤ j → Added g f h
   adding-end l = record { grown = a .grown; holds = record { each-bit = λ i m. a .bits i (omega arith) } }
 
 -- The ids of records.

@@ -17,17 +17,21 @@ pub record Grown (g f : List ℕ) : Type 0 where
 -- the hash of an id: its kind, and then the bytes of its name
 unfoldable pub hash-on : ℕ → List ℕ → ℕ
 hash-on h [] = h
-hash-on h (x ∷ l) = hash-on ((h * 0x1000193 + x) % 2 ^ 32) l
+hash-on h (x ∷ l) = hash-on ((h + x) * 0x1000193 % 2 ^ 32) l
 
 unfoldable pub hash-of : ℕ → List ℕ → ℕ
 hash-of k l = hash-on (0x811c9dc5 + k) l
 
--- the places of its four bits, as steps of an odd width from a first one
+-- the bits of an id
+abbrev pub id-bits : ℕ
+id-bits = 8
+
+-- their places, as steps of an odd width from a first one
 unfoldable pub position-of : ℕ → ℕ → ℕ
 position-of h j = (h % 2 ^ 19 + j * (h / 2 ^ 19 * 2 + 1)) % 2 ^ 19
 
 pub record Holds (f : List ℕ) (h : ℕ) : Type 0 where
-  pub each-bit : (j : ℕ) → j < 4 → has-bit f (position-of h j) ≡ true
+  pub each-bit : (j : ℕ) → j < id-bits → has-bit f (position-of h j) ≡ true
 
 -- the answer no is right
 abbrev pub MayHoldTo : Bool → List ℕ → ℕ → Type 0

@@ -8,7 +8,7 @@ abbrev Inv-loop : tie.InvT-loop
 Inv-loop filter₀ h j₀ filter j = Adding filter filter₀ h j
 
 abbrev μ-loop : tie.MeasureT-loop
-μ-loop filter₀ h j₀ filter j = 4 - j
+μ-loop filter₀ h j₀ filter j = 8 - j
 
 loop-holds : tie.Need-loop-holds Inv-loop μ-loop
 loop-holds c = adding-start _ _

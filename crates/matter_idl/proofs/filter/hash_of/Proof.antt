@@ -17,9 +17,6 @@ add-h c = search needs
 loop-holds : tie.Need-loop-holds Inv-loop μ-loop
 loop-holds c = hash-start _ _ _ _ (omega arith)
 
-mul-h : tie.Need-mul-h Inv-loop μ-loop
-mul-h c = search needs
-
 add-h-2 : tie.Need-add-h-2 Inv-loop μ-loop
 add-h-2 c = search needs
 
@@ -31,6 +28,9 @@ cast-h c = omega (arith, c .shared-slice-known .given (c .before .before .before
 
 add-h-3 : tie.Need-add-h-3 Inv-loop μ-loop
 add-h-3 c = omega (arith, c .shared-slice-known .given (c .before .before .before .args .name + c .before .before .loop .i))
+
+mul-h : tie.Need-mul-h Inv-loop μ-loop
+mul-h c = omega (arith, c .shared-slice-known .given (c .before .before .before .args .name + c .before .before .loop .i))
 
 add-i : tie.Need-add-i Inv-loop μ-loop
 add-i c = search needs
@@ -52,11 +52,11 @@ hash-of-spec =
     μ-loop
     add-h
     loop-holds
-    mul-h
     add-h-2
     shared-slice-read-h
     cast-h
     add-h-3
+    mul-h
     add-i
     loop-less
     loop-again

@@ -9,10 +9,10 @@ use mathlib.Core.Bool.{false≢true}
 use Rattle.matter_idl.proofs.filter.Laws.{clear-bit}
 
 abbrev Inv-loop : tie.InvT-loop
-Inv-loop filter h j₀ j = j ≤ 4
+Inv-loop filter h j₀ j = j ≤ 8
 
 abbrev μ-loop : tie.MeasureT-loop
-μ-loop filter h j₀ j = 4 - j
+μ-loop filter h j₀ j = 8 - j
 
 loop-holds : tie.Need-loop-holds Inv-loop μ-loop
 loop-holds c = omega arith

@@ -2,10 +2,11 @@ use borrow.Author.Needs.{needs}
 use Rattle.matter_idl.proofs.survey.verdict_again.Statement.{statement}
 use Rattle.matter_idl.proofs.survey.verdict_again.Tie as tie
 use mathlib.Core.Path.{sym, _∙_}
+use native.Mathlib.Omega.{arith}
 use Rattle.matter_idl.proofs.survey.Remembered.{judged-of, judged-marked}
 
 has-bit-requires : tie.Need-has-bit-requires
-has-bit-requires c κs = (c .before .before .pre .1 .size, c .before .before .pre .1 .place)
+has-bit-requires c κs = (c .before .before .pre .1 .size, omega (arith, c .before .before .pre .1 .place))
 
 returns : tie.Need-returns
 returns c = judged-marked (c .before .before .before .before .pre .1) (sym (c .before .has-bit .ensures) ∙ c .if1 .taken) _
