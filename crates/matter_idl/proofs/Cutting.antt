@@ -1,4 +1,4 @@
--- Cutting a text: the sections make up the text, and all but the last end at a cut.
+-- Cutting a text: the sections make up the text, all but the last end at a cut, and how many there can be.
 use Prim.Native.Nat.{ℕ, _+_, _*_, _^_, _≤_, _<_}
 use mathlib.Core.Path.{_≡_, refl, sym, _∙_, ap}
 use mathlib.Core.Bool.{Bool, true, false, _&&_, false≢true}

@@ -19,12 +19,13 @@ use Rattle.items.proofs.WordsPerByte.{items-words}
 use Rattle.matter_idl.specs.hoisting.{no-ids, hoisted}
 use Rattle.matter_idl.specs.reading.{all-items, Verdict, accepted, turned-down, by-reply, by-utf8, verdict-at, verdict, into-catalogue, reading}
 use Rattle.matter_idl.specs.sections.{sections, joined}
-use Rattle.matter_idl.specs.survey.{items-of, accepted-items, entries, report-20, report-bytes, Surveyed, not-surveyed, into-buffers, survey}
+use Rattle.matter_idl.specs.survey.{items-of, accepted-items, entries, report-20, report-bytes, not-surveyed, into-buffers, survey}
 use Rattle.matter_idl.proofs.AllItems.{accepted-many}
 use Rattle.matter_idl.proofs.Places.{hoisted-words}
 use Rattle.matter_idl.proofs.Cutting.{sections-joined, sections-count}
 use Rattle.matter_idl.proofs.reading.Judged.{all-refused}
 use Rattle.matter_idl.proofs.survey.Laws.{report-length, entries-count, words-more}
+use Rattle.matter_idl.proofs.interface.SurveyOutcomes.{survey-20}
 
 -- how many words the records of items take
 abbrev words : List Item → ℕ
@@ -123,10 +124,7 @@ module _ (n m : ℕ) (c r : List ℕ) {v : ℕ} where
       go false f = let i = rw (le-leb (length r) m h, f, into-buffers) at e in let z : _≡_ {A = ℕ} 7 8 = cc in omega arith
 
 module _ (u : List ℕ) (n m : ℕ) where
-  abbrev surveyed-20 : Surveyed
-  surveyed-20 = survey layout-20 report-20 u n m
-
-  within-limit : {k v : ℕ} → 7 ≤ k → surveyed-20 ≡ not-surveyed k v → into-buffers n m (catalogue-bytes layout-20 (hoisted no-ids (accepted-items 0 (sections u)))) (report-bytes report-20 (entries 0 (sections u))) ≡ not-surveyed k v
+  within-limit : {k v : ℕ} → 7 ≤ k → survey-20 u n m ≡ not-surveyed k v → into-buffers n m (catalogue-bytes layout-20 (hoisted no-ids (accepted-items 0 (sections u)))) (report-bytes report-20 (entries 0 (sections u))) ≡ not-surveyed k v
   unfolding survey
   within-limit {k} {v} h e = go (leb (length u) text-limit) refl
     where
@@ -135,9 +133,9 @@ module _ (u : List ℕ) (n m : ℕ) where
       go false f = let i = rw (f, survey) at e in let z : _≡_ {A = ℕ} 1 k = cc in absurd (omega (arith, h, z))
 
   -- never refused by 7, whatever the report
-  pub survey-catalogue-enough : 8 * length u ≤ n → {v : ℕ} → surveyed-20 ≡ not-surveyed 7 v → ⊥
+  pub survey-catalogue-enough : 8 * length u ≤ n → {v : ℕ} → survey-20 u n m ≡ not-surveyed 7 v → ⊥
   survey-catalogue-enough h e = catalogue-fits n m _ _ (omega (arith, h, catalogue-size u)) (within-limit (omega arith) e)
 
   -- never refused by 8, whatever the catalogue
-  pub survey-report-enough : 4 * length u + 8 ≤ m → {v : ℕ} → surveyed-20 ≡ not-surveyed 8 v → ⊥
+  pub survey-report-enough : 4 * length u + 8 ≤ m → {v : ℕ} → survey-20 u n m ≡ not-surveyed 8 v → ⊥
   survey-report-enough h e = report-fits n m _ _ (omega (arith, h, report-size u)) (within-limit (omega arith) e)

@@ -1,12 +1,12 @@
 -- Laws of bits: a byte's bits, one bit of an array set, and an array of clear bits.
-use Prim.Native.Nat.{ℕ, zero, suc, _+_, _*_, _^_, _/_, _%_, _<_}
-use mathlib.Core.Path.{_≡_, refl, sym, ap, _∙_}
-use mathlib.Core.Bool.{true, false}
+use Prim.Native.Nat.{ℕ, zero, suc, _^_, _/_, _%_, _<_}
+use mathlib.Core.Path.{_≡_, refl, ap, _∙_}
+use mathlib.Core.Bool.{false}
 use mathlib.Core.List.{List, [], _∷_}
 use native.Mathlib.Omega.{arith}
 use native.Mathlib.Decide.{ℕ-discrete}
 use native.Mathlib.Nat.{div-self, div-eq-of-lt, zero-div, mod-lt, mul-div-mul-right, one-le-pow, pow-suc}
-use lib.Bits.{bitOr, or-shr, or-mod, or-comm, or-zero-r}
+use lib.Bits.{bitOr, or-shr, or-mod, or-zero-r}
 use lib.Dec.{eqb}
 use lib.ListN.{length, getD, set, replicate, length-set}
 use lib.Seq.{getD-set-same, getD-set-other}
