@@ -7,16 +7,17 @@ use Prim.Native.Nat.{ℕ, zero, suc, _+_, _*_, _^_, _<_, max}
 use native.Mathlib.Omega.{arith}
 use lib.Dec.{eqb}
 use lib.ListN.{length, getD}
-use borrow.Author.Tests.{eq-eqb, ne-eqb, eqb-true, not-true}
+use borrow.Author.Tests.{eq-eqb, ne-eqb, eqb-true, eqb-false, not-true}
 use Rattle.lexing.specs.bytes.{slash, isLetter, isWord, isSpace, lower, takeWhile}
 use Rattle.lexing.specs.reply.{Reply, ok, fail, stop, ret, _>>=_, _or_, further, iterWithin, iter, keep}
 use Rattle.lexing.specs.words.{Word, isKeyword, keyword, any-keyword}
 use Rattle.lexing.specs.blanks.{Whitespace, whitespace-group, Doc, no-doc, after, one-blank, whitespace0}
 use Rattle.lexing.specs.word_sets.{next-word, set-step, keywords-set, same-bytes, contains, bit, flags, set-of, set-flags}
-use Rattle.lexing.proofs.Tests.{and-left, and-right, blank-fails, false-if}
+use Rattle.lexing.specs.inner.word_sets.{initial}
+use Rattle.lexing.proofs.Tests.{and-left, and-right, or-false, blank-fails, false-if}
 use Rattle.lexing.proofs.TokenLocality.{blank-no-letter, no-group, one-blank-consumes, set-step-consumes}
 use Rattle.lexing.proofs.Repetition.{iter-fail}
-use Rattle.lexing.proofs.words.Laws.{no-letter, keyword-no-word, keyword-other, keyword-same}
+use Rattle.lexing.proofs.words.Laws.{no-letter, keyword-no-word, keyword-other, keyword-same, key-differs}
 
 -- the first word of u is the keyword k
 pub record Starts (k u : List ℕ) : Type 0 where
@@ -66,6 +67,19 @@ free-set b u n l = rw (iter-fail (set-step (set-of n)) keep (set-step-consumes (
   where
     none : set-step (set-of n) [] b u ≡ fail b
     none = rw (free-keywords b u (set-of n) l, set-step, next-word, _>>=_)
+
+-- a keyword that begins with another byte than the text, in lower case, is not there
+pub other-first : (x : ℕ) (k : List ℕ) (b : ℕ) (u : List ℕ) → (lower (getD u 0 0) ≡ x → ⊥) → keyword (x ∷ k) b u ≡ fail b
+other-first x k b u h = sym (key-differs (x ∷ k) b u 0 (omega arith) (λ e w. h e))
+
+-- nor is one of several where none of them begins so
+pub no-initial : (b : ℕ) (u : List ℕ) (ks : List (List ℕ)) → initial (lower (getD u 0 0)) ks ≡ false → Frees b u ks
+unfolding initial
+no-initial b u [] e = tt
+no-initial b u ([] ∷ ks) e = absurd (true≢false e)
+no-initial b u ((x ∷ k) ∷ ks) e =
+    let o = or-false (eqb (lower (getD u 0 0)) x) (initial (lower (getD u 0 0)) ks) e in
+    (other-first x k b u (eqb-false (lower (getD u 0 0)) x (o .0)), no-initial b u ks (o .1))
 
 -- a first word out of some, and so none of others
 abbrev lacks : List ℕ → List (List ℕ) → Bool

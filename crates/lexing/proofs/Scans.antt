@@ -2,7 +2,7 @@
 use mathlib.Core.Path.{_≡_, refl, sym, ap, _∙_}
 use mathlib.Core.List.{List, [], _∷_}
 use mathlib.Core.Bool.{Bool, true, false}
-use Prim.Native.Nat.{ℕ, suc, _+_, _≤_, _<_, zero-le}
+use Prim.Native.Nat.{ℕ, zero, suc, _+_, _≤_, _<_, zero-le}
 use native.Mathlib.Omega.{arith}
 use native.Mathlib.Numerals.{add-one}
 use native.Mathlib.Nat.{add-zero}
@@ -59,6 +59,17 @@ run-stops f z (x ∷ u) = go (f x) refl (run-stops f z u)
     go : (t : Bool) → f x ≡ t → f (getD u (length (takeWhile f u)) 0) ≡ false → f (getD (x ∷ u) (length (takeWhile f (x ∷ u))) 0) ≡ false
     go true e ih = rw (e, takeWhile) ih
     go false e ih = rw (e, takeWhile) e
+
+-- the bytes of the run pass
+pub run-passes : (f : ℕ → Bool) (u : List ℕ) (i : ℕ) → i < length (takeWhile f u) → f (getD u i 0) ≡ true
+unfolding takeWhile
+run-passes f [] i h = absurd (omega arith)
+run-passes f (x ∷ u) i h = go (f x) refl i h (run-passes f u)
+  where
+    go : (t : Bool) → f x ≡ t → (i : ℕ) → i < length (takeWhile f (x ∷ u)) → ((i : ℕ) → i < length (takeWhile f u) → f (getD u i 0) ≡ true) → f (getD (x ∷ u) i 0) ≡ true
+    go false e i l ih = absurd (let k : i < 0 = rw (e, takeWhile) at l in omega arith)
+    go true e zero l ih = e
+    go true e (suc i) l ih = ih i (let k : suc i < suc (length (takeWhile f u)) = rw (e, takeWhile) at l in omega arith)
 
 run-nil : (f : ℕ → Bool) → takeWhile f [] ≡ []
 unfolding takeWhile

@@ -5,3 +5,4 @@ pub mod strings
 pub mod unescaping
 pub mod utf8
 pub mod word_sets
+pub mod words

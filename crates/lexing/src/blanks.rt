@@ -6,7 +6,7 @@ ghost use lib.ListN.{length, drop, getD};
 ghost use Rattle.lexing.specs.bytes.{slash, isSpace, inLine, takeWhile};
 ghost use Rattle.lexing.specs.integers.{u64-max};
 ghost use Rattle.lexing.specs.blanks.{until-close, whitespace-group, one-blank, whitespace1};
-ghost use Rattle.lexing.specs.inner.blanks.{isClose, endUntil, docBy, turnReply};
+ghost use Rattle.lexing.specs.inner.blanks.{isClose, PlainIf, endUntil, docBy, turnReply};
 ghost use Rattle.lexing.specs.answers.{groupReply, docOf, BlankTo, gapReply, gapLost};
 use crate::answers::Lost;
 use crate::bytes::is_in_line;
@@ -99,12 +99,39 @@ fn is_close_at(part: &[u8], i: usize) -> bool
     peek(part, i + 1) == b'/'
 }
 
-// How many bytes stand before the first `*/`.
+// Whether four bytes stand at a place, none of them a star.
+fn is_plain_at(part: &[u8], i: usize) -> bool
+    requires { ⌜ i ≤ length (now part) ⌝ }
+    ensures { λ r. ⌜ PlainIf r (now (part .entry)) i ⌝ }
+{
+    if part.len() - i < 4 {
+        return false;
+    }
+    if part[i] == b'*' {
+        return false;
+    }
+    if part[i + 1] == b'*' {
+        return false;
+    }
+    if part[i + 2] == b'*' {
+        return false;
+    }
+    if part[i + 3] == b'*' {
+        return false;
+    }
+    true
+}
+
+// How many bytes stand before the first `*/`. A turn passes four bytes without a star, as most are, else one.
 fn comment_end(part: &[u8]) -> End
     ensures { λ r. ⌜ endUntil r (now (part .entry)) ≡ until-close (now (part .entry)) ⌝ }
 {
     let mut i = 0;
     while i < part.len() {
+        if is_plain_at(part, i) {
+            i += 4;
+            continue;
+        }
         if is_close_at(part, i) {
             return End::Closed(i);
         }
@@ -215,14 +242,15 @@ fn doc_by(doc: usize, size: usize) -> DocSpan
     DocSpan::At(doc, size)
 }
 
-// Any number of blanks: white space, and comments with the white space behind each. The run is carried in plain numbers, since an enum in it
-// would be copied at each turn.
-pub fn whitespace0(part: &[u8], base: usize) -> Blank
+// Blanks from behind the white space at the front on: comments with the white space behind each. The run is carried in plain numbers, since
+// an enum in it would be copied at each turn.
+fn more_blanks(part: &[u8], base: usize, from: usize) -> Blank
     requires { ⌜ base + length (now part) ≤ u64-max ⌝ }
+    requires { ⌜ from ≡ base + length (takeWhile isSpace (now part)) ⌝ }
     ensures { λ r. ⌜ BlankTo r base (now (part .entry)) ⌝ }
 {
     let mut b = Run {
-        next: skip_white(part, base, base),
+        next: from,
         doc: 0,
         size: 0,
     };
@@ -239,6 +267,26 @@ pub fn whitespace0(part: &[u8], base: usize) -> Blank
             doc: c.doc,
             size: c.size,
         };
+    }
+}
+
+// Any number of blanks. Most are white space alone, behind which no slash stands. The loop over comments is called at two places, so that
+// it stays a function of its own and what is left here is short.
+pub fn whitespace0(part: &[u8], base: usize) -> Blank
+    requires { ⌜ base + length (now part) ≤ u64-max ⌝ }
+    ensures { λ r. ⌜ BlankTo r base (now (part .entry)) ⌝ }
+{
+    if peek(part, 0) == b'/' {
+        return more_blanks(part, base, base);
+    }
+    let n = white_length(part);
+    let next = base + n;
+    if peek(part, n) == b'/' {
+        return more_blanks(part, base, next);
+    }
+    Blank {
+        next,
+        doc: DocSpan::Absent,
     }
 }
 

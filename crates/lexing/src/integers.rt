@@ -154,7 +154,8 @@ fn decimal_integer(part: &[u8], base: usize) -> Number
     Number::Value(v, base + n)
 }
 
-pub fn positive_integer(part: &[u8], base: usize) -> Number
+// An integer that may be a hexadecimal one.
+fn any_integer(part: &[u8], base: usize) -> Number
     requires { ⌜ base + length (now part) ≤ u64-max ⌝ }
     ensures { λ r. ⌜ numberReply r base (now (part .entry)) ≡ positive-integer base (now (part .entry)) ⌝ }
 {
@@ -162,6 +163,25 @@ pub fn positive_integer(part: &[u8], base: usize) -> Number
         return hex_integer(part, base);
     }
     decimal_integer(part, base)
+}
+
+// An integer without a sign. Most have one digit, and of the others most are decimal: the second byte tells them.
+pub fn positive_integer(part: &[u8], base: usize) -> Number
+    requires { ⌜ base + length (now part) ≤ u64-max ⌝ }
+    ensures { λ r. ⌜ numberReply r base (now (part .entry)) ≡ positive-integer base (now (part .entry)) ⌝ }
+{
+    let x = peek(part, 0);
+    if !is_digit(x) {
+        return Number::NoNumber(Lost::Fail(base));
+    }
+    let y = peek(part, 1);
+    if is_digit(y) {
+        return decimal_integer(part, base);
+    }
+    if is_x(y) {
+        return any_integer(part, base);
+    }
+    Number::Value(digit_of(false, x), base + 1)
 }
 
 // The largest magnitude of a signed 64-bit number.

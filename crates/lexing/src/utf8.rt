@@ -5,7 +5,7 @@ ghost use Prim.Native.Nat.{_+_, _≤_, _<_};
 ghost use lib.ListN.{length, drop, getD};
 ghost use Rattle.lexing.specs.integers.{u64-max};
 ghost use Rattle.lexing.specs.utf8.{utf8-error, errorOf};
-ghost use Rattle.lexing.specs.inner.utf8.{size-of, sequence-size, later, AsciiAt};
+ghost use Rattle.lexing.specs.inner.utf8.{size-of, sequence-size, later, Bounds, AsciiAt};
 use crate::bytes::is_between;
 
 // The offset is that of the first byte of the first ill-formed sequence.
@@ -69,18 +69,33 @@ fn sequence_size(rest: &[u8]) -> usize
     0
 }
 
-// How many bytes a turn passes at an ASCII byte: eight where eight are left and all are ASCII, as in most texts, else one.
+// Four bytes joined bit by bit.
+fn or_4(part: &[u8], i: usize) -> u8
+    requires { ⌜ i + 4 ≤ length (now part) ⌝ }
+    ensures { λ r. ⌜ Bounds r (now (part .entry)) i 4 ⌝ }
+{
+    part[i] | part[i + 1] | part[i + 2] | part[i + 3]
+}
+
+// Sixteen bytes joined bit by bit.
+fn or_16(part: &[u8], i: usize) -> u8
+    requires { ⌜ i + 16 ≤ length (now part) ⌝ }
+    ensures { λ r. ⌜ Bounds r (now (part .entry)) i 16 ⌝ }
+{
+    or_4(part, i) | or_4(part, i + 4) | or_4(part, i + 8) | or_4(part, i + 12)
+}
+
+// How many bytes a turn passes at an ASCII byte: that byte, with the 32 behind it where as many are left and all are ASCII, as in most texts.
 fn ascii_step(part: &[u8], i: usize) -> usize
     requires { ⌜ (i < length (now part)) × (getD (now part) i 0 < 0x80) ⌝ }
     ensures { λ r. ⌜ AsciiAt (now (part .entry)) i r ⌝ }
 {
-    if part.len() - i < 8 {
+    if part.len() - i < 33 {
         return 1;
     }
-    let front = part[i] | part[i + 1] | part[i + 2] | part[i + 3];
-    let all = front | part[i + 4] | part[i + 5] | part[i + 6] | part[i + 7];
-    if all < 0x80 {
-        return 8;
+    let behind = or_16(part, i + 1) | or_16(part, i + 17);
+    if behind < 0x80 {
+        return 33;
     }
     1
 }

@@ -7,10 +7,11 @@ ghost use Rattle.lexing.specs.integers.{u64-max};
 ghost use Rattle.lexing.specs.words.{isLower, keyword};
 ghost use Rattle.lexing.specs.word_sets.{set-of};
 ghost use Rattle.lexing.specs.answers.{wordReply, WordSetTo};
-ghost use Rattle.lexing.specs.inner.word_sets.{set-gap, startReply, with-flag};
+ghost use Rattle.lexing.specs.inner.word_sets.{set-gap, startReply, with-flag, initial};
 use crate::answers::Step;
 use crate::blanks::whitespace0;
 use crate::bytes::lower_of;
+use crate::parts::peek;
 use crate::parts::rest_at;
 use crate::words::keyword;
 
@@ -114,6 +115,46 @@ fn set_keyword(part: &[u8], base: usize, set: u8, k: usize) -> Step
     attribute_keyword(part, base, k)
 }
 
+// Whether a keyword of a set begins with a byte.
+fn is_initial(set: u8, x: u8) -> bool
+    ensures { λ r. ⌜ r ≡ initial x (set-of set) ⌝ }
+{
+    if set == 0 {
+        if x == b'o' {
+            return true;
+        }
+        if x == b'n' {
+            return true;
+        }
+        return x == b'f';
+    }
+    if set == 1 {
+        return x == b'f';
+    }
+    if set == 2 {
+        return x == b'f';
+    }
+    if set == 3 {
+        if x == b't' {
+            return true;
+        }
+        return x == b'f';
+    }
+    if set != 4 {
+        return false;
+    }
+    if x == b'r' {
+        return true;
+    }
+    if x == b'w' {
+        return true;
+    }
+    if x == b'n' {
+        return true;
+    }
+    x == b't'
+}
+
 // Whether the first n bytes are in lower case.
 pub fn is_lower(part: &[u8], n: usize) -> bool
     requires { ⌜ n ≤ length (now part) ⌝ }
@@ -179,8 +220,8 @@ fn word_start(part: &[u8], base: usize, first: bool) -> Start
     Start::Here(next)
 }
 
-// A set by its number: of a struct's field, a struct, an event, a command, an attribute; any other is empty.
-pub fn keywords_set(part: &[u8], base: usize, set: u8) -> WordSet
+// The words of a set. A word that no keyword begins like ends it before the walk over the keywords.
+fn words_of_set(part: &[u8], base: usize, set: u8) -> WordSet
     requires { ⌜ base + length (now part) ≤ u64-max ⌝ }
     ensures { λ r. ⌜ WordSetTo r set base (now (part .entry)) ⌝ }
 {
@@ -194,6 +235,9 @@ pub fn keywords_set(part: &[u8], base: usize, set: u8) -> WordSet
             break;
         };
         let rest = rest_at(part, base, start);
+        if !is_initial(set, lower_of(peek(rest, 0))) {
+            break;
+        }
         let mut k = 0;
         while k < count {
             let w = set_keyword(rest, start, set, k);
@@ -208,4 +252,23 @@ pub fn keywords_set(part: &[u8], base: usize, set: u8) -> WordSet
         break;
     }
     WordSet { flags, next }
+}
+
+// A set by its number: of a struct's field, a struct, an event, a command, an attribute; any other is empty. Most sets have no word, which the
+// first byte tells. The loop over words is called at two places, so that it stays a function of its own and what is left here is short.
+pub fn keywords_set(part: &[u8], base: usize, set: u8) -> WordSet
+    requires { ⌜ base + length (now part) ≤ u64-max ⌝ }
+    ensures { λ r. ⌜ WordSetTo r set base (now (part .entry)) ⌝ }
+{
+    let x = peek(part, 0);
+    if is_initial(set, x) {
+        return words_of_set(part, base, set);
+    }
+    if is_initial(set, lower_of(x)) {
+        return words_of_set(part, base, set);
+    }
+    WordSet {
+        flags: 0,
+        next: base,
+    }
 }

@@ -6,11 +6,13 @@ ghost use Rattle.lexing.specs.bytes.{isWord, takeWhile};
 ghost use Rattle.lexing.specs.integers.{u64-max};
 ghost use Rattle.lexing.specs.words.{parse-id, keyword, tag};
 ghost use Rattle.lexing.specs.answers.{wordReply, tagReply};
+ghost use Rattle.lexing.specs.inner.words.{isKeyByte, HasKey, word-of};
 use crate::answers::Lost;
 use crate::answers::Step;
+use crate::bytes::is_between;
+use crate::bytes::is_digit;
 use crate::bytes::is_letter;
 use crate::bytes::is_word;
-use crate::bytes::lower_of;
 use crate::parts::peek;
 
 // How many bytes of a word stand at the front.
@@ -38,28 +40,69 @@ pub fn parse_id(part: &[u8], base: usize) -> Step
     Step::Not(Lost::Fail(base))
 }
 
+// Where the first n bytes are those of a word: the offset behind them, if the word ends there.
+fn whole_word(part: &[u8], base: usize, n: usize) -> Step
+    requires { ⌜ base + length (now part) ≤ u64-max ⌝ }
+    requires { ⌜ n ≤ length (takeWhile isWord (now part)) ⌝ }
+    ensures { λ r. ⌜ wordReply r base (now (part .entry)) ≡ word-of n base (now (part .entry)) ⌝ }
+{
+    if n == 0 {
+        return Step::Not(Lost::Fail(base));
+    }
+    if is_digit(part[0]) {
+        return Step::Not(Lost::Fail(base));
+    }
+    if is_word(peek(part, n)) {
+        return Step::Not(Lost::Fail(base));
+    }
+    Step::Next(base + n)
+}
+
+// Whether a byte is one of a word and, in lower case, the keyword's byte k. Where k is a constant, all but the comparisons of x are known.
+fn is_key_byte(x: u8, k: u8) -> bool
+    ensures { λ r. ⌜ r ≡ isKeyByte x k ⌝ }
+{
+    if x == k {
+        if is_between(b'a', b'z', k) {
+            return true;
+        }
+        if is_digit(k) {
+            return true;
+        }
+        return k == b'_';
+    }
+    if !is_between(b'a', b'z', k) {
+        return false;
+    }
+    x == k - 32
+}
+
+// Whether a keyword's bytes stand at the front.
+fn has_key(part: &[u8], key: &[u8]) -> bool
+    ensures { λ r. ⌜ HasKey r (now (key .entry)) (now (part .entry)) ⌝ }
+{
+    if part.len() < key.len() {
+        return false;
+    }
+    let mut i = 0;
+    while i < key.len() {
+        if !is_key_byte(part[i], key[i]) {
+            return false;
+        }
+        i += 1;
+    }
+    true
+}
+
 // A whole word that is the keyword: its bytes are compared first, since most words differ in the first one.
 pub fn keyword(part: &[u8], base: usize, key: &[u8]) -> Step
     requires { ⌜ base + length (now part) ≤ u64-max ⌝ }
     ensures { λ r. ⌜ wordReply r base (now (part .entry)) ≡ keyword (now (key .entry)) base (now (part .entry)) ⌝ }
 {
-    if part.len() < key.len() {
+    if !has_key(part, key) {
         return Step::Not(Lost::Fail(base));
     }
-    let mut i = 0;
-    while i < key.len() {
-        if lower_of(part[i]) != key[i] {
-            return Step::Not(Lost::Fail(base));
-        }
-        i += 1;
-    }
-    if !is_letter(peek(part, 0)) {
-        return Step::Not(Lost::Fail(base));
-    }
-    if word_length(part) != i {
-        return Step::Not(Lost::Fail(base));
-    }
-    Step::Next(base + i)
+    whole_word(part, base, key.len())
 }
 
 // One given byte.

@@ -8,17 +8,19 @@ use native.Mathlib.Numerals.{add-one}
 use lib.Dec.{eqb}
 use lib.ListN.{length, drop, getD, drop-of-length-le, length-drop}
 use lib.Seq.{drop-cons, drop-drop, getD-drop}
+use borrow.Author.Count.{below-none, below-more}
 use borrow.Author.Tests.{eq-eqb, ne-eqb, eqb-true}
 use Rattle.lexing.specs.bytes.{slash, star, isSpace, inLine, takeWhile, dropWhile}
 use Rattle.lexing.specs.reply.{ok, fail, ret, _>>=_, catch, keep, position, failAt, pick}
 use Rattle.lexing.specs.blanks.{Whitespace, white, plain, doc-comment, line-comment, Until, found, never, one-more, until-close, comment-kind, closed, block-comment, multispace1, whitespace-group, Doc, no-doc, doc-at, after, one-blank, whitespace0, whitespace1}
 use Rattle.lexing.specs.answers.{Rest, groupReply, blankReply, BlankTo, docOf}
-use Rattle.lexing.specs.inner.blanks.{isClose, endUntil, docBy, turnReply}
+use Rattle.lexing.specs.inner.blanks.{isClose, PlainIf, endUntil, docBy, turnReply}
 use Rattle.lexing.specs.declared.blanks.End.{End}
 use Rattle.lexing.specs.declared.blanks.End.the-variants.{Closed, Open}
 use Rattle.lexing.specs.declared.blanks.Group.{Group}
 use Rattle.lexing.specs.declared.blanks.Group.the-variants.{Nothing, White, Plain, DocComment}
 use Rattle.lexing.specs.declared.blanks.DocSpan.{DocSpan}
+use Rattle.lexing.specs.declared.blanks.DocSpan.the-variants.{Absent}
 use Rattle.lexing.specs.declared.blanks.Blank.{Blank}
 use Rattle.lexing.specs.declared.blanks.Run.{Run}
 use Rattle.lexing.specs.declared.blanks.Turn.{Turn}
@@ -88,6 +90,23 @@ module _ (u : List ℕ) (i : ℕ) (h : UntilAt u i) where
         let z : i + 0 ≡ i = omega arith in
         let y : suc i + 1 ≡ i + 2 = omega arith in
         rw (z) at (sym (ap (found (i + 0)) (drop-drop 1 (suc i) u ∙ ap (λ (n : ℕ). drop n u) y)) ∙ (ap (later i) (sym (rw f at here-is)) ∙ h .left))
+
+-- bytes without a star are passed, any number of them
+until-plain : (u : List ℕ) (i n : ℕ) → UntilAt u i → i + n ≤ length u → ((j : ℕ) → j < n → getD u (i + j) 0 ≡ star → ⊥) → UntilAt u (i + n)
+until-plain u i zero h l k = let z : i + 0 ≡ i = omega arith in rw z h
+until-plain u i (suc n) h l k =
+    let z : i + n + 1 ≡ i + suc n = omega arith in
+    let g : false ≡ isClose (getD u (i + n) 0) (getD u (i + n + 1) 0) = rw (ne-eqb (getD u (i + n) 0) star (k n (omega arith))) in
+    rw z at (until-more u (i + n) (until-plain u i n h (omega arith) (λ j q. k j (omega arith))) (omega arith) false g refl)
+
+pub until-four : (u : List ℕ) (i : ℕ) → UntilAt u i → (t : Bool) → PlainIf t u i → t ≡ true → UntilAt u (i + 4)
+until-four u i h t p e = let q : PlainIf true u i = rw e at p in until-plain u i 4 h (q .0) (q .1)
+
+pub plain-four : (u : List ℕ) (i : ℕ) → 4 ≤ length u - i → (getD u i 0 ≡ star → ⊥) → (getD u (i + 1) 0 ≡ star → ⊥) → (getD u (i + 2) 0 ≡ star → ⊥) → (getD u (i + 3) 0 ≡ star → ⊥) → PlainIf true u i
+plain-four u i l a b c d =
+    let z : i + 0 ≡ i = omega arith in
+    let first : getD u (i + 0) 0 ≡ star → ⊥ = rw z a in
+    (omega arith, below-more _ 3 (below-more _ 2 (below-more _ 1 (below-more (λ j. getD u (i + j) 0 ≡ star → ⊥) 0 (below-none _) first) b) c) d)
 
 -- line comments
 line-at : (b z : ℕ) (u : List ℕ) (t : Bool) → inLine z ≡ t → line-comment b (slash ∷ slash ∷ z ∷ u) ≡ elim t [ true ↦ ok plain (b + (3 + length (takeWhile inLine u))) (dropWhile inLine u) | false ↦ fail b ]
@@ -348,9 +367,10 @@ pub record BlanksAt (b : ℕ) (u : List ℕ) (t : Run) : Type 0 where
   pub run : IterAt one-blank keep no-doc b u (t .next) (docBy (t .doc) (t .size))
   pub behind : isSpace (getD u (t .next - b) 0) ≡ false
 
-pub blanks-start : (b : ℕ) (u : List ℕ) (n : ℕ) → n ≡ b + length (takeWhile isSpace (drop (b - b) u)) → BlanksAt b u (record { next = n; doc = 0; size = 0 })
+pub blanks-start : (b : ℕ) (u : List ℕ) (n : ℕ) → n ≡ b + length (takeWhile isSpace u) → BlanksAt b u (record { next = n; doc = 0; size = 0 })
 blanks-start b u n e =
-    let w = white-passed b u b no-doc (iter-start one-blank keep no-doc b u) n e in
+    let z : b - b ≡ 0 = omega arith in
+    let w = white-passed b u b no-doc (iter-start one-blank keep no-doc b u) n (rw z e) in
     record { run = w .run; behind = w .behind }
 
 module _ (b : ℕ) (u : List ℕ) (t : Run) (i : BlanksAt b u t) (r : Turn) (h : turnReply r (t .next) (drop (t .next - b) u) ≡ one-blank (docBy (t .doc) (t .size)) (t .next) (drop (t .next - b) u)) where
@@ -371,6 +391,21 @@ module _ (b : ℕ) (u : List ℕ) (t : Run) (i : BlanksAt b u t) (r : Turn) (h :
   pub blanks-end : (d : DocSpan) → docOf d ≡ docBy (t .doc) (t .size) → r ≡ Done → BlankTo (record { next = t .next; doc = d }) b u
   unfolding keep whitespace0
   blanks-end d k e = record { reads = rw k (iter-ends one-blank-consumes (i .run) (t .next) (sym (turned Done e))); up = i .run .from; inside = i .run .inside }
+
+-- white space alone
+pub blanks-alone : (b : ℕ) (u : List ℕ) (n : ℕ) → n ≡ length (takeWhile isSpace u) → (x : ℕ) → x ≡ getD u n 0 → (x ≡ slash → ⊥) → BlankTo (record { next = b + n; doc = Absent }) b u
+blanks-alone b u n e x ex ne =
+    let i = blanks-start b u (b + n) (ap (λ (m : ℕ). b + m) e) in
+    let q = rest-from b (b + n) u (i .run .from) (i .run .inside) in
+    let z : b + n - b ≡ n = omega arith in
+    let y : x ≡ getD (drop (b + n - b) u) 0 0 = ex ∙ sym (first-of (b + n - b) u ∙ ap (λ (m : ℕ). getD u m 0) z) in
+    blanks-end b u (record { next = b + n; doc = 0; size = 0 }) i Done (turn-other b u (b + n) (drop (b + n - b) u) q no-doc (i .behind) x y ne) Absent refl refl
+
+-- none before a slash
+pub slash-first : (b : ℕ) (u : List ℕ) → getD u 0 0 ≡ slash → b ≡ b + length (takeWhile isSpace u)
+unfolding takeWhile isSpace
+slash-first b [] e = omega arith
+slash-first b (x ∷ u) e = rw (run-none isSpace x u (ap isSpace e)) (omega arith)
 
 -- at least one
 module _ (b : ℕ) (u : List ℕ) (t : Blank) (h : BlankTo t b u) where

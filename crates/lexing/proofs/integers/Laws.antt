@@ -17,7 +17,7 @@ use Rattle.lexing.specs.inner.integers.{digitTest, radix, digitsAre, isH
 use Rattle.lexing.specs.declared.integers.Digits.{Digits}
 use Rattle.lexing.specs.declared.integers.Digits.the-variants.{Count, Over}
 use Rattle.lexing.proofs.Tests.{and-right, within-of}
-use Rattle.lexing.proofs.Scans.{drop-run, run-le, RunAt, runs-start, runs-more, runs-stop, runs-out}
+use Rattle.lexing.proofs.Scans.{drop-run, run-cons, run-none, run-le, RunAt, runs-start, runs-more, runs-stop, runs-out}
 
 -- a byte that is not 0 stands inside
 pub byte-inside : (u : List ℕ) (i : ℕ) → (getD u i 0 ≡ 0 → ⊥) → i < length u
@@ -235,6 +235,63 @@ module _ (b : ℕ) (u : List ℕ) where
   pub then-decimal : isHexAhead u ≡ false → decimal-integer b u ≡ positive-integer b u
   unfolding positive-integer catch
   then-decimal e = rw (hex-no b u e, catch)
+
+-- by the first two bytes
+pub digit-inside : (u : List ℕ) → isDigit (getD u 0 0) ≡ true → 0 < length u
+digit-inside u e = byte-inside u 0 λ z. false≢true (sym digit-none ∙ (ap isDigit (sym z) ∙ e))
+
+digit-no-x : (y : ℕ) → isDigit y ≡ true → (eqb y 0x78 || eqb y 0x58) ≡ false
+unfolding isDigit
+digit-no-x y d =
+    let r = within-of 0x30 0x39 y d in
+    let a : y ≡ 0x78 → ⊥ = λ e. omega arith in
+    let b : y ≡ 0x58 → ⊥ = λ e. omega arith in
+    rw (ne-eqb y 0x78 a, ne-eqb y 0x58 b)
+
+zero-digit : isDigit 0x30 ≡ true
+unfolding isDigit within
+zero-digit = refl
+
+lone-digit : (u : List ℕ) → isDigit (getD u 0 0) ≡ true → isDigit (getD u 1 0) ≡ false → takeWhile isDigit u ≡ getD u 0 0 ∷ []
+unfolding takeWhile
+lone-digit [] p q = absurd (false≢true (sym digit-none ∙ p))
+lone-digit (x ∷ []) p q = rw (p, takeWhile)
+lone-digit (x ∷ y ∷ u) p q = run-cons isDigit x (y ∷ u) p ∙ ap (λ l. x ∷ l) (run-none isDigit y u q)
+
+lone-value : (x : ℕ) → number 10 0 (x ∷ []) ≡ digit x
+unfolding number
+lone-value x = omega arith
+
+digit-fits : (x v : ℕ) → isDigit x ≡ true → v ≡ digit x → v ≤ u64-max
+unfolding isDigit
+digit-fits x v d e = omega (arith, e, digit-decimal x d, within-of 0x30 0x39 x d)
+
+module _ (b : ℕ) (u : List ℕ) where
+  pub no-digit : isDigit (getD u 0 0) ≡ false → fail b ≡ positive-integer b u
+  unfolding isHexAhead
+  no-digit e =
+      let n : getD u 0 0 ≡ 0x30 → ⊥ = λ z. false≢true (sym e ∙ (ap isDigit z ∙ zero-digit)) in
+      decimal-no b u e ∙ then-decimal b u (rw (ne-eqb (getD u 0 0) 0x30 n))
+
+  module _ (y : ℕ) (ey : y ≡ getD u 1 0) where
+    no-second-x : (eqb y 0x78 || eqb y 0x58) ≡ false → decimal-integer b u ≡ positive-integer b u
+    unfolding isHexAhead
+    no-second-x e = then-decimal b u (go (eqb (getD u 0 0) 0x30) refl)
+      where
+        go : (t : Bool) → eqb (getD u 0 0) 0x30 ≡ t → isHexAhead u ≡ false
+        go true q = rw (q, ← ey, e)
+        go false q = rw q
+
+    pub two-digits : isDigit y ≡ true → decimal-integer b u ≡ positive-integer b u
+    two-digits d = no-second-x (digit-no-x y d)
+
+    pub one-digit : (x : ℕ) → x ≡ getD u 0 0 → isDigit x ≡ true → isDigit y ≡ false → (t : Bool) → t ≡ (eqb y 0x78 || eqb y 0x58) → t ≡ false → (v : ℕ) → v ≡ digit x
+        → ok v (b + 1) (drop (b + 1 - b) u) ≡ positive-integer b u
+    one-digit x ex d n t et e v ev =
+        let ahead : isDigit (getD u 0 0) ≡ true = ap isDigit (sym ex) ∙ d in
+        let z = lone-digit u ahead (ap isDigit (sym ey) ∙ n) in
+        let w : v ≡ number 10 0 (takeWhile isDigit u) = ev ∙ (ap digit ex ∙ sym (ap (number 10 0) z ∙ lone-value (getD u 0 0))) in
+        integer-value false b u u ahead refl (Count v 1) (w, (sym (ap length z), digit-fits x v d ev)) refl (b + 1) (omega arith) ∙ no-second-x (sym et ∙ e)
 
 -- signed numbers
 largest-fits : (m : Bool) → largest m ≤ u64-max

@@ -11,10 +11,11 @@ use lib.Bits.{bitOr, and-le-l, and-le-r, or-add-and}
 use lib.ListN.{length, take, drop, getD, replicate, length-drop, length-replicate, drop-of-length-le}
 use lib.Seq.{drop-cons, drop-drop, take-all}
 use borrow.Author.Count.{below-none, below-more}
-use borrow.Author.Tests.{le-leb, lt-leb}
+use lib.Dec.{ltb}
+use borrow.Author.Tests.{le-leb, lt-leb, ltb-true, ltb-false}
 use Rattle.lexing.specs.bytes.{within}
 use Rattle.lexing.specs.utf8.{Range, _to_, has, Row, row, table, following, State, between, inside, ill, awaiting, begun, step, run, fault, utf8-error}
-use Rattle.lexing.specs.inner.utf8.{fits, size-of, sequence-size, later, AsciiAt}
+use Rattle.lexing.specs.inner.utf8.{fits, size-of, sequence-size, later, Bounds, AsciiAt}
 
 -- texts one after the other
 run-append : (b : ℕ) (t : State) (u s : List ℕ) → run b t (u ++ s) ≡ run (b + length u) (run b t u) s
@@ -276,27 +277,34 @@ passed-run b u i h n a = passed-each b u i n h (a .inside) (a .ascii)
 pub ascii-one : (u : List ℕ) (i : ℕ) → i < length u → getD u i 0 < 0x80 → AsciiAt u i 1
 ascii-one u i lt k = record { onward = omega arith; inside = omega arith; ascii = below-more _ 0 (below-none _) (let z : i + 0 ≡ i = omega arith in rw z k) }
 
--- joined bit by bit, numbers are below a bound only where each is
+-- numbers joined bit by bit make no smaller one
 or-left : (x y : ℕ) → x ≤ bitOr x y
 or-left x y = omega (arith, or-add-and x y, and-le-r x y)
 
 or-right : (x y : ℕ) → y ≤ bitOr x y
 or-right x y = omega (arith, or-add-and x y, and-le-l x y)
 
--- the byte at i and the n bytes behind it
-abbrev pub joined : List ℕ → ℕ → ℕ → ℕ
-joined u i zero = getD u i 0
-joined u i (suc n) = bitOr (joined u i n) (getD u (i + suc n) 0)
+pub or-one : (u : List ℕ) (i : ℕ) → Bounds (getD u i 0) u i 1
+or-one u i = record { each = below-more _ 0 (below-none _) (let z : i + 0 ≡ i = omega arith in rw z (omega arith)) }
 
-joined-below : (u : List ℕ) (i n m : ℕ) → joined u i n < m → (j : ℕ) → j < n + 1 → getD u (i + j) 0 < m
-joined-below u i zero m h = below-more _ 0 (below-none _) (let z : i + 0 ≡ i = omega arith in rw z h)
-joined-below u i (suc n) m h =
-    let front : joined u i n < m = omega (arith, or-left (joined u i n) (getD u (i + suc n) 0)) in
-    let last : getD u (i + suc n) 0 < m = omega (arith, or-right (joined u i n) (getD u (i + suc n) 0)) in
-    below-more _ (suc n) (λ j q. joined-below u i n m front j (omega arith)) last
+-- two runs of bytes, the second behind the first
+pub or-join : (n m : ℕ) {r s : ℕ} {u : List ℕ} {i k : ℕ} → k ≡ i + n → Bounds r u i n → Bounds s u k m → Bounds (bitOr r s) u i (n + m)
+or-join n m {r} {s} {u} {i} {k} e p q = record { each = λ j h. go j h (ltb j n) refl }
+  where
+    go : (j : ℕ) → j < n + m → (t : Bool) → ltb j n ≡ t → getD u (i + j) 0 ≤ bitOr r s
+    go j h true l = omega (arith, p .each j (ltb-true j n l), or-left r s)
+    go j h false l =
+        let d = ltb-false j n l in
+        let z : k + (j - n) ≡ i + j = omega arith in
+        omega (arith, rw z at (q .each (j - n) (omega arith)), or-right r s)
 
-pub ascii-eight : (u : List ℕ) (i : ℕ) → 8 ≤ length u - i → joined u i 7 < 0x80 → AsciiAt u i 8
-ascii-eight u i l h = record { onward = omega arith; inside = omega arith; ascii = joined-below u i 7 0x80 h }
+-- an ASCII byte with n others behind it
+pub ascii-run : (n : ℕ) {u : List ℕ} {i r : ℕ} → getD u i 0 < 0x80 → i + (n + 1) ≤ length u → Bounds r u (i + 1) n → r < 0x80 → AsciiAt u i (n + 1)
+ascii-run n {u} {i} {r} k l p h = record { onward = omega arith; inside = l; ascii = each }
+  where
+    each : (j : ℕ) → j < n + 1 → getD u (i + j) 0 < 0x80
+    each zero q = let z : i + 0 ≡ i = omega arith in rw z k
+    each (suc j) q = let z : i + 1 + j ≡ i + suc j = omega arith in omega (arith, rw z at (p .each j (omega arith)))
 
 -- the bytes after the second: those below i are in their ranges
 module _ (u : List ℕ) (n lo hi : ℕ) where

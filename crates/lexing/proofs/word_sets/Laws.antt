@@ -16,7 +16,7 @@ use Rattle.lexing.specs.words.{Word, bytesOf, isKeyword, isLower, keywor
 use Rattle.lexing.specs.blanks.{Doc, whitespace1}
 use Rattle.lexing.specs.word_sets.{next-word, set-step, keywords-set, same-bytes, contains, bit, flags, sets, set-of, set-flags}
 use Rattle.lexing.specs.answers.{Rest, lostReply, wordAt, wordReply, docOf, BlankTo, WordSetTo}
-use Rattle.lexing.specs.inner.word_sets.{set-gap, startReply, with-flag}
+use Rattle.lexing.specs.inner.word_sets.{set-gap, startReply, with-flag, initial}
 use Rattle.lexing.specs.declared.answers.Lost.{Lost}
 use Rattle.lexing.specs.declared.word_sets.WordSet.{WordSet}
 use Rattle.lexing.specs.declared.answers.Lost.the-variants.{Fail, Stop}
@@ -30,6 +30,7 @@ use Rattle.lexing.proofs.Locality.{OnChain, chain-ret, chain-then}
 use Rattle.lexing.proofs.TokenLocality.{whitespace1-chain, keyword-chain, any-keyword-chain, set-step-consumes}
 use Rattle.lexing.proofs.Slicing.{Took, took, walks, reads-in, told-next, told-not, on, fall}
 use Rattle.lexing.proofs.Repetition.{IterAt, iter-start, iter-step, iter-ends}
+use Rattle.lexing.proofs.FirstWord.{free-keywords, no-initial}
 use Rattle.lexing.proofs.words.Laws.{Says, keyword-says}
 use Rattle.lexing.proofs.blanks.Laws.{gap-none, gap-some}
 
@@ -234,6 +235,31 @@ count-at e = rw e
 
 pub below-count : {n m : ℕ} (k : ℕ) → n ≡ m → k < length (set-of n) → k < length (set-of m)
 below-count k e h = rw e at h
+
+-- the first bytes of keywords
+pub initial-at : (x : ℕ) {n m : ℕ} {t : Bool} → n ≡ m → t ≡ initial x (set-of m) → t ≡ initial x (set-of n)
+initial-at x e h = rw e h
+
+module _ (k : List ℕ) (ks : List (List ℕ)) {x y : ℕ} where
+  pub initial-here : x ≡ y → true ≡ initial x ((y ∷ k) ∷ ks)
+  unfolding initial
+  initial-here e = rw (eq-eqb x y e)
+
+  pub initial-later : (x ≡ y → ⊥) → {t : Bool} → t ≡ initial x ks → t ≡ initial x ((y ∷ k) ∷ ks)
+  unfolding initial
+  initial-later e h = rw (ne-eqb x y e) h
+
+pub initial-last : (k : List ℕ) (x y : ℕ) → eqb x y ≡ initial x ((y ∷ k) ∷ [])
+unfolding initial
+initial-last k x y = go (eqb x y)
+  where
+    go : (t : Bool) → t ≡ (t || false)
+    go true = refl
+    go false = refl
+
+pub initial-past : (x n : ℕ) → 5 ≤ n → false ≡ initial x (set-of n)
+unfolding set-of sets initial
+initial-past x n h = rw (List·getD-eq-default sets [] h)
 
 -- the invariant of the test for lower case: the first i bytes are, and what is left is to be
 pub record LowerAt (u : List ℕ) (n i : ℕ) : Type 0 where
@@ -457,6 +483,16 @@ module _ {n b : ℕ} {u : List ℕ} {f c : ℕ} {t : Bool} {m : ℕ} {r : List �
         let x = iter-step (set-step-consumes (set-of n)) (i .set .at) (record { goes = s; up = omega (arith, y .up, i .start .up); inside = y .inside }) in
         let v : f' ≡ flags (set-of n) (w ∷ i .set .words) = rw (ef, el, i .set .flags-are) (word-flag (set-of n) k o w (i .set .words) (set-apart n) (g .is) (omega arith)) in
         (record { words = w ∷ i .set .words; at = x .0; flags-are = v; first-is = refl; small = rw v (set-small n (w ∷ i .set .words)) }, x .1)
+
+-- no word of the set begins like the one that may start at m
+pub set-no-initial : {n b : ℕ} {u : List ℕ} {f c : ℕ} {t : Bool} {m : ℕ} {r : List ℕ} → SetAt n b u f c t → Took (set-gap t) b u c tt m → Rest b u m r → initial (lower (getD r 0 0)) (set-of n) ≡ false → WordSetTo (record { flags = f; next = c }) n b u
+set-no-initial {n} {m = m} {r = r} i s d e = ended i m (on (any-keyword (set-of n)) s (sym (rw (d .same) at (free-keywords m r (set-of n) (no-initial m r (set-of n) e)))))
+
+pub set-none : (n b : ℕ) (u : List ℕ) → initial (lower (getD u 0 0)) (set-of n) ≡ false → WordSetTo (record { flags = 0; next = b }) n b u
+set-none n b u e = set-no-initial (set-start n b u) (start-took true (Here b) b here (start-first b u true refl) refl) here e
+  where
+    here : Rest b u b u
+    here = let z : b - b ≡ 0 = omega arith in record { from = omega arith; same = rw z; size = refl }
 
 -- the flags of a set, by its size
 pub set-fits : {r : WordSet} {n b : ℕ} {u : List ℕ} → WordSetTo r n b u → r .flags < 2 ^ length (set-of n)

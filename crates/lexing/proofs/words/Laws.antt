@@ -2,18 +2,20 @@
 use mathlib.Core.Path.{_≡_, refl, sym, ap, _∙_}
 use mathlib.Core.List.{List, [], _∷_}
 use mathlib.Core.Bool.{Bool, true, false, false≢true}
+use mathlib.Core.Logic.{_⊎_, inl, inr}
 use Prim.Native.Nat.{ℕ, zero, suc, _+_, _-_, _≤_, _<_, zero-le}
 use native.Mathlib.Omega.{arith}
-use lib.Dec.{eqb}
+use lib.Dec.{eqb, ltb}
 use lib.ListN.{length, drop, getD}
 use borrow.Author.Count.{below-none, below-more}
-use borrow.Author.Tests.{eq-eqb, ne-eqb}
-use Rattle.lexing.specs.bytes.{within, isLetter, isWord, lower, takeWhile, dropWhile}
+use borrow.Author.Tests.{eq-eqb, ne-eqb, eqb-false, le-leb, ltb-true, ltb-false}
+use Rattle.lexing.specs.bytes.{within, isLetter, isDigit, isWord, lower, takeWhile, dropWhile}
 use Rattle.lexing.specs.reply.{Reply, ok, fail, stop, ret, _>>=_, position, failAt, pick}
 use Rattle.lexing.specs.words.{Word, word, bytesOf, parse-id, isKeyword, keyword, tag}
 use Rattle.lexing.specs.answers.{wordAt}
-use Rattle.lexing.proofs.Scans.{take-run, drop-run, run-cons, run-le, run-byte}
-use Rattle.lexing.proofs.Tests.{eq-of, and-left, and-right, false-if}
+use Rattle.lexing.specs.inner.words.{isKeyByte, Agree, KeyAt, HasKey, word-of}
+use Rattle.lexing.proofs.Scans.{take-run, drop-run, run-cons, run-le, run-byte, run-stops, run-passes}
+use Rattle.lexing.proofs.Tests.{eq-of, and-left, and-right, false-if, within-of, digit-no-letter}
 
 letter-word : (x : ℕ) → isLetter x ≡ true → isWord x ≡ true
 unfolding isWord
@@ -89,10 +91,6 @@ keyword-says k b u = go (isLetter (getD u 0 0)) refl (isKeyword (takeWhile isWor
     go true e false e' = rw (← keyword-other k b u e e') refl
     go true e true e' = rw (keyword-same k b u e e') e'
 
--- the first i bytes of w, in lower case, are those of k
-abbrev pub Agree : List ℕ → List ℕ → ℕ → Type 0
-Agree w k i = (j : ℕ) → j < i → lower (getD w j 0) ≡ getD k j 0
-
 -- a word is the keyword where it is as long and all its bytes agree
 word-agrees : (w k : List ℕ) → isKeyword w k ≡ true → (length w ≡ length k) × Agree w k (length k)
 unfolding isKeyword
@@ -114,17 +112,154 @@ agrees-word [] (y ∷ k) e h = absurd (omega arith)
 agrees-word (x ∷ w) [] e h = absurd (omega arith)
 agrees-word (x ∷ w) (y ∷ k) e h = rw (eq-eqb (lower x) y (h 0 (omega arith))) (agrees-word w k (omega arith) (λ j l. h (suc j) (omega arith)))
 
--- the invariant of the comparison: the first i bytes agree
-pub record KeyAt (k u : List ℕ) (i : ℕ) : Type 0 where
-  pub inside : i ≤ length k
-  pub enough : length k ≤ length u
-  pub agree : Agree u k i
+-- what makes a byte the keyword's
+lower-up : (x : ℕ) → within 0x41 0x5a x ≡ true → lower x ≡ x + 32
+unfolding lower
+lower-up x e = rw (e, lower)
 
+lower-kept : (x : ℕ) → within 0x41 0x5a x ≡ false → lower x ≡ x
+unfolding lower
+lower-kept x e = rw (e, lower)
+
+lower-either : (x : ℕ) → ((within 0x41 0x5a x ≡ true) × (lower x ≡ x + 32)) ⊎ (lower x ≡ x)
+lower-either x = go (within 0x41 0x5a x) refl
+  where
+    go : (t : Bool) → within 0x41 0x5a x ≡ t → ((within 0x41 0x5a x ≡ true) × (lower x ≡ x + 32)) ⊎ (lower x ≡ x)
+    go true e = inl (e, lower-up x e)
+    go false e = inr (lower-kept x e)
+
+small-word : (x : ℕ) → within 0x61 0x7a x ≡ true → isWord x ≡ true
+unfolding isWord isLetter
+small-word x e = rw e
+
+capital-word : (x : ℕ) → within 0x41 0x5a x ≡ true → isWord x ≡ true
+unfolding isWord isLetter
+capital-word x e = go (within 0x61 0x7a x) refl
+  where
+    go : (t : Bool) → within 0x61 0x7a x ≡ t → isWord x ≡ true
+    go true d = rw d
+    go false d = rw (d, e)
+
+digit-word : (x : ℕ) → isDigit x ≡ true → isWord x ≡ true
+unfolding isWord
+digit-word x e = rw (digit-no-letter x e, e)
+
+underscore-word : isWord 0x5f ≡ true
+unfolding isWord isLetter within
+underscore-word = refl
+
+word-capital : (x : ℕ) → isWord x ≡ true → within 0x61 0x7a x ≡ false → isDigit x ≡ false → eqb x 0x5f ≡ false → within 0x41 0x5a x ≡ true
+unfolding isWord isLetter
+word-capital x w s d u = go (within 0x41 0x5a x) refl
+  where
+    go : (t : Bool) → within 0x41 0x5a x ≡ t → within 0x41 0x5a x ≡ true
+    go true e = e
+    go false e = absurd (false≢true (rw (s, e, u, d) at w))
+
+word-letter : (x : ℕ) → isWord x ≡ true → isDigit x ≡ false → isLetter x ≡ true
+unfolding isWord
+word-letter x w d = go (isLetter x) refl
+  where
+    go : (t : Bool) → isLetter x ≡ t → isLetter x ≡ true
+    go true e = e
+    go false e = absurd (false≢true (rw (e, d) at w))
+
+no-word : isWord 0 ≡ false
+unfolding isWord isLetter isDigit within
+no-word = refl
+
+module _ (x k : ℕ) where
+  is-key : lower x ≡ k → isWord x ≡ true → true ≡ isKeyByte x k
+  unfolding isKeyByte
+  is-key e w = rw (eq-eqb (lower x) k e, w)
+
+  no-key : (lower x ≡ k → isWord x ≡ true → ⊥) → false ≡ isKeyByte x k
+  unfolding isKeyByte
+  no-key h = sym (false-if (isKeyByte x k) (λ e. h (eq-of (lower x) k (and-left (eqb (lower x) k) (isWord x) e)) (and-right (eqb (lower x) k) (isWord x) e)))
+
+  pub key-small : x ≡ k → within 0x61 0x7a k ≡ true → true ≡ isKeyByte x k
+  key-small e s =
+      let c : within 0x41 0x5a x ≡ false = false-if _ (λ q. omega (arith, within-of 0x41 0x5a x q, within-of 0x61 0x7a k s)) in
+      is-key (lower-kept x c ∙ e) (small-word x (rw e s))
+
+  pub key-digit : x ≡ k → isDigit k ≡ true → true ≡ isKeyByte x k
+  unfolding isDigit
+  key-digit e d =
+      let c : within 0x41 0x5a x ≡ false = false-if _ (λ q. omega (arith, within-of 0x41 0x5a x q, within-of 0x30 0x39 k d)) in
+      is-key (lower-kept x c ∙ e) (digit-word x (rw e d))
+
+  pub key-other : x ≡ k → within 0x61 0x7a k ≡ false → isDigit k ≡ false → eqb k 0x5f ≡ isKeyByte x k
+  key-other e s d = go (eqb k 0x5f) refl
+    where
+      go : (t : Bool) → eqb k 0x5f ≡ t → eqb k 0x5f ≡ isKeyByte x k
+      go true q =
+          let z : x ≡ 0x5f = e ∙ eq-of k 0x5f q in
+          let c : within 0x41 0x5a x ≡ false = false-if _ (λ p. omega (arith, within-of 0x41 0x5a x p)) in
+          q ∙ is-key (lower-kept x c ∙ e) (ap isWord z ∙ underscore-word)
+      go false q = q ∙ no-key (λ l w. omega (arith, l, lower-up x (word-capital x w (ap (within 0x61 0x7a) e ∙ s) (ap isDigit e ∙ d) (ap (λ y. eqb y 0x5f) e ∙ q))))
+
+  module _ (other : x ≡ k → ⊥) where
+    pub key-neither : within 0x61 0x7a k ≡ false → false ≡ isKeyByte x k
+    unfolding within
+    key-neither s = no-key (λ l w. go l (lower-either x))
+      where
+        go : lower x ≡ k → ((within 0x41 0x5a x ≡ true) × (lower x ≡ x + 32)) ⊎ (lower x ≡ x) → ⊥
+        go l (inl c) =
+            let r = within-of 0x41 0x5a x (c .0) in
+            let t : within 0x61 0x7a k ≡ true = rw (le-leb 0x61 k (omega (arith, c .1)), le-leb k 0x7a (omega (arith, c .1))) in
+            false≢true (sym s ∙ t)
+        go l (inr c) = other (sym c ∙ l)
+
+    pub key-capital : within 0x61 0x7a k ≡ true → eqb x (k - 32) ≡ isKeyByte x k
+    unfolding within
+    key-capital s = go (eqb x (k - 32)) refl
+      where
+        none : (x ≡ k - 32 → ⊥) → lower x ≡ k → ((within 0x41 0x5a x ≡ true) × (lower x ≡ x + 32)) ⊎ (lower x ≡ x) → ⊥
+        none n l (inl c) = n (omega (arith, c .1))
+        none n l (inr c) = other (sym c ∙ l)
+
+        go : (t : Bool) → eqb x (k - 32) ≡ t → eqb x (k - 32) ≡ isKeyByte x k
+        go true q =
+            let z = eq-of x (k - 32) q in
+            let r = within-of 0x61 0x7a k s in
+            let c : within 0x41 0x5a x ≡ true = rw (le-leb 0x41 x (omega arith), le-leb x 0x5a (omega arith)) in
+            q ∙ is-key (omega (arith, lower-up x c)) (capital-word x c)
+        go false q = q ∙ no-key (λ l w. none (eqb-false x (k - 32) q) l (lower-either x))
+
+-- a run goes on behind its first n bytes where the next byte is one of it
+run-longer : (u : List ℕ) (n : ℕ) → n ≤ length (takeWhile isWord u) → isWord (getD u n 0) ≡ true → n < length (takeWhile isWord u)
+run-longer u n le e = go (ltb n (length (takeWhile isWord u))) refl
+  where
+    go : (t : Bool) → ltb n (length (takeWhile isWord u)) ≡ t → n < length (takeWhile isWord u)
+    go true q = ltb-true _ _ q
+    go false q = let z : n ≡ length (takeWhile isWord u) = omega (arith, ltb-false n (length (takeWhile isWord u)) q) in absurd (false≢true (sym (run-stops isWord no-word u) ∙ (ap (λ (i : ℕ). isWord (getD u i 0)) (sym z) ∙ e)))
+
+run-shorter : (u : List ℕ) (n : ℕ) → isWord (getD u n 0) ≡ false → length (takeWhile isWord u) ≤ n
+run-shorter u n e = go (ltb n (length (takeWhile isWord u))) refl
+  where
+    go : (t : Bool) → ltb n (length (takeWhile isWord u)) ≡ t → length (takeWhile isWord u) ≤ n
+    go true q = absurd (false≢true (sym e ∙ run-passes isWord u n (ltb-true _ _ q)))
+    go false q = ltb-false _ _ q
+
+-- the comparison
 pub key-start : (k u : List ℕ) → length k ≤ length u → KeyAt k u 0
-key-start k u h = record { inside = zero-le; enough = h; agree = below-none _ }
+key-start k u h = record { inside = zero-le; enough = h; agree = below-none _; word = zero-le }
 
-pub key-more : (k u : List ℕ) (i : ℕ) → KeyAt k u i → i < length k → lower (getD u i 0) ≡ getD k i 0 → KeyAt k u (i + 1)
-key-more k u i h lt e = record { inside = omega arith; enough = h .enough; agree = below-more _ i (h .agree) e }
+pub key-more : (k u : List ℕ) (i : ℕ) → KeyAt k u i → i < length k → isKeyByte (getD u i 0) (getD k i 0) ≡ true → KeyAt k u (i + 1)
+unfolding isKeyByte
+key-more k u i h lt e =
+    let l = eq-of _ _ (and-left (eqb (lower (getD u i 0)) (getD k i 0)) (isWord (getD u i 0)) e) in
+    let w = and-right (eqb (lower (getD u i 0)) (getD k i 0)) (isWord (getD u i 0)) e in
+    record { inside = omega arith; enough = h .enough; agree = below-more _ i (h .agree) l; word = omega (arith, run-longer u i (h .word) w) }
+
+pub key-end : (k u : List ℕ) (i : ℕ) → KeyAt k u i → length k ≤ i → KeyAt k u (length k)
+key-end k u i h le = let z : i ≡ length k = omega (arith, h .inside) in rw z at h
+
+pub key-none : (t : Bool) (k : List ℕ) (b : ℕ) (u : List ℕ) → HasKey t k u → t ≡ false → fail b ≡ keyword k b u
+key-none t k b u h e = (rw e at h) b
+
+pub key-there : (t : Bool) (k u : List ℕ) → HasKey t k u → t ≡ true → KeyAt k u (length k)
+key-there t k u h e = rw e at h
 
 module _ (k : List ℕ) (b : ℕ) (u : List ℕ) where
   not-keyword : (isKeyword (takeWhile isWord u) k ≡ true → ⊥) → fail b ≡ keyword k b u
@@ -137,17 +272,59 @@ module _ (k : List ℕ) (b : ℕ) (u : List ℕ) where
   pub key-short : length u < length k → fail b ≡ keyword k b u
   key-short lt = not-keyword λ e. omega (arith, word-agrees _ _ e .0, run-le isWord u)
 
-  pub key-differs : (i : ℕ) → i < length k → (lower (getD u i 0) ≡ getD k i 0 → ⊥) → fail b ≡ keyword k b u
+  pub key-differs : (i : ℕ) → i < length k → (lower (getD u i 0) ≡ getD k i 0 → isWord (getD u i 0) ≡ true → ⊥) → fail b ≡ keyword k b u
   key-differs i lt other = not-keyword λ e.
       let t = word-agrees _ _ e in
-      other (ap lower (sym (run-byte isWord u i (omega (arith, t .0)))) ∙ t .1 i lt)
+      let l : i < length (takeWhile isWord u) = omega (arith, t .0) in
+      other (ap lower (sym (run-byte isWord u i l)) ∙ t .1 i lt) (run-passes isWord u i l)
 
-  module _ (i : ℕ) (h : KeyAt k u i) (le : length k ≤ i) (n : ℕ) (en : n ≡ length (takeWhile isWord u)) where
-    pub key-longer : (n ≡ i → ⊥) → fail b ≡ keyword k b u
-    key-longer other = not-keyword λ e. other (omega (arith, word-agrees _ _ e .0, h .inside))
+  pub key-no-byte : (i : ℕ) → i < length k → isKeyByte (getD u i 0) (getD k i 0) ≡ false → fail b ≡ keyword k b u
+  unfolding isKeyByte
+  key-no-byte i lt e = key-differs i lt (λ l w. false≢true (sym e ∙ rw (eq-eqb (lower (getD u i 0)) (getD k i 0) l, w)))
 
-    pub key-is : isLetter (getD u 0 0) ≡ true → n ≡ i → ok (wordAt b u (b + i)) (b + i) (drop (b + i - b) u) ≡ keyword k b u
-    key-is letter same =
-        let z : i ≡ length (takeWhile isWord u) = sym same ∙ en in
-        let bytes : Agree (takeWhile isWord u) k (length k) = λ j l. ap lower (run-byte isWord u j (omega (arith, h .inside))) ∙ h .agree j (omega arith) in
-        run-answer b i u z ∙ sym (keyword-same k b u letter (agrees-word _ _ (omega (arith, h .inside)) bytes))
+-- a word by its length
+word-none : (n b : ℕ) (u : List ℕ) → isLetter (getD u 0 0) ≡ false → fail b ≡ word-of n b u
+unfolding word-of _>>=_ position
+word-none n b u e = rw (← parse-id-no b u e, word-of, _>>=_)
+
+module _ (n b : ℕ) (u : List ℕ) where
+  word-at : isLetter (getD u 0 0) ≡ true → word-of n b u ≡ pick (eqb (length (takeWhile isWord u)) n) (ret (word b (takeWhile isWord u))) (failAt b) (b + length (takeWhile isWord u)) (dropWhile isWord u)
+  unfolding word-of _>>=_ position bytesOf
+  word-at e = rw (parse-id-run b u e, word-of, _>>=_)
+
+  word-other : (isLetter (getD u 0 0) ≡ true → length (takeWhile isWord u) ≡ n → ⊥) → fail b ≡ word-of n b u
+  unfolding pick failAt
+  word-other h = go (isLetter (getD u 0 0)) refl
+    where
+      go : (t : Bool) → isLetter (getD u 0 0) ≡ t → fail b ≡ word-of n b u
+      go false e = word-none n b u e
+      go true e = sym (word-at e ∙ rw (ne-eqb _ _ (h e)))
+
+  pub word-empty : n ≡ 0 → fail b ≡ word-of n b u
+  word-empty z = word-other λ e q. omega (arith, run-longer u 0 zero-le (letter-word _ e))
+
+  pub word-digit : isDigit (getD u 0 0) ≡ true → fail b ≡ word-of n b u
+  word-digit d = word-none n b u (digit-no-letter _ d)
+
+  module _ (h : n ≤ length (takeWhile isWord u)) where
+    pub word-longer : isWord (getD u n 0) ≡ true → fail b ≡ word-of n b u
+    word-longer w = word-other λ e q. omega (arith, run-longer u n h w)
+
+    pub word-whole : (n ≡ 0 → ⊥) → isDigit (getD u 0 0) ≡ false → isWord (getD u n 0) ≡ false → ok (wordAt b u (b + n)) (b + n) (drop (b + n - b) u) ≡ word-of n b u
+    unfolding pick ret
+    word-whole some d w =
+        let z : n ≡ length (takeWhile isWord u) = omega (arith, run-shorter u n w) in
+        let l = word-letter _ (run-passes isWord u 0 (omega arith)) d in
+        run-answer b n u z ∙ sym (word-at l ∙ rw (eq-eqb _ _ (sym z)))
+
+pub key-whole : (k : List ℕ) (b : ℕ) (u : List ℕ) → KeyAt k u (length k) → word-of (length k) b u ≡ keyword k b u
+unfolding pick ret failAt
+key-whole k b u h = go (isLetter (getD u 0 0)) refl (eqb (length (takeWhile isWord u)) (length k)) refl
+  where
+    bytes : (j : ℕ) → j < length k → lower (getD (takeWhile isWord u) j 0) ≡ getD k j 0
+    bytes j l = ap lower (run-byte isWord u j (omega (arith, h .word))) ∙ h .agree j l
+
+    go : (t : Bool) → isLetter (getD u 0 0) ≡ t → (t' : Bool) → eqb (length (takeWhile isWord u)) (length k) ≡ t' → word-of (length k) b u ≡ keyword k b u
+    go false e t' q = sym (word-none (length k) b u e) ∙ keyword-no-word k b u e
+    go true e false q = word-at (length k) b u e ∙ (rw q (keyword-other k b u e (false-if _ (λ y. eqb-false _ _ q (word-agrees _ _ y .0)))))
+    go true e true q = word-at (length k) b u e ∙ (rw q (sym (keyword-same k b u e (agrees-word _ _ (eq-of _ _ q) bytes))))

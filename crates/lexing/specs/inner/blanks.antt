@@ -1,9 +1,10 @@
 -- What the private functions of the readers of blanks promise.
-use Prim.Native.Nat.{ℕ, zero, suc, _+_}
-use mathlib.Core.Bool.{Bool, _&&_}
+use Prim.Native.Nat.{ℕ, zero, suc, _+_, _≤_, _<_}
+use mathlib.Core.Path.{_≡_}
+use mathlib.Core.Bool.{Bool, true, false, _&&_}
 use mathlib.Core.List.{List}
 use lib.Dec.{eqb}
-use lib.ListN.{drop}
+use lib.ListN.{length, drop, getD}
 use Rattle.lexing.specs.bytes.{star, slash}
 use Rattle.lexing.specs.reply.{Reply, fail}
 use Rattle.lexing.specs.blanks.{Until, found, never, Doc, no-doc, doc-at}
@@ -16,6 +17,11 @@ use Rattle.lexing.specs.declared.blanks.Turn.the-variants.{Again, Done}
 -- `*/`
 abbrev pub isClose : ℕ → ℕ → Bool
 isClose x y = eqb x star && eqb y slash
+
+-- where it is said so, four bytes stand at i, none of them a star
+abbrev pub PlainIf : Bool → List ℕ → ℕ → Type 0
+PlainIf true u i = (i + 4 ≤ length u) × ((j : ℕ) → j < 4 → getD u (i + j) 0 ≡ star → ⊥)
+PlainIf false u i = Unit {0}
 
 -- where the search for `*/` ended
 abbrev pub endUntil : End → List ℕ → Until

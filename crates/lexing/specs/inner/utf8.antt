@@ -26,6 +26,10 @@ sequence-size (x ∷ u) = size-of (following table x) u
 unfoldable pub later : ℕ → ℕ → ℕ → List Range
 later n lo hi = lo to hi ∷ replicate (n - 2) (0x80 to 0xbf)
 
+-- none of the n bytes from i on is above r
+pub record Bounds (r : ℕ) (u : List ℕ) (i n : ℕ) : Type 0 where
+  pub each : (j : ℕ) → j < n → getD u (i + j) 0 ≤ r
+
 -- n bytes from i on are ASCII, one at least
 pub record AsciiAt (u : List ℕ) (i n : ℕ) : Type 0 where
   pub onward : 0 < n

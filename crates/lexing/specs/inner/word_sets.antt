@@ -1,7 +1,7 @@
 -- What the private functions of the reader of word sets promise.
 use Prim.Native.Nat.{ℕ, _+_, _-_, _/_, _%_}
-use mathlib.Core.Bool.{Bool, true, false}
-use mathlib.Core.List.{List}
+use mathlib.Core.Bool.{Bool, true, false, _||_}
+use mathlib.Core.List.{List, [], _∷_}
 use lib.Dec.{eqb}
 use lib.ListN.{drop}
 use Rattle.lexing.specs.reply.{Reply, ok, fail, Parser, ret, _>>_}
@@ -23,3 +23,9 @@ startReply Nowhere b u = fail b
 unfoldable pub with-flag : Bool → ℕ → ℕ → ℕ
 with-flag false p f = f
 with-flag true p f = elim (eqb (f / p % 2) 1) [ true ↦ f | false ↦ f + p ]
+
+-- whether one of several keywords can begin with the byte x
+unfoldable pub initial : ℕ → List (List ℕ) → Bool
+initial x [] = false
+initial x ([] ∷ ks) = true
+initial x ((y ∷ k) ∷ ks) = eqb x y || initial x ks

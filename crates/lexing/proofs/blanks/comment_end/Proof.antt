@@ -1,9 +1,10 @@
 use borrow.Author.Needs.{needs}
 use Rattle.lexing.proofs.blanks.comment_end.Statement.{statement}
 use Rattle.lexing.proofs.blanks.comment_end.Tie as tie
+use native.Mathlib.Omega.{arith}
 use Prim.Native.Nat.{_-_}
 use lib.ListN.{length}
-use Rattle.lexing.proofs.blanks.Laws.{UntilAt, until-start, until-more, until-found, until-end}
+use Rattle.lexing.proofs.blanks.Laws.{UntilAt, until-start, until-four, until-more, until-found, until-end}
 
 abbrev Inv-loop : tie.InvT-loop
 Inv-loop part i₀ i = UntilAt part i
@@ -14,20 +15,32 @@ abbrev μ-loop : tie.MeasureT-loop
 loop-holds : tie.Need-loop-holds Inv-loop μ-loop
 loop-holds c = until-start _
 
+is-plain-at-requires : tie.Need-is-plain-at-requires Inv-loop μ-loop
+is-plain-at-requires c κs = search needs
+
+add-i : tie.Need-add-i Inv-loop μ-loop
+add-i c = omega (arith, (until-four _ _ (c .before .before .before .loop .inv) (c .before .is-plain-at .result) (c .before .is-plain-at .ensures) (c .if1 .taken)) .inside)
+
+loop-less : tie.Need-loop-less Inv-loop μ-loop
+loop-less c = omega (arith, (until-four _ _ (c .before .before .before .loop .inv) (c .before .is-plain-at .result) (c .before .is-plain-at .ensures) (c .if1 .taken)) .inside)
+
+loop-again : tie.Need-loop-again Inv-loop μ-loop
+loop-again c = (until-four _ _ (c .before .before .before .loop .inv) (c .before .is-plain-at .result) (c .before .is-plain-at .ensures) (c .if1 .taken))
+
 is-close-at-requires : tie.Need-is-close-at-requires Inv-loop μ-loop
 is-close-at-requires c κs = search needs
 
 returns : tie.Need-returns Inv-loop μ-loop
-returns c = until-found _ _ (c .before .before .before .loop .inv) (c .before .before .loop-test .taken) _ (c .before .is-close-at .ensures) (c .if1 .taken)
+returns c = until-found _ _ (c .before .before .before .before .before .loop .inv) (c .before .before .before .before .loop-test .taken) _ (c .before .is-close-at .ensures) (c .if2 .taken)
 
-add-i : tie.Need-add-i Inv-loop μ-loop
-add-i c = search needs
+add-i-2 : tie.Need-add-i-2 Inv-loop μ-loop
+add-i-2 c = search needs
 
-loop-less : tie.Need-loop-less Inv-loop μ-loop
-loop-less c = search needs
+loop-less-2 : tie.Need-loop-less-2 Inv-loop μ-loop
+loop-less-2 c = search needs
 
-loop-again : tie.Need-loop-again Inv-loop μ-loop
-loop-again c = until-more _ _ (c .before .before .before .loop .inv) (c .before .before .loop-test .taken) _ (c .before .is-close-at .ensures) (c .if1 .left)
+loop-again-2 : tie.Need-loop-again-2 Inv-loop μ-loop
+loop-again-2 c = until-more _ _ (c .before .before .before .before .before .loop .inv) (c .before .before .before .before .loop-test .taken) _ (c .before .is-close-at .ensures) (c .if2 .left)
 
 returns-2 : tie.Need-returns-2 Inv-loop μ-loop
 returns-2 c = until-end _ _ (c .before .loop .inv) (c .loop-test .left)
@@ -39,9 +52,13 @@ comment-end-spec =
     Inv-loop
     μ-loop
     loop-holds
-    is-close-at-requires
-    returns
+    is-plain-at-requires
     add-i
     loop-less
     loop-again
+    is-close-at-requires
+    returns
+    add-i-2
+    loop-less-2
+    loop-again-2
     returns-2)

@@ -1,61 +1,51 @@
 use borrow.Author.Needs.{needs}
 use Rattle.lexing.proofs.blanks.whitespace0.Statement.{statement}
 use Rattle.lexing.proofs.blanks.whitespace0.Tie as tie
+use mathlib.Core.Path.{sym, _∙_, ap}
 use native.Mathlib.Omega.{arith}
 use denote.Ref.{now}
-use Prim.Native.Nat.{_-_, _+_}
-use lib.ListN.{length}
-use Rattle.lexing.proofs.blanks.Laws.{BlanksAt, blanks-start, blanks-comment, blanks-again, blanks-end}
+use Prim.Native.Nat.{_+_}
+use Rattle.lexing.specs.bytes.{isSpace}
+use Rattle.lexing.proofs.Scans.{run-le}
+use Rattle.lexing.proofs.blanks.Laws.{blanks-alone, slash-first}
 
-abbrev Inv-loop : tie.InvT-loop
-Inv-loop part base b₀ b = BlanksAt base part b
+peek-requires : tie.Need-peek-requires
+peek-requires c κs = tt
 
-abbrev μ-loop : tie.MeasureT-loop
-μ-loop part base b₀ b = base + length part - b .next
+more-blanks-requires : tie.Need-more-blanks-requires
+more-blanks-requires c κs = (c .before .before .before .pre, slash-first _ _ (sym (c .before .peek .ensures) ∙ c .if1 .taken))
 
-skip-white-requires : tie.Need-skip-white-requires Inv-loop μ-loop
-skip-white-requires c κs = search needs
+returns : tie.Need-returns
+returns c = search needs
 
-loop-holds : tie.Need-loop-holds Inv-loop μ-loop
-loop-holds c = blanks-start _ _ _ (c .skip-white .ensures)
+white-length-requires : tie.Need-white-length-requires
+white-length-requires c κs = tt
 
-one-blank-requires : tie.Need-one-blank-requires Inv-loop μ-loop
-one-blank-requires c κs = (c .loop .inv .run .from, (c .loop .inv .run .inside, (c .loop .inv .behind, c .before .before .before .pre)))
+add-next : tie.Need-add-next
+add-next c = omega (arith, c .white-length .ensures, run-le isSpace (now (c .before .before .before .before .args .part)))
 
-enum-known-t : tie.Need-enum-known-t Inv-loop μ-loop
-enum-known-t c = c .match .keys1
+peek-requires-2 : tie.Need-peek-requires-2
+peek-requires-2 c κs = tt
 
-enum-told : tie.Need-enum-told Inv-loop μ-loop
-enum-told c = c .match .keys2
+more-blanks-requires-2 : tie.Need-more-blanks-requires-2
+more-blanks-requires-2 c κs = (c .before .before .before .before .before .before .pre, ap (λ n. c .before .before .before .before .before .before .args .base + n) (c .before .before .white-length .ensures))
 
-doc-by-requires : tie.Need-doc-by-requires Inv-loop μ-loop
-doc-by-requires c κs = tt
+returns-2 : tie.Need-returns-2
+returns-2 c = search needs
 
-returns : tie.Need-returns Inv-loop μ-loop
-returns c = blanks-end _ _ _ (c .before .before .before .before .loop .inv) _ (c .before .before .before .one-blank .ensures) _ (c .doc-by .ensures) (c .before .enum-told .given .1)
-
-skip-white-requires-2 : tie.Need-skip-white-requires-2 Inv-loop μ-loop
-skip-white-requires-2 c κs = let h = blanks-comment (c .before .before .before .before .before .before .before .args .base) (now (c .before .before .before .before .before .before .before .args .part)) _ (c .before .before .before .before .loop .inv) _ (c .before .before .before .one-blank .ensures) _ (c .before .t .given .1) .0 in (h .from, (h .inside, c .before .before .before .before .before .before .before .pre))
-
-loop-less : tie.Need-loop-less Inv-loop μ-loop
-loop-less c = let h = blanks-again (c .before .before .before .before .before .before .before .before .args .base) (now (c .before .before .before .before .before .before .before .before .args .part)) _ (c .before .before .before .before .before .loop .inv) _ (c .before .before .before .before .one-blank .ensures) _ (c .before .before .t .given .1) _ (c .skip-white2 .ensures) in omega (arith, h .1, h .0 .run .inside)
-
-loop-again : tie.Need-loop-again Inv-loop μ-loop
-loop-again c = blanks-again (c .before .before .before .before .before .before .before .before .args .base) (now (c .before .before .before .before .before .before .before .before .args .part)) _ (c .before .before .before .before .before .loop .inv) _ (c .before .before .before .before .one-blank .ensures) _ (c .before .before .t .given .1) _ (c .skip-white2 .ensures) .0
+returns-3 : tie.Need-returns-3
+returns-3 c = blanks-alone _ _ _ (c .before .before .white-length .ensures) _ (c .before .peek2 .ensures) (c .if2 .left)
 
 pub whitespace0-spec : {M : Type 1} → statement M
 whitespace0-spec =
     tie.close
     (tie.spec
-    Inv-loop
-    μ-loop
-    skip-white-requires
-    loop-holds
-    one-blank-requires
-    enum-known-t
-    enum-told
-    doc-by-requires
+    peek-requires
+    more-blanks-requires
     returns
-    skip-white-requires-2
-    loop-less
-    loop-again)
+    white-length-requires
+    add-next
+    peek-requires-2
+    more-blanks-requires-2
+    returns-2
+    returns-3)

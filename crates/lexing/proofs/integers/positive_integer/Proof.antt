@@ -1,30 +1,66 @@
 use borrow.Author.Needs.{needs}
 use Rattle.lexing.proofs.integers.positive_integer.Statement.{statement}
 use Rattle.lexing.proofs.integers.positive_integer.Tie as tie
-use mathlib.Core.Path.{sym, _∙_}
-use Rattle.lexing.proofs.integers.Laws.{hex-first, then-decimal}
+use borrow.Author.Tests.{not-true, not-false}
+use mathlib.Core.Path.{sym, _∙_, ap}
+use native.Mathlib.Omega.{arith}
+use denote.Ref.{now}
+use Rattle.lexing.specs.bytes.{isDigit}
+use Rattle.lexing.proofs.integers.Laws.{digit-inside, no-digit, two-digits, one-digit}
 
-is-hex-ahead-requires : tie.Need-is-hex-ahead-requires
-is-hex-ahead-requires c κs = tt
+peek-requires : tie.Need-peek-requires
+peek-requires c κs = tt
 
-hex-integer-requires : tie.Need-hex-integer-requires
-hex-integer-requires c κs = (c .before .before .before .pre, sym (c .before .is-hex-ahead .ensures) ∙ c .if1 .taken)
+is-digit-requires : tie.Need-is-digit-requires
+is-digit-requires c κs = tt
 
 returns : tie.Need-returns
-returns c = c .hex-integer .ensures ∙ hex-first _ _ (sym (c .before .before .is-hex-ahead .ensures) ∙ c .before .if1 .taken)
+returns c = no-digit _ (now (c .before .before .before .before .args .part)) (ap isDigit (sym (c .before .before .peek .ensures)) ∙ (sym (c .before .is-digit .ensures) ∙ not-true _ (c .if1 .taken)))
+
+peek-requires-2 : tie.Need-peek-requires-2
+peek-requires-2 c κs = tt
+
+is-digit-requires-2 : tie.Need-is-digit-requires-2
+is-digit-requires-2 c κs = tt
 
 decimal-integer-requires : tie.Need-decimal-integer-requires
 decimal-integer-requires c κs = search needs
 
 returns-2 : tie.Need-returns-2
-returns-2 c = c .decimal-integer .ensures ∙ then-decimal _ _ (sym (c .before .before .is-hex-ahead .ensures) ∙ c .before .if1 .left)
+returns-2 c = c .decimal-integer .ensures ∙ two-digits _ (now (c .before .before .before .before .before .before .before .before .args .part)) _ (c .before .before .before .peek2 .ensures) (sym (c .before .before .is-digit2 .ensures) ∙ c .before .if2 .taken)
+
+is-x-requires : tie.Need-is-x-requires
+is-x-requires c κs = tt
+
+any-integer-requires : tie.Need-any-integer-requires
+any-integer-requires c κs = search needs
+
+returns-3 : tie.Need-returns-3
+returns-3 c = c .any-integer .ensures
+
+digit-of-requires : tie.Need-digit-of-requires
+digit-of-requires c κs = (sym (c .before .before .before .before .before .before .is-digit .ensures) ∙ not-false _ (c .before .before .before .before .before .if1 .left))
+
+add-t11 : tie.Need-add-t11
+add-t11 c = omega (arith, digit-inside (now (c .before .before .before .before .before .before .before .before .before .before .args .part)) (ap isDigit (sym (c .before .before .before .before .before .before .before .before .peek .ensures)) ∙ (sym (c .before .before .before .before .before .before .before .is-digit .ensures) ∙ not-false _ (c .before .before .before .before .before .before .if1 .left))))
+
+returns-4 : tie.Need-returns-4
+returns-4 c = one-digit _ (now (c .before .before .before .before .before .before .before .before .before .before .args .part)) _ (c .before .before .before .before .before .peek2 .ensures) _ (c .before .before .before .before .before .before .before .before .peek .ensures) (sym (c .before .before .before .before .before .before .before .is-digit .ensures) ∙ not-false _ (c .before .before .before .before .before .before .if1 .left)) (sym (c .before .before .before .before .is-digit2 .ensures) ∙ c .before .before .before .if2 .left) _ (c .before .before .is-x .ensures) (c .before .if3 .left) _ (c .digit-of .ensures)
 
 pub positive-integer-spec : {M : Type 1} → statement M
 positive-integer-spec =
     tie.close
     (tie.spec
-    is-hex-ahead-requires
-    hex-integer-requires
+    peek-requires
+    is-digit-requires
     returns
+    peek-requires-2
+    is-digit-requires-2
     decimal-integer-requires
-    returns-2)
+    returns-2
+    is-x-requires
+    any-integer-requires
+    returns-3
+    digit-of-requires
+    add-t11
+    returns-4)
