@@ -1,7 +1,7 @@
 use Rattle.items.proofs.clusters.third_letter_kind.Statement.{statement}
 use Rattle.items.proofs.clusters.third_letter_kind.Tie as tie
-use mathlib.Core.Path.{refl}
 use borrow.Author.Tests.{eq-eqb, ne-eqb}
+use mathlib.Core.Path.{refl}
 
 returns : tie.Need-returns
 returns c = rw (eq-eqb _ _ (c .if1 .taken)) refl
