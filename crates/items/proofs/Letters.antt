@@ -62,7 +62,7 @@ starts-byte {k} {u} s i h =
     ap lower (sym (run-byte isWord u i (t .0))) ∙ t .1
 
 -- by cases on a test that is true
-or-cases : {P : Type 0} (s t : Bool) → (s || t) ≡ true → (s ≡ true → P) → (t ≡ true → P) → P
+pub or-cases : {P : Type 0} (s t : Bool) → (s || t) ≡ true → (s ≡ true → P) → (t ≡ true → P) → P
 or-cases true t e f g = f refl
 or-cases false t e f g = g e
 
