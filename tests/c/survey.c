@@ -76,6 +76,59 @@ static void surveyed(const struct known *k, size_t catalogue_length, size_t repo
     expect(memcmp(report, report_after, sizeof report) == 0, "report", k->text);
 }
 
+/* Texts as long as the limit, of many sections. */
+static uint8_t text[MATTER_IDL_TEXT_LIMIT];
+static uint8_t catalogue[MATTER_IDL_CATALOGUE_BYTES(MATTER_IDL_TEXT_LIMIT)];
+static uint8_t report[MATTER_IDL_REPORT_BYTES(MATTER_IDL_TEXT_LIMIT / 2 + 1)];
+
+static int entry_is(size_t i, size_t start, size_t length, unsigned number, size_t place) {
+    uint64_t entry = matter_idl_word(report + 8 * i);
+    return matter_idl_section_start(entry) == start && matter_idl_section_length(entry) == length
+        && matter_idl_section_number(entry) == number && matter_idl_section_place(entry) == place;
+}
+
+/* Whether section i is to be accepted, by a rule without a short period. */
+static int is_sound(size_t i) { return (uint32_t)i * 2654435761u >> 31; }
+
+/* An enum or a letter that is no item, each up to its cut; the rest of the text is blanks. */
+static void mixed_sections(void) {
+    size_t n = 0, sections = 0, written = 0, at = 0;
+    memset(text, ' ', sizeof text);
+    while (n + 11 <= sizeof text) {
+        const char *piece = is_sound(sections) ? "enum E:t{\n}" : "x\n}";
+        memcpy(text + n, piece, strlen(piece));
+        n += strlen(piece);
+        sections++;
+    }
+    uint64_t result = matter_idl_survey(text, sizeof text, catalogue, sizeof catalogue, report, sizeof report);
+    for (size_t i = 0; i < sections; i++) {
+        if (!is_sound(i)) {
+            expect(entry_is(i, at, 3, 3, at), "a refused section", "many of both");
+            at += 3;
+            continue;
+        }
+        expect(entry_is(i, at, 11, 0, 0), "an accepted section", "many of both");
+        expect(matter_idl_name_offset(matter_idl_word(catalogue + 8 * written)) == at + 5, "its record", "many of both");
+        written += matter_idl_record_words(MATTER_IDL_ENUM);
+        at += 11;
+    }
+    expect(entry_is(sections, n, sizeof text - n, 0, 0), "the last section", "many of both");
+    expect(result == 8 * written, "result", "many of both");
+}
+
+/* As many sections as a text can have, of which the last is accepted. */
+static void most_sections(void) {
+    size_t last = sizeof text / 2;
+    for (size_t i = 0; i < last; i++)
+        memcpy(text + 2 * i, "\n}", 2);
+    text[2 * last] = ' ';
+    uint64_t result = matter_idl_survey(text, sizeof text, catalogue, sizeof catalogue, report, sizeof report);
+    expect(result == 0, "result", "as many as can be");
+    for (size_t i = 0; i < last; i++)
+        expect(entry_is(i, 2 * i, 2, 3, 2 * i + 1), "a refused section", "as many as can be");
+    expect(entry_is(last, 2 * last, 1, 0, 0), "the last section", "as many as can be");
+}
+
 int main(void) {
     size_t count = sizeof surveys / sizeof surveys[0];
     for (size_t i = 0; i < count; i++) {
@@ -87,6 +140,8 @@ int main(void) {
         for (size_t length = 0; length < 8 * k->section_count; length++)
             surveyed(k, 8 * k->count - (k->count ? length % 2 : 0), length);
     }
-    printf("%zu surveys from C, %s\n", count, failed ? "some answers differ" : "all as known");
+    mixed_sections();
+    most_sections();
+    printf("%zu surveys from C, %s\n", count + 2, failed ? "some answers differ" : "all as known");
     return failed;
 }

@@ -5,8 +5,10 @@ pub mod Shift
 pub mod RecordsMoved
 -- locality under appended text
 pub mod Locality
--- keywords
+-- keywords, and which of them the letters of a first word leave
 pub mod Keywords
+pub mod Letters
+pub mod Alternatives
 -- tries one after the other, and which of them a first word leaves
 pub mod Choice
 pub mod Tries

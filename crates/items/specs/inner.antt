@@ -1,5 +1,6 @@
 -- What private functions promise. No public contract rests on it.
 pub mod counts
+pub mod maturity
 pub mod entries
 pub mod structs
 pub mod choices

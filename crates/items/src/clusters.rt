@@ -12,7 +12,7 @@ ghost use Rattle.lexing.specs.blanks.{no-doc, whitespace0};
 ghost use Rattle.items.specs.layout.{text-limit, layout-20, catalogue-bytes};
 ghost use Rattle.items.specs.buffers.{put};
 ghost use Rattle.items.specs.records.{each};
-ghost use Rattle.items.specs.inner.clusters.{struct-words, attribute-words, command-words, event-words, found, MemberFrom, KindTo, member-try, countRaised, member-behind, members-rest, unhoisted, MemberWritten, MembersWritten, revisionWrote, cluster-first};
+ghost use Rattle.items.specs.inner.clusters.{found, thirdLetterKind, MemberFrom, KindTo, member-try, countRaised, member-behind, members-rest, unhoisted, MemberWritten, MembersWritten, revisionWrote, cluster-first};
 ghost use Rattle.items.specs.entries.{braces};
 ghost use Rattle.items.specs.clusters.{parse-revision, member-tries, parse-cluster-member, cluster-members, side, cluster-after-doc-maturity};
 ghost use Rattle.items.specs.answers.{Skips, NameIn, DocFits, FrontFits, Room, Written};
@@ -49,9 +49,11 @@ use lexing::answers::Step;
 use lexing::answers::step_lost;
 use lexing::blanks::DocSpan;
 use lexing::blanks::whitespace0;
+use lexing::bytes::lower_of;
 use lexing::integers::Number;
 use lexing::integers::number_lost;
 use lexing::integers::positive_integer;
+use lexing::parts::peek;
 use lexing::parts::rest_at;
 use lexing::words::keyword;
 use lexing::words::parse_id;
@@ -107,99 +109,60 @@ pub fn starts(part: &[u8], base: usize, key: &[u8]) -> bool
     }
 }
 
-fn starts_struct(part: &[u8], base: usize) -> bool
-    requires { ⌜ base + length (now part) ≤ text-limit ⌝ }
-    ensures { λ r. ⌜ r ≡ found (any-keyword struct-words base (now (part .entry))) ⌝ }
+// The kind that the third letter of a first word says, where the first one is `r`: `readonly`, `revision`, `request`, `response`.
+fn third_letter_kind(y: u8) -> MemberKind
+    ensures { λ r. ⌜ r ≡ thirdLetterKind y ⌝ }
 {
-    if starts(part, base, b"request") {
-        return true;
+    if y == b'a' {
+        return MemberKind::Attribute;
     }
-    if starts(part, base, b"response") {
-        return true;
+    if y == b'v' {
+        return MemberKind::Revision;
     }
-    if starts(part, base, b"fabric_scoped") {
-        return true;
-    }
-    starts(part, base, b"struct")
+    MemberKind::Struct
 }
 
-fn starts_attribute(part: &[u8], base: usize) -> bool
-    requires { ⌜ base + length (now part) ≤ text-limit ⌝ }
-    ensures { λ r. ⌜ r ≡ found (any-keyword attribute-words base (now (part .entry))) ⌝ }
-{
-    if starts(part, base, b"readonly") {
-        return true;
-    }
-    if starts(part, base, b"writeonly") {
-        return true;
-    }
-    if starts(part, base, b"nosubscribe") {
-        return true;
-    }
-    if starts(part, base, b"timedwrite") {
-        return true;
-    }
-    starts(part, base, b"attribute")
-}
-
-fn starts_command(part: &[u8], base: usize) -> bool
-    requires { ⌜ base + length (now part) ≤ text-limit ⌝ }
-    ensures { λ r. ⌜ r ≡ found (any-keyword command-words base (now (part .entry))) ⌝ }
-{
-    if starts(part, base, b"timed") {
-        return true;
-    }
-    if starts(part, base, b"fabric") {
-        return true;
-    }
-    starts(part, base, b"command")
-}
-
-fn starts_event(part: &[u8], base: usize) -> bool
-    requires { ⌜ base + length (now part) ≤ text-limit ⌝ }
-    ensures { λ r. ⌜ r ≡ found (any-keyword event-words base (now (part .entry))) ⌝ }
-{
-    if starts(part, base, b"fabric_sensitive") {
-        return true;
-    }
-    if starts(part, base, b"info") {
-        return true;
-    }
-    if starts(part, base, b"critical") {
-        return true;
-    }
-    starts(part, base, b"debug")
-}
-
-// The kind that a first word other than `shared` says.
+// The kind that a first word other than `shared` leaves. Its first letter says it, but for four letters with which words of several kinds begin.
 fn word_kind(part: &[u8], base: usize) -> MemberKind
     requires { ⌜ base + length (now part) ≤ text-limit ⌝ }
     requires { ⌜ whitespace0 base (now part) ≡ ok no-doc base (now part) ⌝ }
     requires { ⌜ keyword (ascii "shared") base (now part) ≡ fail base ⌝ }
     ensures { λ r. ⌜ KindTo (record { kind = r; floor = base; from = base }) base (now (part .entry)) ⌝ }
 {
-    if starts_attribute(part, base) {
-        return MemberKind::Attribute;
+    let x = lower_of(peek(part, 0));
+    match x {
+        b'a' => MemberKind::Attribute,
+        b'b' => MemberKind::Bitmap,
+        b'c' => {
+            if starts(part, base, b"critical") {
+                return MemberKind::Event;
+            }
+            MemberKind::Command
+        }
+        b'd' => MemberKind::Event,
+        b'e' => MemberKind::Enum,
+        b'f' => {
+            if starts(part, base, b"fabric_scoped") {
+                return MemberKind::Struct;
+            }
+            if starts(part, base, b"fabric_sensitive") {
+                return MemberKind::Event;
+            }
+            MemberKind::Command
+        }
+        b'i' => MemberKind::Event,
+        b'n' => MemberKind::Attribute,
+        b'r' => third_letter_kind(lower_of(peek(part, 2))),
+        b's' => MemberKind::Struct,
+        b't' => {
+            if starts(part, base, b"timedwrite") {
+                return MemberKind::Attribute;
+            }
+            MemberKind::Command
+        }
+        b'w' => MemberKind::Attribute,
+        _ => MemberKind::Unknown,
     }
-    if starts_command(part, base) {
-        return MemberKind::Command;
-    }
-    if starts_struct(part, base) {
-        return MemberKind::Struct;
-    }
-    if starts_event(part, base) {
-        return MemberKind::Event;
-    }
-    if starts(part, base, b"enum") {
-        return MemberKind::Enum;
-    }
-    if starts(part, base, b"bitmap") {
-        return MemberKind::Bitmap;
-    }
-    if starts(part, base, b"revision") {
-        return MemberKind::Revision;
-    }
-    MemberKind::Unknown
 }
 
 // The kind behind `shared`, which ends at c1: the word behind it decides.

@@ -1,9 +1,12 @@
 // Maturities: stable, provisional, internal, deprecated = 0 to 3.
-ghost use Prim.Native.Nat.{_+_, _≤_};
+ghost use Prim.Native.Nat.{_+_, _≤_, _<_};
 ghost use lib.ListN.{length};
 ghost use Rattle.lexing.specs.integers.{u64-max};
 ghost use Rattle.items.specs.answers.{MaturityTo};
+ghost use Rattle.items.specs.inner.maturity.{MaturityBy};
 use lexing::answers::Step;
+use lexing::bytes::lower_of;
+use lexing::parts::peek;
 use lexing::words::keyword;
 
 // A maturity is always there: where no word says one, it is stable and nothing is read.
@@ -12,28 +15,36 @@ pub struct Maturity {
     pub next: usize,
 }
 
+// The maturity that a keyword says, where it stands.
+fn maturity_by(part: &[u8], base: usize, key: &[u8], level: u8) -> Maturity
+    requires { ⌜ base + length (now part) ≤ u64-max ⌝ }
+    requires { ⌜ level < 4 ⌝ }
+    ensures { λ r. ⌜ MaturityBy (now (key .entry)) level r base (now (part .entry)) ⌝ }
+{
+    let word = keyword(part, base, key);
+    let Step::Next(next) = word else {
+        return Maturity {
+            level: 0,
+            next: base,
+        };
+    };
+    Maturity { level, next }
+}
+
+// The first letter leaves one keyword.
 pub fn api_maturity(part: &[u8], base: usize) -> Maturity
     requires { ⌜ base + length (now part) ≤ u64-max ⌝ }
     ensures { λ r. ⌜ MaturityTo r base (now (part .entry)) ⌝ }
 {
-    let stable = keyword(part, base, b"stable");
-    if let Step::Next(c) = stable {
-        return Maturity { level: 0, next: c };
-    }
-    let provisional = keyword(part, base, b"provisional");
-    if let Step::Next(c) = provisional {
-        return Maturity { level: 1, next: c };
-    }
-    let internal = keyword(part, base, b"internal");
-    if let Step::Next(c) = internal {
-        return Maturity { level: 2, next: c };
-    }
-    let deprecated = keyword(part, base, b"deprecated");
-    if let Step::Next(c) = deprecated {
-        return Maturity { level: 3, next: c };
-    }
-    Maturity {
-        level: 0,
-        next: base,
+    let x = lower_of(peek(part, 0));
+    match x {
+        b's' => maturity_by(part, base, b"stable", 0),
+        b'p' => maturity_by(part, base, b"provisional", 1),
+        b'i' => maturity_by(part, base, b"internal", 2),
+        b'd' => maturity_by(part, base, b"deprecated", 3),
+        _ => Maturity {
+            level: 0,
+            next: base,
+        },
     }
 }

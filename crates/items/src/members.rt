@@ -1,7 +1,7 @@
 // Events and commands.
 ghost use mathlib.Core.Path.{_≡_};
 ghost use mathlib.Core.List.{[], _∷_};
-ghost use Prim.Native.Nat.{_+_, _-_, _≤_};
+ghost use Prim.Native.Nat.{_+_, _-_, _≤_, _<_};
 ghost use lib.Dec.{ltb};
 ghost use lib.ListN.{length};
 ghost use Rattle.lexing.specs.answers.{docOf};
@@ -11,6 +11,7 @@ ghost use Rattle.items.specs.records.{spanned, event-records};
 ghost use Rattle.items.specs.members.{access-privilege, event-priority, access-to, invoke-access, parse-event-after-doc-maturity, parse-command-after-doc-maturity};
 ghost use Rattle.items.specs.answers.{CountTo, FrontFits, Room, Written};
 ghost use Rattle.items.specs.answers.members.{levelLost, LevelTo, levelOr, eventQualitiesLost, EventQualitiesTo, eventHeadLost, EventHeadTo, EventCountTo, commandHeadLost, CommandHeadTo, commandTypesLost, CommandTypesTo, commandLost, EventHeadBetween, CommandBetween, CommandTo, command-records};
+ghost use Rattle.items.specs.inner.maturity.{numbered};
 ghost use Rattle.items.specs.inner.members.{extentIf, commandFront, command-parts, event-first};
 use crate::counts::Count;
 use crate::optional::optional;
@@ -34,8 +35,10 @@ use lexing::answers::Step;
 use lexing::answers::step_lost;
 use lexing::blanks::DocSpan;
 use lexing::blanks::whitespace0;
+use lexing::bytes::lower_of;
 use lexing::integers::Number;
 use lexing::integers::number_lost;
+use lexing::parts::peek;
 use lexing::parts::rest_at;
 use lexing::word_sets::keywords_set;
 use lexing::words::keyword;
@@ -120,48 +123,46 @@ pub enum CommandRead {
     NoCommand(Lost),
 }
 
-// view, operate, manage, administer = 0 to 3
+// A keyword that stands for a level.
+fn level_by(part: &[u8], base: usize, key: &[u8], level: u8) -> Level
+    requires { ⌜ base + length (now part) ≤ text-limit ⌝ }
+    requires { ⌜ level < 4 ⌝ }
+    ensures { λ r. ⌜ LevelTo (numbered (now (key .entry)) level) r base (now (part .entry)) ⌝ }
+{
+    let word = keyword(part, base, key);
+    let Step::Next(c) = word else {
+        return Level::NoLevel(Lost::Fail(base));
+    };
+    Level::Chosen(level, c)
+}
+
+// view, operate, manage, administer = 0 to 3; the first letter leaves one of them.
 pub fn access_privilege(part: &[u8], base: usize) -> Level
     requires { ⌜ base + length (now part) ≤ text-limit ⌝ }
     ensures { λ r. ⌜ LevelTo access-privilege r base (now (part .entry)) ⌝ }
 {
-    let view = keyword(part, base, b"view");
-    if let Step::Next(c) = view {
-        return Level::Chosen(0, c);
+    let x = lower_of(peek(part, 0));
+    match x {
+        b'v' => level_by(part, base, b"view", 0),
+        b'o' => level_by(part, base, b"operate", 1),
+        b'm' => level_by(part, base, b"manage", 2),
+        b'a' => level_by(part, base, b"administer", 3),
+        _ => Level::NoLevel(Lost::Fail(base)),
     }
-    let operate = keyword(part, base, b"operate");
-    if let Step::Next(c) = operate {
-        return Level::Chosen(1, c);
-    }
-    let manage = keyword(part, base, b"manage");
-    if let Step::Next(c) = manage {
-        return Level::Chosen(2, c);
-    }
-    let administer = keyword(part, base, b"administer");
-    if let Step::Next(c) = administer {
-        return Level::Chosen(3, c);
-    }
-    Level::NoLevel(Lost::Fail(base))
 }
 
-// critical, info, debug = 0 to 2
+// critical, info, debug = 0 to 2; the first letter leaves one of them.
 pub fn event_priority(part: &[u8], base: usize) -> Level
     requires { ⌜ base + length (now part) ≤ text-limit ⌝ }
     ensures { λ r. ⌜ LevelTo event-priority r base (now (part .entry)) ⌝ }
 {
-    let info = keyword(part, base, b"info");
-    if let Step::Next(c) = info {
-        return Level::Chosen(1, c);
+    let x = lower_of(peek(part, 0));
+    match x {
+        b'i' => level_by(part, base, b"info", 1),
+        b'c' => level_by(part, base, b"critical", 0),
+        b'd' => level_by(part, base, b"debug", 2),
+        _ => Level::NoLevel(Lost::Fail(base)),
     }
-    let critical = keyword(part, base, b"critical");
-    if let Step::Next(c) = critical {
-        return Level::Chosen(0, c);
-    }
-    let debug = keyword(part, base, b"debug");
-    if let Step::Next(c) = debug {
-        return Level::Chosen(2, c);
-    }
-    Level::NoLevel(Lost::Fail(base))
 }
 
 pub fn level_lost(r: Level) -> Lost

@@ -6,11 +6,9 @@ ghost use Rattle.lexing.specs.words.{tag, keyword};
 ghost use Rattle.lexing.specs.blanks.{whitespace0, whitespace1};
 ghost use Rattle.lexing.specs.declared.answers.Step.the-variants.{Next};
 ghost use Rattle.items.specs.answers.{Skips, BlankAt, SkipsAt, NumberAt, behind-blanks};
+use lexing::answers::Lost;
 use lexing::answers::Step;
-use lexing::blanks::Gap;
-use lexing::blanks::gap_lost;
 use lexing::blanks::whitespace0;
-use lexing::blanks::whitespace1;
 use lexing::integers::Number;
 use lexing::integers::positive_integer;
 use lexing::parts::peek;
@@ -18,13 +16,19 @@ use lexing::parts::rest_at;
 use lexing::words::keyword;
 use lexing::words::tag;
 
-// The offset behind the blanks at the front. No byte above the slash starts one, and most calls end with that test.
+// The offset behind the blanks at the front. No byte above the slash starts one, and most calls end with that test, or with a single space before such a byte.
 fn blank_end(part: &[u8], base: usize) -> usize
     requires { ⌜ base + length (now part) ≤ u64-max ⌝ }
     ensures { λ r. ⌜ Skips whitespace0 (Next r) base (now (part .entry)) ⌝ }
 {
-    if b'/' < peek(part, 0) {
+    let x = peek(part, 0);
+    if b'/' < x {
         return base;
+    }
+    if x == b' ' {
+        if b'/' < peek(part, 1) {
+            return base + 1;
+        }
     }
     let w = whitespace0(part, base);
     w.next
@@ -43,11 +47,11 @@ pub fn gap_at(part: &[u8], base: usize, c: usize) -> Step
     requires { ⌜ ((base ≤ c) × (c ≤ base + length (now part))) × (base + length (now part) ≤ u64-max) ⌝ }
     ensures { λ r. ⌜ SkipsAt whitespace1 r base (now (part .entry)) c ⌝ }
 {
-    let gap = whitespace1(rest_at(part, base, c), c);
-    let Gap::Passed(w) = gap else {
-        return Step::Not(gap_lost(gap));
-    };
-    Step::Next(w.next)
+    let n = blank_end(rest_at(part, base, c), c);
+    if n == c {
+        return Step::Not(Lost::Fail(c));
+    }
+    Step::Next(n)
 }
 
 // Blanks and a byte.

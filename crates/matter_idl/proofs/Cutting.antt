@@ -1,11 +1,15 @@
--- Cutting a text: the sections make up the text, and all but the last end at a cut.
-use Prim.Native.Nat.{ℕ}
+-- Cutting a text: the sections make up the text, all but the last end at a cut, and how many there can be.
+use Prim.Native.Nat.{ℕ, _+_, _*_, _^_, _≤_, _<_}
 use mathlib.Core.Path.{_≡_, refl, sym, _∙_, ap}
 use mathlib.Core.Bool.{Bool, true, false, _&&_, false≢true}
 use mathlib.Core.List.{List, [], _∷_, _++_, append-assoc}
+use native.Mathlib.Omega.{arith}
 use lib.Dec.{eqb}
+use lib.ListN.{length}
+use Rattle.lexing.specs.word_sets.{bit}
 use Rattle.lexing.proofs.Tests.{eq-of, and-left, and-right}
 use Rattle.lexing.proofs.Runs.{Cut}
+use Rattle.items.specs.layout.{text-limit}
 use Rattle.matter_idl.specs.sections.{line-feed, closing-brace, cut-after, before-first, cut-from, sections, joined}
 
 pub joined-append : (xs ys : List (List ℕ)) → joined (xs ++ ys) ≡ joined xs ++ joined ys
@@ -142,3 +146,35 @@ continues u (x ∷ before) s behind e =
     let f = first false u x (before ++ (s ∷ behind)) (some-behind before s behind) e in
     let c = continues (joined (before ++ (s ∷ behind))) before s behind (f .alone) in
     record { goes-on = λ t. ap (cut-from false) (append-assoc x (joined before) t) ∙ (f .goes-on (joined before ++ t) ∙ ap (λ l. x ∷ l) (c .goes-on t)); alone = c .alone }
+
+-- A cut takes two bytes, so a text of n bytes has at most n / 2 + 1 sections.
+first-count : (x : ℕ) (ss : List (List ℕ)) {n : ℕ} → 2 ≤ n → 2 * length ss ≤ n → 2 * length (before-first x ss) ≤ n
+unfolding before-first
+first-count x [] h k = h
+first-count x (s ∷ ss) h k = k
+
+bit-small : (p : Bool) → bit p ≤ 1
+unfolding bit
+bit-small true = omega arith
+bit-small false = omega arith
+
+-- p says of the byte before the text whether it is LF
+cuts-count : (p : Bool) (u : List ℕ) → 2 * length (cut-from p u) ≤ 2 + (bit p + length u)
+unfolding cut-from bit
+cuts-count p [] = omega arith
+cuts-count p (x ∷ u) = go (cut-after p x) refl (λ q. cuts-count q u)
+  where
+    behind-feed : cut-after p x ≡ true → bit p ≡ 1
+    behind-feed e = ap bit (and-left p (eqb x closing-brace) (unfold cut-after in e))
+
+    go : (t : Bool) → cut-after p x ≡ t → ((q : Bool) → 2 * length (cut-from q u) ≤ 2 + (bit q + length u)) → 2 * length (cut-from p (x ∷ u)) ≤ 2 + (bit p + length (x ∷ u))
+    go true e ih = rw (e, cut-from) (omega (arith, behind-feed e, ih false))
+    go false e ih = rw (e, cut-from) (first-count x (cut-from (eqb x line-feed) u) (omega arith) (omega (arith, ih (eqb x line-feed), bit-small (eqb x line-feed))))
+
+pub sections-count : (u : List ℕ) → 2 * length (sections u) ≤ 2 + length u
+unfolding sections bit
+sections-count u = omega (arith, cuts-count false u)
+
+-- so a text within the limit has at most 2^19
+pub section-number : (u : List ℕ) → length u ≤ text-limit → {i : ℕ} → i < length (sections u) → i < 2 ^ 19
+section-number u h l = omega (arith, sections-count u, h, l)

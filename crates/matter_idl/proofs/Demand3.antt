@@ -1,5 +1,5 @@
 -- Demand 3, proved: for all layouts, every text within the limit and all buffers long enough.
-use Prim.Native.Nat.{ℕ, suc, _+_, _*_, _≤_}
+use Prim.Native.Nat.{ℕ, _*_, _≤_}
 use mathlib.Core.Path.{_≡_, refl, sym, _∙_, ap}
 use mathlib.Core.List.{List, [], _∷_}
 use lib.ListN.{length}
@@ -10,11 +10,11 @@ use Rattle.items.specs.layout.{Layout, layout-20, catalogue-bytes, text-limit}
 use Rattle.matter_idl.specs.hoisting.{no-ids, hoisted}
 use Rattle.matter_idl.specs.reading.{Verdict, accepted, turned-down, verdict, into-catalogue, reading}
 use Rattle.matter_idl.specs.sections.{sections}
-use Rattle.matter_idl.specs.survey.{items-of, accepted-items, ReportLayout, report-20, surveyed, for-catalogue, into-buffers, survey}
+use Rattle.matter_idl.specs.survey.{items-of, accepted-items, entries, ReportLayout, report-20, surveyed, for-catalogue, into-buffers, survey}
 use Rattle.matter_idl.specs.demand_3.{alone, own-records, fed, globals, entries-alone, catalogue-for, report-for, LongEnough, EachAccepted, moved-entry, extent-of, Replacement, Replaced, Demand3Over, Demand3Now}
 use Rattle.matter_idl.proofs.HandedOut.{handed-own, handed-places, handed-hoisted, handed-ids}
 use Rattle.matter_idl.proofs.hoisting.Types.{hoisted-globals}
-use Rattle.matter_idl.proofs.survey.Laws.{report-length}
+use Rattle.matter_idl.proofs.survey.Laws.{report-length, entries-count}
 use Rattle.matter_idl.proofs.Replacing.{moved-by, entries-along, entries-moved, numbers-same, saved-own, saved-along, saved-moved, old-along, new-along}
 use Rattle.matter_idl.proofs.Cutting.{sections-joined}
 use Rattle.matter_idl.proofs.SectionsAlone.{each-short, entries-as-alone}
@@ -42,13 +42,17 @@ nothing-of : (s : List ℕ) (k p : ℕ) → verdict s ≡ turned-down k p → (o
 unfolding own-records fed each items-of hoisted
 nothing-of s k p e = rw e (refl, refl)
 
+-- the entries of the sections where they stand
+entries-now : (u : List ℕ) → length u ≤ text-limit → entries 0 (sections u) ≡ entries-alone 0 (sections u)
+entries-now u h = entries-as-alone 0 (sections u) (each-short (sections u) (rw (sections-joined u) h))
+
 module _ (L : Layout) (R : ReportLayout) (u : List ℕ) (h : length u ≤ text-limit) where
   -- the survey by the sections alone, whatever the buffers' lengths
   pub survey-is : (n m : ℕ) → survey L R u n m ≡ into-buffers n m (catalogue-for L u) (report-for R u)
   unfolding survey catalogue-for report-for
   survey-is n m =
       rw (le-leb (length u) text-limit h, survey)
-      (rw (sym (handed-hoisted u h), entries-as-alone 0 (sections u) (each-short (sections u) (rw (sections-joined u) h))) refl)
+      (rw (sym (handed-hoisted u h), entries-now u h) refl)
 
   accepts : (n m : ℕ) → LongEnough L R u n m → survey L R u n m ≡ surveyed (catalogue-for L u) (report-for R u)
   accepts n m k = survey-is n m ∙ both-in n m (catalogue-for L u) (report-for R u) (k .catalogue) (k .report)
@@ -92,14 +96,9 @@ demand-3 L R u n m h k =
     }
 
 -- Document 01's layouts: a report has 8 bytes a section.
-entries-count : (b : ℕ) (ss : List (List ℕ)) → length (entries-alone b ss) ≡ length ss
-unfolding entries-alone
-entries-count b [] = refl
-entries-count b (s ∷ ss) = ap suc (entries-count (b + length s) ss)
-
-rows : (u : List ℕ) → length (report-for report-20 u) ≡ 8 * length (sections u)
+rows : (u : List ℕ) → length u ≤ text-limit → length (report-for report-20 u) ≡ 8 * length (sections u)
 unfolding report-for
-rows u = report-length (entries-alone 0 (sections u)) ∙ ap (λ n. 8 * n) (entries-count 0 (sections u))
+rows u h = rw (← entries-now u h) (report-length (entries 0 (sections u)) ∙ ap (λ n. 8 * n) (entries-count 0 (sections u)))
 
 pub demand-3-now : Demand3Now
-demand-3-now u n m h k j = demand-3 layout-20 report-20 u n m h (record { catalogue = k; report = rw (rows u) j })
+demand-3-now u n m h k j = demand-3 layout-20 report-20 u n m h (record { catalogue = k; report = rw (rows u h) j })

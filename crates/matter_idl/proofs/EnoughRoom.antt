@@ -5,14 +5,12 @@ use mathlib.Core.Bool.{Bool, true, false}
 use mathlib.Core.Option.{Option, none, some}
 use mathlib.Core.List.{List, [], _∷_}
 use native.Mathlib.Omega.{arith}
-use lib.Dec.{leb, eqb}
+use lib.Dec.{leb}
 use lib.ListN.{length, length-append}
 use borrow.Author.Tests.{le-leb}
 use Rattle.lexing.specs.reply.{Reply, ok, fail, stop}
 use Rattle.lexing.specs.outcomes.{refused, fitted}
 use Rattle.lexing.specs.utf8.{utf8-error}
-use Rattle.lexing.specs.word_sets.{bit}
-use Rattle.lexing.proofs.Tests.{and-left}
 use Rattle.items.specs.items.{Item}
 use Rattle.items.specs.layout.{layout-20, catalogue-bytes, word-count, text-limit}
 use Rattle.items.proofs.RecordWords.{word-count-none, catalogue-bytes-length}
@@ -20,14 +18,14 @@ use Rattle.items.proofs.RefusedPlaces.{RefusedIn}
 use Rattle.items.proofs.WordsPerByte.{items-words}
 use Rattle.matter_idl.specs.hoisting.{no-ids, hoisted}
 use Rattle.matter_idl.specs.reading.{all-items, Verdict, accepted, turned-down, by-reply, by-utf8, verdict-at, verdict, into-catalogue, reading}
-use Rattle.matter_idl.specs.sections.{line-feed, closing-brace, cut-after, before-first, cut-from, sections, joined}
-use Rattle.matter_idl.specs.survey.{items-of, accepted-items, entries, report-20, report-bytes, Surveyed, not-surveyed, into-buffers, survey}
+use Rattle.matter_idl.specs.sections.{sections, joined}
+use Rattle.matter_idl.specs.survey.{items-of, accepted-items, entries, report-20, report-bytes, not-surveyed, into-buffers, survey}
 use Rattle.matter_idl.proofs.AllItems.{accepted-many}
 use Rattle.matter_idl.proofs.Places.{hoisted-words}
-use Rattle.matter_idl.proofs.Cutting.{sections-joined}
+use Rattle.matter_idl.proofs.Cutting.{sections-joined, sections-count}
 use Rattle.matter_idl.proofs.reading.Judged.{all-refused}
-use Rattle.matter_idl.proofs.survey.Laws.{report-length, words-more}
-use Rattle.matter_idl.proofs.interface.SurveyOutcomes.{entries-count}
+use Rattle.matter_idl.proofs.survey.Laws.{report-length, entries-count, words-more}
+use Rattle.matter_idl.proofs.interface.SurveyOutcomes.{survey-20}
 
 -- how many words the records of items take
 abbrev words : List Item → ℕ
@@ -101,34 +99,6 @@ sections-words b (s ∷ ss) =
 pub survey-words : (u : List ℕ) → word-count (hoisted no-ids (accepted-items 0 (sections u))) ≤ length u
 survey-words u = let z = ap length (sections-joined u) in omega (arith, z, sections-words 0 (sections u))
 
--- A cut takes two bytes, so a text of n bytes has at most n / 2 + 1 sections.
-first-count : (x : ℕ) (ss : List (List ℕ)) {n : ℕ} → 2 ≤ n → 2 * length ss ≤ n → 2 * length (before-first x ss) ≤ n
-unfolding before-first
-first-count x [] h k = h
-first-count x (s ∷ ss) h k = k
-
-bit-small : (p : Bool) → bit p ≤ 1
-unfolding bit
-bit-small true = omega arith
-bit-small false = omega arith
-
--- p says of the byte before the text whether it is LF
-cuts-count : (p : Bool) (u : List ℕ) → 2 * length (cut-from p u) ≤ 2 + (bit p + length u)
-unfolding cut-from bit
-cuts-count p [] = omega arith
-cuts-count p (x ∷ u) = go (cut-after p x) refl (λ q. cuts-count q u)
-  where
-    behind-feed : cut-after p x ≡ true → bit p ≡ 1
-    behind-feed e = ap bit (and-left p (eqb x closing-brace) (unfold cut-after in e))
-
-    go : (t : Bool) → cut-after p x ≡ t → ((q : Bool) → 2 * length (cut-from q u) ≤ 2 + (bit q + length u)) → 2 * length (cut-from p (x ∷ u)) ≤ 2 + (bit p + length (x ∷ u))
-    go true e ih = rw (e, cut-from) (omega (arith, behind-feed e, ih false))
-    go false e ih = rw (e, cut-from) (first-count x (cut-from (eqb x line-feed) u) (omega arith) (omega (arith, ih (eqb x line-feed), bit-small (eqb x line-feed))))
-
-pub sections-count : (u : List ℕ) → 2 * length (sections u) ≤ 2 + length u
-unfolding sections bit
-sections-count u = omega (arith, cuts-count false u)
-
 -- The survey's buffers.
 catalogue-size : (u : List ℕ) → length (catalogue-bytes layout-20 (hoisted no-ids (accepted-items 0 (sections u)))) ≤ 8 * length u
 catalogue-size u = omega (arith, catalogue-bytes-length (hoisted no-ids (accepted-items 0 (sections u))), survey-words u)
@@ -154,10 +124,7 @@ module _ (n m : ℕ) (c r : List ℕ) {v : ℕ} where
       go false f = let i = rw (le-leb (length r) m h, f, into-buffers) at e in let z : _≡_ {A = ℕ} 7 8 = cc in omega arith
 
 module _ (u : List ℕ) (n m : ℕ) where
-  abbrev surveyed-20 : Surveyed
-  surveyed-20 = survey layout-20 report-20 u n m
-
-  within-limit : {k v : ℕ} → 7 ≤ k → surveyed-20 ≡ not-surveyed k v → into-buffers n m (catalogue-bytes layout-20 (hoisted no-ids (accepted-items 0 (sections u)))) (report-bytes report-20 (entries 0 (sections u))) ≡ not-surveyed k v
+  within-limit : {k v : ℕ} → 7 ≤ k → survey-20 u n m ≡ not-surveyed k v → into-buffers n m (catalogue-bytes layout-20 (hoisted no-ids (accepted-items 0 (sections u)))) (report-bytes report-20 (entries 0 (sections u))) ≡ not-surveyed k v
   unfolding survey
   within-limit {k} {v} h e = go (leb (length u) text-limit) refl
     where
@@ -166,9 +133,9 @@ module _ (u : List ℕ) (n m : ℕ) where
       go false f = let i = rw (f, survey) at e in let z : _≡_ {A = ℕ} 1 k = cc in absurd (omega (arith, h, z))
 
   -- never refused by 7, whatever the report
-  pub survey-catalogue-enough : 8 * length u ≤ n → {v : ℕ} → surveyed-20 ≡ not-surveyed 7 v → ⊥
+  pub survey-catalogue-enough : 8 * length u ≤ n → {v : ℕ} → survey-20 u n m ≡ not-surveyed 7 v → ⊥
   survey-catalogue-enough h e = catalogue-fits n m _ _ (omega (arith, h, catalogue-size u)) (within-limit (omega arith) e)
 
   -- never refused by 8, whatever the catalogue
-  pub survey-report-enough : 4 * length u + 8 ≤ m → {v : ℕ} → surveyed-20 ≡ not-surveyed 8 v → ⊥
+  pub survey-report-enough : 4 * length u + 8 ≤ m → {v : ℕ} → survey-20 u n m ≡ not-surveyed 8 v → ⊥
   survey-report-enough h e = report-fits n m _ _ (omega (arith, h, report-size u)) (within-limit (omega arith) e)

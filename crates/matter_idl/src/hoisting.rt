@@ -1,10 +1,14 @@
-// Hoisting over the catalogue: the table of ids is a search of the records before.
+// Hoisting over the catalogue: the table of ids is a search of the records before, with a filter in front of it.
 ghost use mathlib.Core.Path.{_≡_};
 ghost use Prim.Native.Nat.{_+_, _/_, _%_, _^_, _≤_, _<_};
 ghost use lib.ListN.{length, take, drop};
 ghost use Rattle.lexing.specs.word_sets.{same-bytes};
 ghost use Rattle.items.specs.layout.{from-big-endian, words-of-kind, text-limit};
-ghost use Rattle.matter_idl.specs.inner.hoisting.{NameIn, word-hits, is-unmarked, Catalogue, HeldTo, Marking, MarkedTo, Unhoisted, HoistedTo};
+ghost use Rattle.matter_idl.specs.inner.bits.{bits-size};
+ghost use Rattle.matter_idl.specs.inner.hoisting.{NameIn, word-hits, word-hash, is-unmarked, Catalogue, HeldTo, KnownTo, Marking, MarkedTo, Unhoisted, HoistedTo};
+use crate::filter::add;
+use crate::filter::hash_of;
+use crate::filter::may_hold;
 use items::writing::put_word;
 
 // How many words a record of a kind takes.
@@ -116,35 +120,69 @@ fn is_unmarked(w: u64) -> bool
     false
 }
 
-// Marks the record whose first word w stands at an offset: 2 if a record before start holds its id, else 1.
-fn mark_record(text: &[u8], out: &mut [u8], start: usize, at: usize, w: u64)
-    requires { ⌜ length (now text) ≤ text-limit ⌝ }
-    requires { ⌜ Marking (now text) (now out) start at w ⌝ }
-    ensures { λ _. ⌜ MarkedTo (now (out .exit)) (now (text .entry)) (now (out .entry)) start at w ⌝ }
+// The hash of the id in a type's first word.
+fn id_hash(text: &[u8], w: u64) -> u64
+    requires { ⌜ NameIn w (length (now text)) ⌝ }
+    ensures { λ r. ⌜ r ≡ word-hash (now (text .entry)) w ⌝ }
+    ensures { λ r. ⌜ r < 2 ^ 32 ⌝ }
 {
-    if !is_unmarked(w) {
-        return;
+    let kind = (w / 0x100_0000_0000_0000) as u8;
+    let name = (w / 0x100_0000 % 0x10_0000) as usize;
+    let size = (w / 16 % 0x10_0000) as usize;
+    hash_of(text, kind, name, size)
+}
+
+// Whether a record before an end holds the id in a type's first word w, which has the hash h. They are searched only if the filter may hold it.
+fn is_known(text: &[u8], out: &[u8], filter: &[u8], end: usize, w: u64, h: u64) -> bool
+    requires { ⌜ length (now text) ≤ text-limit ⌝ }
+    requires { ⌜ Catalogue (length (now text)) (now out) end ⌝ }
+    requires { ⌜ length (now filter) ≡ bits-size ⌝ }
+    requires { ⌜ NameIn w (length (now text)) ⌝ }
+    requires { ⌜ h ≡ word-hash (now text) w ⌝ }
+    requires { ⌜ h < 2 ^ 32 ⌝ }
+    ensures { λ r. ⌜ KnownTo r (now (text .entry)) (now (out .entry)) (now (filter .entry)) end w ⌝ }
+{
+    if !may_hold(filter, h) {
+        return false;
     }
     let kind = (w / 0x100_0000_0000_0000) as u8;
     let name = (w / 0x100_0000 % 0x10_0000) as usize;
     let size = (w / 16 % 0x10_0000) as usize;
-    if is_held(text, out, start, kind, name, size) {
+    is_held(text, out, end, kind, name, size)
+}
+
+// Marks the record whose first word w stands at an offset: 2 if a record before start holds its id, else 1. The id of a global type joins the filter.
+fn mark_record(text: &[u8], out: &mut [u8], filter: &mut [u8], start: usize, at: usize, w: u64)
+    requires { ⌜ length (now text) ≤ text-limit ⌝ }
+    requires { ⌜ Marking (now text) (now out) (now filter) start at w ⌝ }
+    ensures { λ _. ⌜ MarkedTo (now (out .exit)) (now (filter .exit)) (now (text .entry)) (now (out .entry)) (now (filter .entry)) start at w ⌝ }
+{
+    if w / 0x40_0000_0000_0000 % 4 == 1 {
+        add(filter, id_hash(text, w));
+        return;
+    }
+    if !is_unmarked(w) {
+        return;
+    }
+    let h = id_hash(text, w);
+    if is_known(text, out, filter, start, w, h) {
         put_word(out, at, w + 0x80_0000_0000_0000);
         return;
     }
+    add(filter, h);
     put_word(out, at, w + 0x40_0000_0000_0000);
 }
 
 // Marks the types of an item whose records stand from start to end, behind those of the items before.
-pub fn mark_item(text: &[u8], out: &mut [u8], start: usize, end: usize)
+pub fn mark_item(text: &[u8], out: &mut [u8], filter: &mut [u8], start: usize, end: usize)
     requires { ⌜ length (now text) ≤ text-limit ⌝ }
-    requires { ⌜ Unhoisted (now text) (now out) start end ⌝ }
-    ensures { λ _. ⌜ HoistedTo (now (out .exit)) (now (text .entry)) (now (out .entry)) start end ⌝ }
+    requires { ⌜ Unhoisted (now text) (now out) (now filter) start end ⌝ }
+    ensures { λ _. ⌜ HoistedTo (now (out .exit)) (now (filter .exit)) (now (text .entry)) (now (out .entry)) (now (filter .entry)) start end ⌝ }
 {
     let mut at = start;
     while at < end {
         let w = word_at(out, at);
-        mark_record(text, out, start, at, w);
+        mark_record(text, out, filter, start, at, w);
         at += 8 * words_of((w / 0x100_0000_0000_0000) as u8);
     }
 }

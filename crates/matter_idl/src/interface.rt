@@ -36,7 +36,8 @@ pub extern "C" fn matter_idl_read(text: &[u8], catalogue: &mut [u8]) -> u64
             if catalogue.len() < 8 * n {
                 return packed(7, 8 * n);
             }
-            write_items(text, text, 0, catalogue, 0);
+            let mut filter = [0; 65536];
+            write_items(text, text, 0, catalogue, &mut filter, 0);
             packed(0, 8 * n)
         }
     }
@@ -56,12 +57,13 @@ pub extern "C" fn matter_idl_survey(text: &[u8], catalogue: &mut [u8], report: &
     if report.len() < 8 * sections {
         return packed(8, 8 * sections);
     }
-    let mut marks = [0; 4096];
+    let mut marks = [0; 65536];
     let words = count_accepted(text, sections, &mut marks);
     if catalogue.len() < 8 * words {
         return packed(7, 8 * words);
     }
-    write_sections(text, sections, &marks, catalogue, report);
+    let mut filter = [0; 65536];
+    write_sections(text, sections, &marks, catalogue, &mut filter, report);
     packed(0, 8 * words)
 }
 

@@ -86,12 +86,19 @@ pub fn verdict_on(text: &[u8]) -> Verdict
 }
 
 // The second pass over all items of a part of the text, behind the records of earlier items: each item's records are marked as soon as they are written.
-pub fn write_items(text: &[u8], part: &[u8], base: usize, out: &mut [u8], at: usize) -> Wrote
+pub fn write_items(
+    text: &[u8],
+    part: &[u8],
+    base: usize,
+    out: &mut [u8],
+    filter: &mut [u8],
+    at: usize,
+) -> Wrote
     requires { ⌜ length (now text) ≤ text-limit ⌝ }
     requires { ⌜ PartOf (now text) base (now part) ⌝ }
     requires { ⌜ Room (each unhoisted-item) all-items base (now part) at (length (now out)) ⌝ }
-    requires { ⌜ HoistedFront (now text) (now out) at ⌝ }
-    ensures { λ r. ⌜ HoistedItemsTo (now (out .exit)) (now (text .entry)) (now (out .entry)) at base (now (part .entry)) r ⌝ }
+    requires { ⌜ HoistedFront (now text) (now out) (now filter) at ⌝ }
+    ensures { λ r. ⌜ HoistedItemsTo (now (out .exit)) (now (filter .exit)) (now (text .entry)) (now (out .entry)) (now (filter .entry)) at base (now (part .entry)) r ⌝ }
 {
     let end = base + part.len();
     let mut c = base;
@@ -104,7 +111,7 @@ pub fn write_items(text: &[u8], part: &[u8], base: usize, out: &mut [u8], at: us
         }
         let doc = w.doc;
         let wrote = write_declaration(rest_at(part, base, start), start, doc, out, to);
-        mark_item(text, out, to, wrote.to);
+        mark_item(text, out, filter, to, wrote.to);
         c = wrote.next;
         to = wrote.to;
     }

@@ -1,7 +1,7 @@
 // The survey of a text: each section is read alone, with offsets of the whole text.
 ghost use mathlib.Core.Path.{_≡_};
 ghost use mathlib.Core.List.{[], _∷_};
-ghost use Prim.Native.Nat.{_+_, _*_, _≤_, _<_};
+ghost use Prim.Native.Nat.{_+_, _*_, _^_, _≤_, _<_};
 ghost use lib.ListN.{length};
 ghost use Rattle.items.specs.layout.{layout-20, catalogue-bytes, text-limit, word-count};
 ghost use Rattle.items.specs.buffers.{put};
@@ -9,15 +9,17 @@ ghost use Rattle.matter_idl.specs.hoisting.{no-ids, hoisted};
 ghost use Rattle.matter_idl.specs.sections.{sections};
 ghost use Rattle.matter_idl.specs.reading.{verdict-at};
 ghost use Rattle.matter_idl.specs.survey.{items-of, accepted-items, entries, report-20, report-bytes};
+ghost use Rattle.matter_idl.specs.inner.bits.{bits-size};
 ghost use Rattle.matter_idl.specs.inner.reading.{PartOf, HoistedFront};
-ghost use Rattle.matter_idl.specs.inner.survey.{entryWord, verdictWord, entryOf, PlaceFits, wordsOf, remembered, Marks, MarkTrue, Judged, SectionBehindTo};
+ghost use Rattle.matter_idl.specs.inner.survey.{entryWord, verdictWord, entryOf, PlaceFits, wordsOf, Marks, Remembered, MarkTrue, Judged, SectionBehindTo};
+use crate::bits::has_bit;
+use crate::bits::set_bit;
 use crate::reading::Verdict;
 use crate::reading::verdict_at;
 use crate::reading::write_items;
 use crate::sections::section_at;
 use crate::sections::section_end;
 use items::writing::put_word;
-use lexing::parts::peek;
 use lexing::parts::rest_at;
 
 fn entry_word(start: usize, size: usize, number: usize, place: usize) -> u64
@@ -66,17 +68,16 @@ fn accepted_words(v: Verdict) -> usize
     }
 }
 
-// Marks an accepted section, if there is a byte for it.
+// Marks section i, if it is accepted.
 fn remember(marks: &mut [u8], i: usize, v: Verdict)
-    ensures { λ _. ⌜ now (marks .exit) ≡ remembered i v (now (marks .entry)) ⌝ }
+    requires { ⌜ length (now marks) ≡ bits-size ⌝ }
+    requires { ⌜ i < 2 ^ 19 ⌝ }
+    ensures { λ _. ⌜ Remembered (now (marks .exit)) (now (marks .entry)) i v ⌝ }
 {
     let Verdict::Accepted(_) = v else {
         return;
     };
-    if marks.len() <= i {
-        return;
-    }
-    marks[i] = 1;
+    set_bit(marks, i);
 }
 
 // The first pass over the m sections of a text: the words of the accepted ones, and marks for them.
@@ -102,13 +103,13 @@ pub fn count_accepted(text: &[u8], m: usize, marks: &mut [u8]) -> usize
     n
 }
 
-// The verdict on section i once more, unless it is known that the section is accepted.
+// The verdict on section i: a refused one is judged once more, for its number and place.
 fn verdict_again(part: &[u8], base: usize, marks: &[u8], i: usize) -> Verdict
     requires { ⌜ base + length (now part) ≤ text-limit ⌝ }
     requires { ⌜ MarkTrue (now marks) i base (now part) ⌝ }
     ensures { λ r. ⌜ Judged r base (now (part .entry)) ⌝ }
 {
-    if peek(marks, i) == 1 {
+    if has_bit(marks, i) {
         return Verdict::Accepted(0);
     }
     verdict_at(part, base)
@@ -121,29 +122,38 @@ fn write_accepted(
     base: usize,
     v: Verdict,
     catalogue: &mut [u8],
+    filter: &mut [u8],
     to: usize,
 ) -> usize
     requires { ⌜ length (now text) ≤ text-limit ⌝ }
     requires { ⌜ PartOf (now text) base (now part) ⌝ }
     requires { ⌜ Judged v base (now part) ⌝ }
     requires { ⌜ to + 8 * word-count (hoisted no-ids (items-of (verdict-at base (now part)))) ≤ length (now catalogue) ⌝ }
-    requires { ⌜ HoistedFront (now text) (now catalogue) to ⌝ }
-    ensures { λ r. ⌜ SectionBehindTo (now (catalogue .exit)) (now (text .entry)) (now (catalogue .entry)) to base (now (part .entry)) r ⌝ }
+    requires { ⌜ HoistedFront (now text) (now catalogue) (now filter) to ⌝ }
+    ensures { λ r. ⌜ SectionBehindTo (now (catalogue .exit)) (now (filter .exit)) (now (text .entry)) (now (catalogue .entry)) (now (filter .entry)) to base (now (part .entry)) r ⌝ }
 {
     let Verdict::Accepted(_) = v else {
         return to;
     };
-    let wrote = write_items(text, part, base, catalogue, to);
+    let wrote = write_items(text, part, base, catalogue, filter, to);
     wrote.to
 }
 
 // The second pass: each section's entry, and its records if it is accepted.
-pub fn write_sections(text: &[u8], m: usize, marks: &[u8], catalogue: &mut [u8], report: &mut [u8])
+pub fn write_sections(
+    text: &[u8],
+    m: usize,
+    marks: &[u8],
+    catalogue: &mut [u8],
+    filter: &mut [u8],
+    report: &mut [u8],
+)
     requires { ⌜ length (now text) ≤ text-limit ⌝ }
     requires { ⌜ m ≡ length (sections (now text)) ⌝ }
     requires { ⌜ Marks (now marks) (entries 0 (sections (now text))) ⌝ }
     requires { ⌜ 8 * word-count (hoisted no-ids (accepted-items 0 (sections (now text)))) ≤ length (now catalogue) ⌝ }
     requires { ⌜ 8 * m ≤ length (now report) ⌝ }
+    requires { ⌜ length (now filter) ≡ bits-size ⌝ }
     ensures { λ _. ⌜ now (catalogue .exit) ≡ put 0 (catalogue-bytes layout-20 (hoisted no-ids (accepted-items 0 (sections (now (text .entry)))))) (now (catalogue .entry)) ⌝ }
     ensures { λ _. ⌜ now (report .exit) ≡ put 0 (report-bytes report-20 (entries 0 (sections (now (text .entry))))) (now (report .entry)) ⌝ }
 {
@@ -155,7 +165,7 @@ pub fn write_sections(text: &[u8], m: usize, marks: &[u8], catalogue: &mut [u8],
         let part = section_at(text, start, end);
         let v = verdict_again(part, start, marks, i);
         put_entry(report, 8 * i, start, end - start, v);
-        to = write_accepted(text, part, start, v, catalogue, to);
+        to = write_accepted(text, part, start, v, catalogue, filter, to);
         start = end;
         i += 1;
     }

@@ -120,7 +120,7 @@ fn replaced(random: &mut Random, text: &[u8], other: &[u8]) -> Option<(Vec<u8>, 
     })
 }
 
-/// Stored surveys: document 01's case 12, edges of cutting, thousands of sections (also more than the library remembers the verdicts of), and short ones of a seed.
+/// Stored surveys: document 01's case 12, edges of cutting, thousands of sections, and short ones of a seed.
 pub fn stored(seed: u64) -> Vec<Vec<u8>> {
     let mut all: Vec<Vec<u8>> = [
         "enum A:t{\n}\nenum B:t{\n}",

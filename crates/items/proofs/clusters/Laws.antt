@@ -7,8 +7,9 @@ use mathlib.Core.List.{List, [], _∷_}
 use Prim.Native.Nat.{ℕ, zero, suc, _+_, _-_, _*_, _≤_, _<_, max}
 use native.Mathlib.Omega.{arith}
 use borrow.Author.Tests.{eqb-true}
-use lib.ListN.{length, drop}
-use Rattle.lexing.specs.bytes.{ascii}
+use lib.Dec.{eqb}
+use lib.ListN.{length, drop, getD}
+use Rattle.lexing.specs.bytes.{ascii, byte, lower}
 use Rattle.lexing.specs.reply.{Reply, ok, fail, stop, Parser, ret, _or_, further}
 use Rattle.lexing.specs.words.{Word, keyword, any-keyword}
 use Rattle.lexing.specs.blanks.{Doc, no-doc, whitespace0, whitespace1}
@@ -43,7 +44,7 @@ use Rattle.lexing.specs.declared.integers.Number.{Number}
 use Rattle.lexing.specs.declared.integers.Number.the-variants.{Value}
 use Rattle.items.specs.declared.counts.Count.the-variants.{Words, NoCount}
 use Rattle.items.specs.inner.endpoints.{furtherLost}
-use Rattle.items.specs.inner.clusters.{countRaised, revision-words, bitmap-words, enum-words, struct-words, attribute-words, command-words, event-words, found, member-try, same-kind, kind-number, fails-at, MemberFrom, KindTo}
+use Rattle.items.specs.inner.clusters.{countRaised, revision-words, bitmap-words, enum-words, struct-words, attribute-words, command-words, event-words, found, thirdLetterKind, member-try, same-kind, kind-number, fails-at, MemberFrom, KindTo}
 use Rattle.items.specs.declared.clusters.MemberKind.{MemberKind}
 use Rattle.items.specs.declared.clusters.MemberKind.the-variants.{Revision, Bitmap, Enum, Struct, Attribute, Command, Event, Unknown}
 use Rattle.items.proofs.RecordWords.{word-count-none, each-elementwise}
@@ -51,6 +52,7 @@ use Rattle.items.proofs.counts.Laws.{Counting, counting-start, counting
 use Rattle.items.proofs.Locality.{parse-revision-consumes as revision-consumes, member-tries-inside, parse-cluster-member-inside, parse-cluster-member-consumes}
 use Rattle.items.proofs.Choice.{or-fail, End, kept, lost, ends, Tries, more, last, keeps, left, Within, Reaches, choice}
 use Rattle.items.proofs.steps.Laws.{blank-is}
+use Rattle.items.proofs.Letters.{Letters, all-out, outs-free, NoneOf, all-begin, initials-free}
 use Rattle.items.proofs.Tries.{bind-ok, bind-fail, then-ok, then-fail, opt-none, opt-some, mapped-fail, starts-shared, shared-any, revision-elsewhere, choice-elsewhere, struct-elsewhere, attribute-elsewhere, command-elsewhere, event-elsewhere}
 
 -- a keyword is there or fails at its start
@@ -343,6 +345,26 @@ module _ (b : ℕ) (u : List ℕ) (clear : whitespace0 b u ≡ ok no-doc b u) wh
   -- one of some words, which no other kind starts with
   pub at-word : (j : MemberKind) (ks : List (List ℕ)) → all-of (λ k. same-kind k j || disjoint ks (first-words k)) kinds ≡ true → StartsAny ks u → keyword (ascii "shared") b u ≡ fail b → KindTo (record { kind = j; floor = b; from = b }) b u
   at-word j ks t s = at-free j (λ k e. starts-free s b (first-words k) (rw e at (every (λ k. same-kind k j || disjoint ks (first-words k)) t k)))
+
+  -- letters of the first word, and words that do not stand there, which leave no other kind
+  pub at-letters : (j : MemberKind) (ls : List (ℕ × ℕ)) (js : List (List ℕ)) → all-of (λ k. same-kind k j || all-out ls (ascii "shared" ∷ js) (first-words k)) kinds ≡ true → Letters u ls → Frees b u js → keyword (ascii "shared") b u ≡ fail b → KindTo (record { kind = j; floor = b; from = b }) b u
+  at-letters j ls js t l f s = at-free j (λ k e. outs-free b u ls l (ascii "shared" ∷ js) (s, f) (first-words k) (rw e at (every (λ k. same-kind k j || all-out ls (ascii "shared" ∷ js) (first-words k)) t k))) s
+
+  -- a first letter with which no kind's words begin
+  pub at-other-letter : (ys : List ℕ) → all-of (λ k. all-begin ys (first-words k)) kinds ≡ true → (x : ℕ) → NoneOf ys x → lower (getD u 0 0) ≡ x → keyword (ascii "shared") b u ≡ fail b → KindTo (record { kind = Unknown; floor = b; from = b }) b u
+  at-other-letter ys t x n h s = at-free Unknown (λ k e. initials-free b u ys x n h (first-words k) (every (λ k. all-begin ys (first-words k)) t k)) s
+
+  pub at-third-letter : (y : ℕ) → lower (getD u 0 0) ≡ byte "r" → lower (getD u 2 0) ≡ y → keyword (ascii "shared") b u ≡ fail b → KindTo (record { kind = thirdLetterKind y; floor = b; from = b }) b u
+  unfolding same-bytes
+  at-third-letter y e h s = go (eqb y (byte "a")) refl (eqb y (byte "v")) refl
+    where
+      letters : Letters u ((0, byte "r") ∷ (2, y) ∷ [])
+      letters = (e, (h, tt))
+
+      go : (t : Bool) → eqb y (byte "a") ≡ t → (t' : Bool) → eqb y (byte "v") ≡ t' → KindTo (record { kind = cond t Attribute (cond t' Revision Struct); floor = b; from = b }) b u
+      go true q t' q' = at-letters Attribute ((0, byte "r") ∷ (2, byte "a") ∷ []) [] refl (e, (h ∙ eqb-true y (byte "a") q, tt)) tt s
+      go false q true q' = at-letters Revision ((0, byte "r") ∷ (2, byte "v") ∷ []) [] refl (e, (h ∙ eqb-true y (byte "v") q', tt)) tt s
+      go false q false q' = at-letters Struct ((0, byte "r") ∷ (2, y) ∷ []) [] (rw (q, q')) letters tt s
 
   -- none of the words, and not `shared`
   pub at-other : OtherWord b u → keyword (ascii "shared") b u ≡ fail b → KindTo (record { kind = Unknown; floor = b; from = b }) b u

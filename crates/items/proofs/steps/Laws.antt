@@ -1,29 +1,30 @@
 -- Steps from an offset of a part: what they answer, and what they give the sequence that takes them.
 use mathlib.Core.Path.{_≡_, refl, sym, ap, _∙_, subst}
 use mathlib.Core.List.{List, [], _∷_}
-use mathlib.Core.Bool.{false, _||_}
+use mathlib.Core.Bool.{Bool, true, false, _||_, true≢false}
 use Prim.Native.Nat.{ℕ, _+_, _-_, _≤_, _<_}
 use native.Mathlib.Omega.{arith}
-use borrow.Author.Tests.{ne-eqb}
+use borrow.Author.Tests.{eq-eqb, ne-eqb}
 use lib.Dec.{eqb}
 use lib.ListN.{length, drop, getD}
-use Rattle.lexing.specs.bytes.{slash, isSpace}
-use Rattle.lexing.specs.reply.{Parser, ok, fail, _>>=_, _>>_, keep}
+use Rattle.lexing.specs.bytes.{slash, isSpace, takeWhile}
+use Rattle.lexing.specs.reply.{Parser, ok, fail, ret, _>>=_, _>>_, keep, position, failAt, pick}
 use Rattle.lexing.specs.words.{keyword, tag}
 use Rattle.lexing.specs.integers.{positive-integer}
-use Rattle.lexing.specs.blanks.{no-doc, one-blank, whitespace0, whitespace1}
-use Rattle.lexing.specs.answers.{Rest, BlankTo, docOf, lostOf, lostReply, gapLost, gapReply, numberAnswer, numberLost, numberReply, tagReply, wordReply}
+use Rattle.lexing.specs.blanks.{no-doc, after, one-blank, whitespace0, whitespace1}
+use Rattle.lexing.specs.answers.{Rest, BlankTo, docOf, lostOf, lostReply, numberAnswer, numberLost, numberReply, tagReply, wordReply}
 use Rattle.lexing.specs.declared.answers.Lost.{Lost}
+use Rattle.lexing.specs.declared.answers.Lost.the-variants.{Fail}
 use Rattle.lexing.specs.declared.answers.Step.{Step}
 use Rattle.lexing.specs.declared.answers.Step.the-variants.{Next, Not}
 use Rattle.lexing.specs.declared.blanks.Blank.{Blank}
-use Rattle.lexing.specs.declared.blanks.Gap.{Gap}
-use Rattle.lexing.specs.declared.blanks.Gap.the-variants.{Passed, NoGap}
 use Rattle.lexing.specs.declared.integers.Number.{Number}
 use Rattle.lexing.specs.declared.integers.Number.the-variants.{Value, NoNumber}
 use Rattle.lexing.proofs.Onward.{Onward, advances-onward, tag-advances, integer-advances}
-use Rattle.lexing.proofs.Slicing.{Took, took, walks, rest-self, blank-took, gap-lost, integer-lost}
-use Rattle.lexing.proofs.Repetition.{iter-fail}
+use Rattle.lexing.proofs.Slicing.{Took, took, walks, rest-self, blank-took, integer-lost}
+use Rattle.lexing.proofs.Repetition.{iter-more, iter-fail}
+use Rattle.lexing.proofs.Scans.{first-of, run-cons, run-none}
+use Rattle.lexing.proofs.blanks.Laws.{group-white}
 use Rattle.lexing.proofs.TokenLocality.{keyword-chain, whitespace0-chain, whitespace1-chain, no-group, one-blank-consumes}
 use Rattle.items.specs.answers.{Skips, SkipsAt, BlankAt, NumberAt}
 use Rattle.items.proofs.Dropping.{behind, skip-behind, tag-skips, keyword-skips}
@@ -54,6 +55,26 @@ no-blank b u h = sym (iter-fail one-blank keep one-blank-consumes no-doc b u b (
 pub blank-none : (b : ℕ) (u : List ℕ) (x : ℕ) → x ≡ getD u 0 0 → slash < x → Skips whitespace0 (Next b) b u
 blank-none b u x e h = let z : b - b ≡ 0 = omega arith in record { value = no-doc; reads = rw z (no-blank b u (rw e at h)) }
 
+-- a single space before such a byte
+one-space : (u : List ℕ) → getD u 0 0 ≡ 32 → slash < getD u 1 0 → 1 ≡ length (takeWhile isSpace u)
+unfolding isSpace
+one-space [] e h = absurd (omega arith)
+one-space (x ∷ []) e h = absurd (omega arith)
+one-space (x ∷ y ∷ u) e h = sym (ap length (run-cons isSpace x (y ∷ u) (ap isSpace e) ∙ ap (λ v. x ∷ v) (run-none isSpace y u (or-right (eqb y slash) (above-slash y h)))))
+  where
+    or-right : (s : Bool) {t : Bool} → (s || t) ≡ false → t ≡ false
+    or-right true q = absurd (true≢false q)
+    or-right false q = q
+
+pub blank-one : (b : ℕ) (u : List ℕ) {x y : ℕ} → x ≡ getD u 0 0 → y ≡ getD u 1 0 → x ≡ 32 → slash < y → Skips whitespace0 (Next (b + 1)) b u
+unfolding whitespace0 one-blank after ret _>>=_ keep
+blank-one b u ex ey e h =
+    let k : slash < getD u 1 0 = rw ey at h in
+    let turn : one-blank no-doc b u ≡ ok no-doc (b + 1) (drop 1 u) = rw (← group-white b 1 u (one-space u (sym ex ∙ e) k) (omega arith), one-blank, _>>=_) in
+    let end : one-blank no-doc (b + 1) (drop 1 u) ≡ fail (b + 1) = blank-fails (b + 1) (drop 1 u) (rw (first-of 1 u) k) in
+    let z : b + 1 - b ≡ 1 = omega arith in
+    record { value = no-doc; reads = rw z (sym (iter-more one-blank keep one-blank-consumes no-doc b u no-doc (b + 1) (drop 1 u) turn ∙ iter-fail one-blank keep one-blank-consumes no-doc (b + 1) (drop 1 u) (b + 1) end)) }
+
 pub blank-bounds : {n b : ℕ} {u : List ℕ} → Skips whitespace0 (Next n) b u → (b ≤ n) × (n ≤ b + length u)
 blank-bounds {n} {b} {u} h = let t = skip-took blank-on (rest-self b u) refl h in (t .up, t .inside)
 
@@ -70,12 +91,14 @@ module _ {b c : ℕ} {u r : List ℕ} (q : Rest b u c r) where
   pub blank-is : {t : Blank} → BlankTo t c r → BlankAt (t .next) b u c
   blank-is {t} h = skips-at (record { value = docOf (t .doc); reads = h .reads })
 
-  module _ {a : Gap} (h : gapReply a c r ≡ whitespace1 c r) where
-    pub gap-is : {t : Blank} → a ≡ Passed t → SkipsAt whitespace1 (Next (t .next)) b u c
-    gap-is {t} e = skips-at (record { value = docOf (t .doc); reads = subst (λ (x : Gap). gapReply x c r ≡ whitespace1 c r) e h })
+  module _ {n : ℕ} (h : Skips whitespace0 (Next n) c r) where
+    pub gap-is : (n ≡ c → ⊥) → SkipsAt whitespace1 (Next n) b u c
+    unfolding whitespace1 _>>=_ position pick ret
+    gap-is e = skips-at (record { value = h .value; reads = rw (sym (h .reads), whitespace1, _>>=_) (rw (ne-eqb c n (λ z. e (sym z)), pick)) })
 
-    pub gap-not : {l l' : Lost} → l' ≡ gapLost a → a ≡ NoGap l → SkipsAt whitespace1 (Not l') b u c
-    gap-not e d = skips-at (record { value = no-doc; reads = gap-lost e d c r (whitespace1 c r) h })
+    pub gap-not : n ≡ c → SkipsAt whitespace1 (Not (Fail c)) b u c
+    unfolding whitespace1 _>>=_ position pick failAt
+    gap-not e = skips-at (record { value = no-doc; reads = rw (sym (h .reads), whitespace1, _>>=_) (rw (eq-eqb c n (sym e), pick)) })
 
   -- a token behind blanks
   module _ {n : ℕ} (h : Skips whitespace0 (Next n) c r) {v : List ℕ} (p : Rest c r n v) where

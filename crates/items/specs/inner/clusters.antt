@@ -1,7 +1,7 @@
 -- What the private functions of the readers of clusters promise.
 use Prim.Native.Nat.{ℕ, _-_, _≤_}
 use mathlib.Core.Path.{_≡_}
-use mathlib.Core.Bool.{Bool, true, false}
+use mathlib.Core.Bool.{Bool, true, false, cond}
 use mathlib.Core.List.{List, [], _∷_}
 use lib.Dec.{eqb}
 use Rattle.lexing.specs.bytes.{ascii, byte}
@@ -51,6 +51,10 @@ command-words = ascii "timed" ∷ ascii "fabric" ∷ ascii "command" ∷ []
 
 abbrev pub event-words : List (List ℕ)
 event-words = ascii "fabric_sensitive" ∷ ascii "info" ∷ ascii "critical" ∷ ascii "debug" ∷ []
+
+-- the kind that the third letter of a word says, where the first one is `r`
+abbrev pub thirdLetterKind : ℕ → MemberKind
+thirdLetterKind y = cond (eqb y (byte "a")) Attribute (cond (eqb y (byte "v")) Revision Struct)
 
 -- whether something is read
 abbrev pub found : {A : Type 0} → Reply A → Bool

@@ -1,6 +1,6 @@
 -- The records of an item are marked in their buffer, one after the other.
 use Prim.Native.Nat.{ℕ, _+_, _*_, _^_, _/_, _%_, _≤_, _<_}
-use mathlib.Core.Path.{_≡_, refl, sym, _∙_, ap}
+use mathlib.Core.Path.{_≡_, refl, sym, _∙_, ap, subst}
 use mathlib.Core.Bool.{Bool, true, false}
 use mathlib.Core.List.{List, [], _∷_, _++_, map, map-append, append-assoc, append-nil}
 use native.Mathlib.Omega.{arith}
@@ -17,7 +17,9 @@ use Rattle.items.proofs.Truth.{All, ItemTrue}
 use Rattle.items.proofs.RecordWords.{big-endian-length, catalogue-bytes-append, catalogue-bytes-length, catalogue-bytes-none}
 use Rattle.items.proofs.RecordsFit.{RecordFits, first-bits, first-word, item-fits, all-append}
 use Rattle.matter_idl.specs.hoisting.{Tables, no-ids, held, mark, place-by, after-item, hoisted, bytes-at, found, with-place}
-use Rattle.matter_idl.specs.inner.hoisting.{is-unmarked, mark-after, new-place, marked, Catalogue, Marking, MarkedTo, Unhoisted}
+use Rattle.matter_idl.specs.inner.filter.{Grown, hash-of, Holds, HoldsId, Filtered}
+use Rattle.matter_idl.specs.inner.hoisting.{word-name, word-hash, is-unmarked, mark-after, new-place, marked, Catalogue, Marking, Marked, MarkedTo, Unhoisted, Hoisted}
+use Rattle.matter_idl.proofs.filter.Laws.{filtered-front, filtered-more}
 use Rattle.matter_idl.proofs.hoisting.Walk.{Walk, FirstOf, first-less, kind-of, place-of, flags-of, offset-of, size-of, word-count-one, further-bytes, record-bytes, walk-length, walk-word, walk-bytes, walk-first, walk-behind, Standing, stands-room, stands-inside, walk-stands, walk-over}
 use Rattle.matter_idl.proofs.hoisting.Marks.{marking}
 use Rattle.matter_idl.proofs.hoisting.Laws.{unmarked-place}
@@ -72,7 +74,7 @@ put-over p front xs ys tail h k =
     rw (take-at front (ys ++ tail) p h, d) refl
 
 -- one record
-module _ (t : List ℕ) (limit : length t ≤ text-limit) {out : List ℕ} {start p w : ℕ} (m : Marking t out start p w) where
+module _ (t : List ℕ) (limit : length t ≤ text-limit) {out f : List ℕ} {start p w : ℕ} (m : Marking t out f start p w) where
   abbrev pub mark-first : FirstOf (length t) w
   mark-first = record { of = m .this; fits = m .fits; is = m .is }
 
@@ -82,13 +84,27 @@ module _ (t : List ℕ) (limit : length t ≤ text-limit) {out : List ℕ} {star
   unmarked-is : is-unmarked (w / 2 ^ 56) (w / 2 ^ 54 % 2 ^ 2) (w / 2 ^ 44 % 2 ^ 7) ≡ is-unmarked (m .this .kind) (m .this .place) (from-top 7 (m .this .flags))
   unmarked-is = rw (kind-of limit mark-first, place-of limit mark-first, flags-of limit mark-first) refl
 
-  found-is : found t (w / 2 ^ 56) (bytes-at t (at (w / 2 ^ 24 % 2 ^ 20) (w / 2 ^ 4 % 2 ^ 20))) (m .before .records) ≡ found t (m .this .kind) (bytes-at t (m .this .name)) (m .before .records)
+  name-of : word-name t w ≡ bytes-at t (m .this .name)
   unfolding bytes-at offset size
-  found-is = rw (kind-of limit mark-first, offset-of limit mark-first, size-of limit mark-first) refl
+  name-of = rw (offset-of limit mark-first, size-of limit mark-first) refl
 
-  module _ {b : Bool} (u : b ≡ is-unmarked (w / 2 ^ 56) (w / 2 ^ 54 % 2 ^ 2) (w / 2 ^ 44 % 2 ^ 7)) where
-    pub mark-kept : b ≡ false → out ≡ m .front ++ (big-endian 8 (first-word (marked t (m .before .records) (m .this))) ++ m .tail)
-    mark-kept e = m .bytes ∙ ap (λ (x : ℕ). m .front ++ (big-endian 8 x ++ m .tail)) (m .is ∙ ap first-word (sym (marked-kept t (m .before .records) (m .this) (sym unmarked-is ∙ sym u ∙ e))))
+  found-is : found t (w / 2 ^ 56) (word-name t w) (m .before .records) ≡ found t (m .this .kind) (bytes-at t (m .this .name)) (m .before .records)
+  found-is = rw (kind-of limit mark-first, name-of) refl
+
+  -- a filter that has the id
+  module _ {g : List ℕ} where
+    pub mark-held : {h : ℕ} → h ≡ word-hash t w → Holds g h → Holds g (hash-of (m .this .kind) (bytes-at t (m .this .name)))
+    mark-held e a = rw (← kind-of limit mark-first, ← name-of, ← e) a
+
+    -- or need not have it
+    pub mark-elsewhere : (w / 2 ^ 54 % 2 ^ 2 ≡ 1 → ⊥) → HoldsId g t (m .this)
+    mark-elsewhere d e = absurd (d (place-of limit mark-first ∙ e))
+
+  module _ {b : Bool} (u : b ≡ is-unmarked (w / 2 ^ 56) (w / 2 ^ 54 % 2 ^ 2) (w / 2 ^ 44 % 2 ^ 7)) {g : List ℕ} (grows : Grown g f) where
+    pub mark-kept : b ≡ false → HoldsId g t (m .this) → Marked m out g
+    mark-kept e i =
+        let z : m .this ≡ marked t (m .before .records) (m .this) = sym (marked-kept t (m .before .records) (m .this) (sym unmarked-is ∙ sym u ∙ e)) in
+        record { bytes = m .bytes ∙ ap (λ (x : ℕ). m .front ++ (big-endian 8 x ++ m .tail)) (m .is ∙ ap first-word z); grown = grows; id = subst (λ (r : Record). HoldsId g t r) z i }
 
     module _ (e : b ≡ true) where
       unplaced : w / 2 ^ 54 % 2 ^ 2 ≡ 0
@@ -98,14 +114,20 @@ module _ (t : List ℕ) (limit : length t ≤ text-limit) {out : List ℕ} {star
       mark-fits = omega (arith, unplaced, m .is, first-less limit (m .this) (m .fits))
 
       -- the mark by whether the id is held
-      pub mark-set : {v : ℕ} {new : List ℕ} (h : Bool) → h ≡ found t (w / 2 ^ 56) (bytes-at t (at (w / 2 ^ 24 % 2 ^ 20) (w / 2 ^ 4 % 2 ^ 20))) (m .before .records) → v ≡ w + elim h [ true ↦ 2 | false ↦ 1 ] * 2 ^ 54 → new ≡ put p (big-endian 8 v) out
-          → new ≡ m .front ++ (big-endian 8 (first-word (marked t (m .before .records) (m .this))) ++ m .tail)
-      unfolding mark-after
-      mark-set {v} h f g k =
-          let z : mark-after t (m .before .records) (m .this .kind) (m .this .name) ≡ elim h [ true ↦ 2 | false ↦ 1 ] = ap (λ (x : Bool). elim x [ true ↦ 2 | false ↦ 1 ]) (sym (f ∙ found-is)) in
-          let y : v ≡ first-word (marked t (m .before .records) (m .this)) =
-          g ∙ (ap (λ (x : ℕ). x + elim h [ true ↦ 2 | false ↦ 1 ] * 2 ^ 54) (m .is) ∙ (sym (placed-word (elim h [ true ↦ 2 | false ↦ 1 ]) (m .this) (sym (place-of limit mark-first) ∙ unplaced)) ∙ ap first-word (sym (marked-set t (m .before .records) (m .this) (sym unmarked-is ∙ sym u ∙ e) z)))) in
-          k ∙ (ap (put p (big-endian 8 v)) (m .bytes) ∙ (put-over p (m .front) (big-endian 8 v) (big-endian 8 w) (m .tail) (m .place) (big-endian-length 8 v ∙ sym (big-endian-length 8 w)) ∙ ap (λ (x : ℕ). m .front ++ (big-endian 8 x ++ m .tail)) y))
+      pub mark-set : {v : ℕ} {new : List ℕ} (h : Bool) → h ≡ found t (w / 2 ^ 56) (word-name t w) (m .before .records) → v ≡ w + elim h [ true ↦ 2 | false ↦ 1 ] * 2 ^ 54 → new ≡ put p (big-endian 8 v) out
+          → (_≡_ {A = ℕ} (elim h [ true ↦ 2 | false ↦ 1 ]) 1 → Holds g (hash-of (m .this .kind) (bytes-at t (m .this .name))))
+          → Marked m new g
+      unfolding mark-after with-place
+      mark-set {v} h f' d k i =
+          let q : ℕ = elim h [ true ↦ 2 | false ↦ 1 ] in
+          let z : mark-after t (m .before .records) (m .this .kind) (m .this .name) ≡ q = ap (λ (x : Bool). elim x [ true ↦ 2 | false ↦ 1 ]) (sym (f' ∙ found-is)) in
+          let r : with-place q (m .this) ≡ marked t (m .before .records) (m .this) = sym (marked-set t (m .before .records) (m .this) (sym unmarked-is ∙ sym u ∙ e) z) in
+          let y : v ≡ first-word (marked t (m .before .records) (m .this)) = d ∙ (ap (λ (x : ℕ). x + q * 2 ^ 54) (m .is) ∙ (sym (placed-word q (m .this) (sym (place-of limit mark-first) ∙ unplaced)) ∙ ap first-word r)) in
+          record {
+            bytes = k ∙ (ap (put p (big-endian 8 v)) (m .bytes) ∙ (put-over p (m .front) (big-endian 8 v) (big-endian 8 w) (m .tail) (m .place) (big-endian-length 8 v ∙ sym (big-endian-length 8 w)) ∙ ap (λ (x : ℕ). m .front ++ (big-endian 8 x ++ m .tail)) y));
+            grown = grows;
+            id = subst (λ (x : Record). HoldsId g t x) r i;
+          }
 
 -- the records of hoisted items fit
 mark-below : (l : List (List ℕ)) (s : Bool) (i : List ℕ) → mark l s i < 2 ^ 2
@@ -129,18 +151,19 @@ hoisted-fits text n t [] h = tt
 hoisted-fits text n t (i ∷ l) h = all-append (RecordFits n) (item-records 1 (place-by t) i) _ (item-fits 0 text n (place-by t) (place-below t) 1 (lit< tt) i (h .0)) (hoisted-fits text n (after-item t i) l (h .1))
 
 -- an item: the records seen are marked, and those that are left are as they were written
-module _ (t : List ℕ) {old : List ℕ} {start end : ℕ} where
-  pub record MarkingAt (u : Unhoisted t old start end) (out : List ℕ) (p : ℕ) : Type 0 where
+module _ (t : List ℕ) {old f₀ : List ℕ} {start end : ℕ} where
+  pub record MarkingAt (u : Unhoisted t old f₀ start end) (out f : List ℕ) (p : ℕ) : Type 0 where
     pub seen : List Record
     pub left : List Record
     pub whole : unhoisted-item (u .item) ≡ seen ++ left
     pub walk : Walk (length t) (catalogue-bytes layout-20 (hoisted no-ids (u .before) ++ map (marked t (hoisted no-ids (u .before))) seen)) left (u .tail) out p end
+    pub filtered : Filtered f t (hoisted no-ids (u .before) ++ map (marked t (hoisted no-ids (u .before))) seen)
 
-  module _ (u : Unhoisted t old start end) where
+  module _ (u : Unhoisted t old f₀ start end) where
     abbrev H : List Record
     H = hoisted no-ids (u .before)
 
-    pub marking-start : MarkingAt u old start
+    pub marking-start : MarkingAt u old f₀ start
     marking-start =
         record {
           seen = [];
@@ -152,19 +175,19 @@ module _ (t : List ℕ) {old : List ℕ} {start end : ℕ} where
             ends = u .ends;
             fit = item-fits 0 t (length t) (λ m. 0) (λ m. lit< tt) 1 (lit< tt) (u .item) (u .item-true);
           });
+          filtered = rw append-nil (u .filtered);
         }
 
-    module _ {out : List ℕ} {p : ℕ} (h : MarkingAt u out p) where
+    module _ {out f : List ℕ} {p : ℕ} (h : MarkingAt u out f p) where
       pub marking-same : length out ≡ length old
       marking-same = walk-length (h .walk) ∙ sym (walk-length (marking-start .walk))
 
-      pub marking-end : end ≤ p → out ≡ catalogue-bytes layout-20 (hoisted no-ids (u .before ++ (u .item ∷ []))) ++ u .tail
+      pub marking-end : end ≤ p → Hoisted u out f
       marking-end e =
           let z : h .left ≡ [] = walk-over (h .left) (h .walk) e in
           let y : unhoisted-item (u .item) ≡ h .seen = h .whole ∙ (ap (λ x. h .seen ++ x) z ∙ append-nil (h .seen)) in
-          let f : catalogue-bytes layout-20 (H ++ map (marked t H) (h .seen)) ≡ catalogue-bytes layout-20 (hoisted no-ids (u .before ++ (u .item ∷ []))) =
-          ap (λ x. catalogue-bytes layout-20 (H ++ map (marked t H) x)) (sym y) ∙ ap (catalogue-bytes layout-20) (marking t (length t) (u .before) (u .item) (u .before-true) (u .item-true)) in
-          h .walk .bytes ∙ rw (z, catalogue-bytes-none layout-20, f) refl
+          let r : H ++ map (marked t H) (h .seen) ≡ hoisted no-ids (u .before ++ (u .item ∷ [])) = ap (λ x. H ++ map (marked t H) x) (sym y) ∙ marking t (length t) (u .before) (u .item) (u .before-true) (u .item-true) in
+          record { bytes = h .walk .bytes ∙ rw (z, catalogue-bytes-none layout-20, r) refl; filtered = rw r at (h .filtered) }
 
       module _ (e : p < end) where
         stands : Standing (λ l. unhoisted-item (u .item) ≡ h .seen ++ l) (length t) (catalogue-bytes layout-20 (H ++ map (marked t H) (h .seen))) (u .tail) out p end
@@ -187,10 +210,11 @@ module _ (t : List ℕ) {old : List ℕ} {start end : ℕ} where
           is : w ≡ first-word (stands .this)
           is = g ∙ walk-word (stands .walk) limit
 
-          abbrev at-it : Marking t out start p w
+          abbrev at-it : Marking t out f start p w
           at-it =
               record {
                 before = before-it;
+                filtered = filtered-front H _ (h .filtered);
                 this = stands .this;
                 fits = stands .walk .fit .0;
                 is = is;
@@ -200,7 +224,7 @@ module _ (t : List ℕ) {old : List ℕ} {start end : ℕ} where
                 place = stands .walk .start;
               }
 
-          pub marking-at : Marking t out start p w
+          pub marking-at : Marking t out f start p w
           marking-at = at-it
 
           words-are : words-of-kind (w / 2 ^ 56) ≡ words-of-kind (stands .this .kind)
@@ -209,21 +233,23 @@ module _ (t : List ℕ) {old : List ℕ} {start end : ℕ} where
           pub marking-inside : {n : ℕ} → n ≡ words-of-kind (w / 2 ^ 56) → (p < p + 8 * n) × (p + 8 * n ≤ end)
           marking-inside z = stands-inside stands (z ∙ words-are)
 
-          pub marking-more : {new : List ℕ} {n : ℕ} → MarkedTo new t out start p w → n ≡ words-of-kind (w / 2 ^ 56) → MarkingAt u new (p + 8 * n)
-          marking-more {new} k z =
+          pub marking-more : {new g : List ℕ} {n : ℕ} → MarkedTo new g t out f start p w → n ≡ words-of-kind (w / 2 ^ 56) → MarkingAt u new g (p + 8 * n)
+          marking-more {new} {g} k z =
               let r = stands .this in
               let m : Record = marked t H r in
               let b : new ≡ catalogue-bytes layout-20 (H ++ map (marked t H) (h .seen)) ++ (catalogue-bytes layout-20 (m ∷ []) ++ (catalogue-bytes layout-20 (stands .rest) ++ u .tail)) =
-              k at-it ∙ ap (λ x. catalogue-bytes layout-20 (H ++ map (marked t H) (h .seen)) ++ x) (sym (append-assoc (big-endian 8 (first-word m)) (further-bytes r) _) ∙ ap (λ x. x ++ (catalogue-bytes layout-20 (stands .rest) ++ u .tail)) (sym (marked-bytes t H r))) in
-              let f : catalogue-bytes layout-20 (H ++ map (marked t H) (h .seen)) ++ catalogue-bytes layout-20 (m ∷ []) ≡ catalogue-bytes layout-20 (H ++ map (marked t H) (h .seen ++ (r ∷ []))) =
-              sym (catalogue-bytes-append layout-20 (H ++ map (marked t H) (h .seen)) (m ∷ [])) ∙ ap (catalogue-bytes layout-20) (append-assoc H _ _ ∙ ap (λ x. H ++ x) (sym (map-append (marked t H) (h .seen) (r ∷ [])))) in
+              k at-it .bytes ∙ ap (λ x. catalogue-bytes layout-20 (H ++ map (marked t H) (h .seen)) ++ x) (sym (append-assoc (big-endian 8 (first-word m)) (further-bytes r) _) ∙ ap (λ x. x ++ (catalogue-bytes layout-20 (stands .rest) ++ u .tail)) (sym (marked-bytes t H r))) in
+              let s : (H ++ map (marked t H) (h .seen)) ++ (m ∷ []) ≡ H ++ map (marked t H) (h .seen ++ (r ∷ [])) = append-assoc H _ _ ∙ ap (λ x. H ++ x) (sym (map-append (marked t H) (h .seen) (r ∷ []))) in
+              let v : catalogue-bytes layout-20 (H ++ map (marked t H) (h .seen)) ++ catalogue-bytes layout-20 (m ∷ []) ≡ catalogue-bytes layout-20 (H ++ map (marked t H) (h .seen ++ (r ∷ []))) =
+              sym (catalogue-bytes-append layout-20 (H ++ map (marked t H) (h .seen)) (m ∷ [])) ∙ ap (catalogue-bytes layout-20) s in
               rw (z, words-are) (record {
                 seen = h .seen ++ (r ∷ []);
                 left = stands .rest;
                 whole = stands .holds ∙ sym (append-assoc (h .seen) (r ∷ []) (stands .rest));
-                walk = rw f at (walk-behind (stands .walk) m new (marked-words t H r (stands .walk .fit .0)) b);
+                walk = rw v at (walk-behind (stands .walk) m new (marked-words t H r (stands .walk .fit .0)) b);
+                filtered = rw s at (filtered-more (k at-it .grown) t (h .filtered) m (k at-it .id));
               })
 
 -- the loop: whichever item stands there
-abbrev pub MarkingItem : (t old : List ℕ) → (start end : ℕ) → (out : List ℕ) → (p : ℕ) → Type 0
-MarkingItem t old start end out p = (u : Unhoisted t old start end) → MarkingAt t u out p
+abbrev pub MarkingItem : (t old f₀ : List ℕ) → (start end : ℕ) → (out f : List ℕ) → (p : ℕ) → Type 0
+MarkingItem t old f₀ start end out f p = (u : Unhoisted t old f₀ start end) → MarkingAt t u out f p

@@ -16,6 +16,7 @@ use Rattle.matter_idl.specs.interface.{number-unit, result}
 use Rattle.matter_idl.specs.answers.reading.{AcceptedTo, RefusedTo, VerdictTo}
 use Rattle.matter_idl.specs.declared.reading.Verdict.{Verdict}
 use Rattle.matter_idl.specs.declared.reading.Verdict.the-variants.{Accepted, Refused}
+use Rattle.matter_idl.specs.inner.bits.{bits-size}
 use Rattle.matter_idl.specs.inner.reading.{HoistedItemsTo}
 use Rattle.matter_idl.proofs.reading.Marked.{hoisted-alone}
 
@@ -71,6 +72,6 @@ module _ (u : List ℕ) (n : ℕ) {m : ℕ} (h : AcceptedTo m u) where
   unfolding fitted
   written-outcome e = let f : leb (length bytes-now) n ≡ true = ap (λ (i : ℕ). leb i n) size-now ∙ e in fitted-now ∙ rw (f, fitted) refl
 
-  pub read-left : {w : Wrote} {old new : List ℕ} → HoistedItemsTo new u old 0 0 u w → new ≡ bytes-now ++ drop (length bytes-now) old
+  pub read-left : {w : Wrote} {old filter₀ new filter : List ℕ} → length filter₀ ≡ bits-size → HoistedItemsTo new filter u old filter₀ 0 0 u w → new ≡ bytes-now ++ drop (length bytes-now) old
   unfolding bytes-now
-  read-left {old = old} g = hoisted-alone g (h .whole .reads) ∙ ap (λ (k : ℕ). bytes-now ++ drop k old) (sym (catalogue-bytes-length (hoisted no-ids (h .whole .items))))
+  read-left {old = old} z g = hoisted-alone z g (h .whole .reads) ∙ ap (λ (k : ℕ). bytes-now ++ drop k old) (sym (catalogue-bytes-length (hoisted no-ids (h .whole .items))))

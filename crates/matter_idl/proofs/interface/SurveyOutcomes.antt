@@ -1,11 +1,11 @@
 -- What the survey comes to, by what its passes count.
-use mathlib.Core.Path.{_≡_, refl, sym, ap, _∙_}
+use mathlib.Core.Path.{_≡_, refl, ap, _∙_}
 use mathlib.Core.Bool.{true, false}
-use mathlib.Core.List.{List, [], _∷_}
-use Prim.Native.Nat.{ℕ, zero, suc, _+_, _*_, _≤_}
+use mathlib.Core.List.{List, []}
+use Prim.Native.Nat.{ℕ, _+_, _*_, _≤_}
 use native.Mathlib.Omega.{arith}
 use lib.Dec.{leb}
-use lib.ListN.{length, getD, replicate}
+use lib.ListN.{length}
 use Rattle.lexing.specs.outcomes.{refused, written, afterwards}
 use Rattle.items.specs.layout.{layout-20, catalogue-bytes, word-count, text-limit}
 use Rattle.items.specs.buffers.{put}
@@ -15,10 +15,9 @@ use Rattle.matter_idl.specs.hoisting.{no-ids, hoisted}
 use Rattle.matter_idl.specs.sections.{sections}
 use Rattle.matter_idl.specs.survey.{accepted-items, entries, report-20, report-bytes, Surveyed, not-surveyed, surveyed, for-catalogue, for-report, into-buffers, survey}
 use Rattle.matter_idl.specs.interface.{number-unit, result}
-use Rattle.matter_idl.specs.inner.survey.{Marks}
 use Rattle.matter_idl.proofs.interface.Outcomes.{refused-result, refused-left, written-result, written-left}
 use Rattle.matter_idl.proofs.reading.Marked.{put-behind}
-use Rattle.matter_idl.proofs.survey.Laws.{report-length}
+use Rattle.matter_idl.proofs.survey.Laws.{report-length, entries-count}
 
 -- what a call returns and leaves in its two buffers
 abbrev SurveyTo : Surveyed → ℕ → (cat rep cat' rep' : List ℕ) → Type 0
@@ -37,12 +36,6 @@ survey-written {s} {c} {r} e z h cat rep w y =
     let k : for-catalogue s ≡ written c = ap for-catalogue e in
     let l : for-report s ≡ written r = ap for-report e in
     (written-result k z h, (written-left k cat (w ∙ put-behind 0 [] c cat refl), written-left l rep (y ∙ put-behind 0 [] r rep refl)))
-
--- an entry for each section
-pub entries-count : (b : ℕ) (ss : List (List ℕ)) → length (entries b ss) ≡ length ss
-unfolding entries
-entries-count b [] = refl
-entries-count b (s ∷ ss) = ap suc (entries-count (b + length s) ss)
 
 module _ (u : List ℕ) (n m : ℕ) where
   abbrev pub survey-20 : Surveyed
@@ -95,12 +88,3 @@ module _ (u : List ℕ) (n m : ℕ) where
           let z : leb (length records-now) n ≡ true = ap (λ (i : ℕ). leb i n) catalogue-size ∙ g in
           let o : survey-20 ≡ surveyed records-now entries-now = short-now ∙ rw (report-fits, z, into-buffers) refl in
           survey-written o catalogue-size h cat rep w w'
-
--- no section is marked at the start
-zeros : (n j : ℕ) → getD {A = ℕ} (replicate n 0) j 0 ≡ 0
-zeros zero j = refl
-zeros (suc n) zero = refl
-zeros (suc n) (suc j) = zeros n j
-
-pub unmarked : (n : ℕ) → Marks (replicate n 0) []
-unmarked n = record { sound-at = λ j h. let z : _≡_ {A = ℕ} 0 1 = sym (zeros n j) ∙ h in absurd (omega arith) }

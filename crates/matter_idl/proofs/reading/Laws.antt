@@ -5,7 +5,7 @@ use mathlib.Core.List.{List, [], _∷_, _++_, append-nil}
 use Prim.Native.Nat.{ℕ, _+_, _-_, _*_, _≤_, _<_}
 use native.Mathlib.Omega.{arith}
 use native.Mathlib.Decide.{ℕ-discrete}
-use lib.ListN.{length, drop}
+use lib.ListN.{length, drop, length-append}
 use Rattle.lexing.specs.reply.{Reply, ok, fail, stop, Parser, ret, _>>_, many0}
 use Rattle.lexing.specs.blanks.{whitespace0, whitespace1}
 use Rattle.lexing.specs.answers.{lostReply, Rest, docOf, BlankTo}
@@ -18,8 +18,8 @@ use Rattle.lexing.proofs.Repetition.{ManyAt, many0-step}
 use Rattle.lexing.proofs.Slicing.{Took, rest-self, rest-from, rebase, blank-took, or-here, took}
 use Rattle.items.specs.items.{Item, blank-item, item, declaration}
 use Rattle.items.proofs.Truth.{All, ItemTrue, item-true}
-use Rattle.items.specs.records.{each, item-records}
-use Rattle.items.specs.layout.{layout-20, catalogue-bytes, word-count}
+use Rattle.items.specs.records.{Record, each, item-records}
+use Rattle.items.specs.layout.{layout-20, big-endian, catalogue-bytes, word-count}
 use Rattle.items.specs.buffers.{put}
 use Rattle.items.specs.answers.{CountTo, Room, Written}
 use Rattle.items.specs.answers.items.{unhoisted-item, DeclarationCountTo}
@@ -27,8 +27,8 @@ use Rattle.items.specs.declared.writing.Wrote.{Wrote}
 use Rattle.items.specs.declared.counts.Count.{Count}
 use Rattle.items.specs.declared.counts.Count.the-variants.{Words, NoCount}
 use Rattle.items.proofs.Locality.{item-consumes}
-use Rattle.items.proofs.RecordsFit.{all-append}
-use Rattle.items.proofs.RecordWords.{Elementwise, each-elementwise, catalogue-bytes-none, catalogue-bytes-append, catalogue-bytes-length}
+use Rattle.items.proofs.RecordsFit.{first-word, all-append}
+use Rattle.items.proofs.RecordWords.{Elementwise, each-elementwise, big-endian-length, catalogue-bytes-none, catalogue-bytes-append, catalogue-bytes-length}
 use Rattle.items.proofs.Braces.{rest-is}
 use Rattle.items.proofs.Tries.{then-ok, then-fail}
 use Rattle.items.proofs.clusters.Laws.{rest-clear}
@@ -39,6 +39,7 @@ use Rattle.items.proofs.writing.Laws.{Writing, writing-start, writing-start-see
 use Rattle.matter_idl.specs.hoisting.{Tables, place-by, after-items, hoisted}
 use Rattle.matter_idl.specs.reading.{all-items}
 use Rattle.matter_idl.proofs.Places.{hoisted-words, item-words as words-of-places}
+use Rattle.matter_idl.proofs.hoisting.Walk.{further-bytes, record-bytes}
 use Rattle.matter_idl.proofs.hoisting.Marks.{hoisted-more}
 use Rattle.matter_idl.proofs.AllItems.{clear-blank, no-declaration, accepted-many, all-ended, all-lost}
 
@@ -191,37 +192,44 @@ module _ (b : ℕ) (u : List ℕ) (at : ℕ) (old : List ℕ) (room : Room (each
             find (fail p) y = absurd (lost (Fail p) (sym y))
             find (stop k p) y = absurd (lost (Stop k p) (sym y))
 
--- The second pass with hoisting, from the tables ts of earlier items on: the records of the items so far stand in the buffer, marked. Had none been marked, another buffer would stand there, of which the laws above speak.
-pub record HoistingItems (ts : Tables) (b : ℕ) (u : List ℕ) (c at : ℕ) (old new : List ℕ) (to : ℕ) : Type 0 where
+-- The second pass with hoisting, from the tables ts of earlier items on: the records of the items so far stand in the buffer, marked, and Q holds of them. Had none been marked, another buffer would stand there, of which the laws above speak.
+pub record HoistingItems (Q : List Record → Type 0) (ts : Tables) (b : ℕ) (u : List ℕ) (c at : ℕ) (old new : List ℕ) (to : ℕ) : Type 0 where
   pub plain : List ℕ
   pub writing : WritingItems b u c at old plain to
   pub true-items : All (ItemTrue b u (b + length u)) (writing .seen)
   pub bytes : new ≡ put at (catalogue-bytes layout-20 (hoisted ts (writing .seen))) old
+  pub holds : Q (hoisted ts (writing .seen))
+
+-- records without words are none
+none-counted : (l : List Record) → word-count l ≡ 0 → l ≡ []
+none-counted [] e = refl
+none-counted (r ∷ l) e = absurd (omega (arith, e, catalogue-bytes-length (r ∷ l), ap length (catalogue-bytes-append layout-20 (r ∷ []) l ∙ ap (λ x. x ++ catalogue-bytes layout-20 l) (record-bytes r)), length-append (big-endian 8 (first-word r) ++ further-bytes r) (catalogue-bytes layout-20 l), length-append (big-endian 8 (first-word r)) (further-bytes r), big-endian-length 8 (first-word r)))
 
 -- an item without words changes nothing
-wordless : (ts : Tables) (seen : List Item) (x : Item) → word-count (unhoisted-item x) ≡ 0 → catalogue-bytes layout-20 (hoisted ts (seen ++ (x ∷ []))) ≡ catalogue-bytes layout-20 (hoisted ts seen)
+wordless : (ts : Tables) (seen : List Item) (x : Item) → word-count (unhoisted-item x) ≡ 0 → hoisted ts (seen ++ (x ∷ [])) ≡ hoisted ts seen
 wordless ts seen x e =
     let f = place-by (after-items ts seen) in
-    let z : catalogue-bytes layout-20 (item-records 1 f x) ≡ [] = nothing-left _ (omega (arith, catalogue-bytes-length (item-records 1 f x), words-of-places 1 1 f (λ m. 0) x, e)) in
-    ap (catalogue-bytes layout-20) (hoisted-more ts seen x) ∙ (catalogue-bytes-append layout-20 (hoisted ts seen) (item-records 1 f x) ∙ (ap (λ l. catalogue-bytes layout-20 (hoisted ts seen) ++ l) z ∙ append-nil _))
+    let z : item-records 1 f x ≡ [] = none-counted (item-records 1 f x) (omega (arith, words-of-places 1 1 f (λ m. 0) x, e)) in
+    hoisted-more ts seen x ∙ (ap (λ l. hoisted ts seen ++ l) z ∙ append-nil _)
 
 module _ (ts : Tables) (b : ℕ) (u : List ℕ) (at : ℕ) (old : List ℕ) (room : Room (each unhoisted-item) all-items b u at (length old)) where
   start-seen : placing-start b u at old room .seen ≡ []
   unfolding placing-start
   start-seen = writing-start-seen items-one item b u at old (many b u at old room)
 
-  pub hoisting-start : HoistingItems ts b u b at old old at
+  pub hoisting-start : {Q : List Record → Type 0} → Q [] → HoistingItems Q ts b u b at old old at
   unfolding hoisted
-  hoisting-start =
+  hoisting-start {Q} h =
       let e = start-seen in
       record {
         plain = old;
         writing = placing-start b u at old room;
         true-items = subst (λ (l : List Item). All (ItemTrue b u (b + length u)) l) (sym e) tt;
         bytes = sym (ap (λ (l : List Item). put at (catalogue-bytes layout-20 (hoisted ts l)) old) e ∙ rw (catalogue-bytes-none layout-20) (put-nothing at old));
+        holds = subst (λ (l : List Item). Q (hoisted ts l)) (sym e) h;
       }
 
-  module _ {c : ℕ} {new : List ℕ} {to : ℕ} (i : HoistingItems ts b u c at old new to) where
+  module _ {Q : List Record → Type 0} {c : ℕ} {new : List ℕ} {to : ℕ} (i : HoistingItems Q ts b u c at old new to) where
     abbrev seen-now : List Item
     seen-now = i .writing .seen
 
@@ -275,31 +283,31 @@ module _ (ts : Tables) (b : ℕ) (u : List ℕ) (at : ℕ) (old : List ℕ) (roo
           pub hoisting-true : ItemTrue b u (b + length u) (g .value)
           hoisting-true = true-next read-here
 
-          pub hoisting-more : {new'' : List ℕ} → new'' ≡ put at (catalogue-bytes layout-20 (hoisted ts (seen-now ++ (g .value ∷ [])))) old → HoistingItems ts b u (o .next) at old new'' (o .to) × (c < o .next)
-          hoisting-more {new''} e =
+          pub hoisting-more : {new'' : List ℕ} → new'' ≡ put at (catalogue-bytes layout-20 (hoisted ts (seen-now ++ (g .value ∷ [])))) old → {R : List Record → Type 0} → R (hoisted ts (seen-now ++ (g .value ∷ []))) → HoistingItems R ts b u (o .next) at old new'' (o .to) × (c < o .next)
+          hoisting-more {new''} e {R} d =
               let k = word-count (unhoisted-item (g .value)) in
               let x = writing-more items-one item b u at old (many b u at old room) (i .writing) item-consumes read-here k refl plain-next plain-is in
               let y = writing-fits items-one item b u at old (many b u at old room) (i .writing) item-consumes read-here k refl in
               let z = writing-more-seen items-one item b u at old (many b u at old room) (i .writing) item-consumes read-here k refl plain-next plain-is in
-              let h : HoistingItems ts b u (o .next) at old new'' (to + 8 * k) = record {
+              let h : HoistingItems R ts b u (o .next) at old new'' (to + 8 * k) = record {
                 plain = plain-next;
                 writing = x;
                 true-items = subst (λ (l : List Item). All (ItemTrue b u (b + length u)) l) (sym z) (true-more read-here);
                 bytes = e ∙ ap (λ (l : List Item). put at (catalogue-bytes layout-20 (hoisted ts l)) old) (sym z);
+                holds = subst (λ (l : List Item). R (hoisted ts l)) (sym z) d;
               } in
-              (subst (λ (n : ℕ). HoistingItems ts b u (o .next) at old new'' n) (sym (g .place)) h, y .1 .0)
+              (subst (λ (n : ℕ). HoistingItems R ts b u (o .next) at old new'' n) (sym (g .place)) h, y .1 .0)
 
       -- the end of the part, behind blanks that may be an item of their own
       abbrev Ended : Type 0
-      Ended = (k : Written (hoisted ts) all-items b u at (record { next = t .next; to = to }) old new) × All (ItemTrue b u (b + length u)) (k .value)
+      Ended = (k : Written (hoisted ts) all-items b u at (record { next = t .next; to = to }) old new) × (All (ItemTrue b u (b + length u)) (k .value) × Q (hoisted ts (k .value)))
 
       pub hoisting-ends : t .next ≡ b + length u → Ended
       hoisting-ends e = finish (ℕ-discrete (t .next) c)
         where
-          done-with : (l : List Item) → ManyAt item b u (t .next) l → All (ItemTrue b u (b + length u)) l → catalogue-bytes layout-20 (hoisted ts l) ≡ catalogue-bytes layout-20 (hoisted ts seen-now) → Ended
+          done-with : (l : List Item) → ManyAt item b u (t .next) l → All (ItemTrue b u (b + length u)) l → hoisted ts l ≡ hoisted ts seen-now → Ended
           done-with l m h x =
-              let y : word-count (hoisted ts l) ≡ word-count (hoisted ts seen-now) = omega (arith, ap length x, catalogue-bytes-length (hoisted ts l), catalogue-bytes-length (hoisted ts seen-now)) in
-              (record { value = l; is = all-ended m (end-rest q w e) (end-none q w e); place = omega (arith, hoisting-place, y); bytes = i .bytes ∙ ap (λ (xs : List ℕ). put at xs old) (sym x) }, h)
+              (record { value = l; is = all-ended m (end-rest q w e) (end-none q w e); place = omega (arith, hoisting-place, ap word-count x); bytes = i .bytes ∙ ap (λ (r : List Record). put at (catalogue-bytes layout-20 r) old) (sym x) }, (h, subst Q (sym x) (i .holds)))
 
           finish : Dec (t .next ≡ c) → Ended
           finish (yes y) = done-with seen-now (subst (λ (n : ℕ). ManyAt item b u n seen-now) (sym y) (i .writing .run)) (i .true-items) refl

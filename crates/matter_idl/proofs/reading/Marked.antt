@@ -1,6 +1,6 @@
 -- The second pass behind the records of earlier items: a turn writes an item's records and then marks them, and at the end all items stand at the front of the buffer.
 use mathlib.Core.Path.{_≡_, refl, sym, ap, _∙_}
-use mathlib.Core.List.{List, [], _∷_, _++_, append-assoc}
+use mathlib.Core.List.{List, [], _∷_, _++_, append-assoc, append-nil}
 use Prim.Native.Nat.{ℕ, _+_, _-_, _*_, _<_}
 use native.Mathlib.Omega.{arith}
 use lib.ListN.{length, drop, length-append, length-drop}
@@ -20,10 +20,13 @@ use Rattle.items.proofs.RecordsFit.{all-append}
 use Rattle.items.proofs.RecordWords.{catalogue-bytes-none, catalogue-bytes-append, catalogue-bytes-length, word-count-none, word-count-append, word-count-more, each-elementwise}
 use Rattle.matter_idl.specs.hoisting.{Tables, no-ids, after-items, hoisted}
 use Rattle.matter_idl.specs.reading.{all-items}
+use Rattle.matter_idl.specs.inner.bits.{bits-size}
+use Rattle.matter_idl.specs.inner.filter.{Filtered}
 use Rattle.matter_idl.specs.inner.hoisting.{Unhoisted, HoistedTo}
 use Rattle.matter_idl.specs.inner.reading.{PartOf, HoistedFront, HoistedBehind, HoistedItemsTo}
 use Rattle.matter_idl.proofs.Around.{item-whole, items-whole}
 use Rattle.matter_idl.proofs.Places.{hoisted-words}
+use Rattle.matter_idl.proofs.filter.Laws.{filtered-none}
 use Rattle.matter_idl.proofs.hoisting.Marks.{hoisted-append}
 use Rattle.matter_idl.proofs.reading.Laws.{HoistingItems, hoisting-start, hoisting-place, hoisting-written, hoisting-true, hoisting-more, hoisting-ends}
 
@@ -33,11 +36,11 @@ unfolding put
 put-behind at front xs tail e = rw (e, take-at front tail (length front) refl, drop-append-add front tail (length xs)) refl
 
 -- nothing stands at the front yet
-unfoldable pub front-none : (t out : List ℕ) → HoistedFront t out 0
+unfoldable pub front-none : (t out : List ℕ) {filter : List ℕ} → length filter ≡ bits-size → HoistedFront t out filter 0
 unfolding hoisted
-front-none t out = record { items = []; true-items = tt; tail = out; bytes = rw (catalogue-bytes-none layout-20) refl; ends = omega (arith, word-count-none) }
+front-none t out z = record { items = []; true-items = tt; tail = out; bytes = rw (catalogue-bytes-none layout-20) refl; ends = omega (arith, word-count-none); filtered = filtered-none t z }
 
-module _ {t old : List ℕ} {at : ℕ} (f : HoistedFront t old at) where
+module _ {t old filter : List ℕ} {at : ℕ} (f : HoistedFront t old filter at) where
   abbrev tables : Tables
   tables = after-items no-ids (f .items)
 
@@ -55,17 +58,20 @@ module _ {t old : List ℕ} {at : ℕ} (f : HoistedFront t old at) where
   words-behind : (l : List Item) → word-count (hoisted no-ids (f .items ++ l)) ≡ word-count (hoisted no-ids (f .items)) + word-count (hoisted tables l)
   words-behind l = ap word-count (hoisted-append no-ids (f .items) l) ∙ word-count-append (hoisted no-ids (f .items)) (hoisted tables l)
 
--- the loop: whichever items stand at the front
-abbrev pub HoistingBehind : (t : List ℕ) (b : ℕ) (u : List ℕ) (c at : ℕ) (old new : List ℕ) (to : ℕ) → Type 0
-HoistingBehind t b u c at old new to = (f : HoistedFront t old at) → HoistingItems (tables f) b u c at old new to
+-- the loop: whichever items stand at the front, the filter has the ids of those and of the ones behind
+abbrev Behind : (t filter : List ℕ) {old filter₀ : List ℕ} {at : ℕ} → HoistedFront t old filter₀ at → List Record → Type 0
+Behind t filter f l = Filtered filter t (hoisted no-ids (f .items) ++ l)
 
-pub behind-start : (t : List ℕ) (b : ℕ) (u : List ℕ) (at : ℕ) (old : List ℕ) → Room (each unhoisted-item) all-items b u at (length old) → HoistingBehind t b u b at old old at
-behind-start t b u at old room f = hoisting-start (tables f) b u at old room
+abbrev pub HoistingBehind : (t : List ℕ) (b : ℕ) (u : List ℕ) (c at : ℕ) (old filter₀ new filter : List ℕ) (to : ℕ) → Type 0
+HoistingBehind t b u c at old filter₀ new filter to = (f : HoistedFront t old filter₀ at) → HoistingItems (Behind t filter f) (tables f) b u c at old new to
 
-module _ {t : List ℕ} {b : ℕ} {u : List ℕ} (p : PartOf t b u) {at : ℕ} {old : List ℕ} (room : Room (each unhoisted-item) all-items b u at (length old)) {c : ℕ} {new : List ℕ} {to : ℕ} (j : HoistingBehind t b u c at old new to)
+pub behind-start : (t : List ℕ) (b : ℕ) (u : List ℕ) (at : ℕ) (old filter : List ℕ) → Room (each unhoisted-item) all-items b u at (length old) → HoistingBehind t b u b at old filter old filter at
+behind-start t b u at old filter room f = hoisting-start (tables f) b u at old room (rw append-nil (f .filtered))
+
+module _ {t : List ℕ} {b : ℕ} {u : List ℕ} (p : PartOf t b u) {at : ℕ} {old filter₀ : List ℕ} (room : Room (each unhoisted-item) all-items b u at (length old)) {c : ℕ} {new filter : List ℕ} {to : ℕ} (j : HoistingBehind t b u c at old filter₀ new filter to)
     {r : List ℕ} (q : Rest b u c r) {s : Blank} (w : BlankTo s c r) where
-  module _ {v : List ℕ} (q' : Rest b u (s .next) v) {o : Wrote} {new' : List ℕ} (g : Written unhoisted-item (declaration (docOf (s .doc))) (s .next) v to o new new') (f : HoistedFront t old at) where
-    abbrev i : HoistingItems (tables f) b u c at old new to
+  module _ {v : List ℕ} (q' : Rest b u (s .next) v) {o : Wrote} {new' : List ℕ} (g : Written unhoisted-item (declaration (docOf (s .doc))) (s .next) v to o new new') (f : HoistedFront t old filter₀ at) where
+    abbrev i : HoistingItems (Behind t filter f) (tables f) b u c at old new to
     i = j f
 
     abbrev seen : List Item
@@ -81,29 +87,30 @@ module _ {t : List ℕ} {b : ℕ} {u : List ℕ} (p : PartOf t b u) {at : ℕ} {
     as-long : word-count unmarked ≡ word-count (hoisted (tables f) (seen ++ (g .value ∷ [])))
     as-long = omega (arith, word-count-append (hoisted (tables f) seen) (unhoisted-item (g .value)), hoisted-words (tables f) (seen ++ (g .value ∷ [])), hoisted-words (tables f) seen, word-count-more (each-elementwise unhoisted-item) seen (g .value))
 
-    pub mark-asks : Unhoisted t new' to (o .to)
+    pub mark-asks : Unhoisted t new' filter to (o .to)
     mark-asks = record {
       before = before;
       item = g .value;
       before-true = all-append (ItemTrue 0 t (length t)) (f .items) seen (f .true-items) (items-whole p seen (i .true-items));
       item-true = item-whole p (g .value) (hoisting-true (tables f) b u at old room i q w q' g);
+      filtered = rw (hoisted-append no-ids (f .items) seen) (i .holds);
       tail = drop (8 * word-count unmarked) (f .tail);
       bytes = hoisting-written (tables f) b u at old room i q w q' g ∙ (behind f unmarked ∙ rw (hoisted-append no-ids (f .items) seen, append-assoc (hoisted no-ids (f .items)) (hoisted (tables f) seen) (unhoisted-item (g .value))) refl);
       starts = omega (arith, hoisting-place (tables f) b u at old room i, f .ends, words-behind f seen);
       ends = g .place;
     }
 
-    pub mark-turn : {new'' : List ℕ} → HoistedTo new'' t new' to (o .to) → HoistingItems (tables f) b u (o .next) at old new'' (o .to) × (c < o .next)
+    pub mark-turn : {new'' filter' : List ℕ} → HoistedTo new'' filter' t new' filter to (o .to) → HoistingItems (Behind t filter' f) (tables f) b u (o .next) at old new'' (o .to) × (c < o .next)
     unfolding mark-asks
     mark-turn h =
-        hoisting-more (tables f) b u at old room i q w q' g (
-        h mark-asks
-        ∙ (rw (append-assoc (f .items) seen (g .value ∷ []), as-long) refl
-        ∙ sym (behind-items f (seen ++ (g .value ∷ []))))
-        )
+        let k = h mark-asks in
+        let z : before ++ (g .value ∷ []) ≡ f .items ++ (seen ++ (g .value ∷ [])) = append-assoc (f .items) seen (g .value ∷ []) in
+        hoisting-more (tables f) b u at old room i q w q' g
+        (k .bytes ∙ (rw (z, as-long) refl ∙ sym (behind-items f (seen ++ (g .value ∷ [])))))
+        (rw (z, hoisted-append no-ids (f .items) (seen ++ (g .value ∷ []))) at (k .filtered))
 
   -- the end of the part
-  pub hoisted-all : s .next ≡ b + length u → HoistedItemsTo new t old at b u (record { next = s .next; to = to })
+  pub hoisted-all : s .next ≡ b + length u → HoistedItemsTo new filter t old filter₀ at b u (record { next = s .next; to = to })
   hoisted-all e f =
       let k = hoisting-ends (tables f) b u at old room (j f) q w e in
       let l = k .0 .value in
@@ -113,17 +120,18 @@ module _ {t : List ℕ} {b : ℕ} {u : List ℕ} (p : PartOf t b u) {at : ℕ} {
         is = k .0 .is;
         front = record {
           items = f .items ++ l;
-          true-items = all-append (ItemTrue 0 t (length t)) (f .items) l (f .true-items) (items-whole p l (k .1));
+          true-items = all-append (ItemTrue 0 t (length t)) (f .items) l (f .true-items) (items-whole p l (k .1 .0));
           tail = drop (to - at) (f .tail);
           bytes = k .0 .bytes ∙ (behind-items f l ∙ rw n refl);
           ends = omega (arith, k .0 .place, f .ends, words-behind f l);
+          filtered = rw (hoisted-append no-ids (f .items) l) (k .1 .1);
         };
         front-items = refl;
         front-tail = refl;
       }
 
 -- the buffer keeps its length
-pub behind-same : {t old new : List ℕ} {at b : ℕ} {u : List ℕ} {w : Wrote} → Room (each unhoisted-item) all-items b u at (length old) → {f : HoistedFront t old at} → HoistedBehind f b u w new → length new ≡ length old
+pub behind-same : {t old filter₀ new filter : List ℕ} {at b : ℕ} {u : List ℕ} {w : Wrote} → Room (each unhoisted-item) all-items b u at (length old) → {f : HoistedFront t old filter₀ at} → HoistedBehind f b u w new filter → length new ≡ length old
 behind-same {old = old} {at = at} {w = w} room {f} h =
     let z = room .is ∙ sym (h .is) in
     let y : room .value ≡ h .items = cc in
@@ -148,10 +156,10 @@ behind-same {old = old} {at = at} {w = w} room {f} h =
     )
 
 -- with nothing at the front, the items of the part alone
-pub hoisted-alone : {t old new : List ℕ} {b : ℕ} {u : List ℕ} {w : Wrote} → HoistedItemsTo new t old 0 b u w → {l : List Item} {c : ℕ} {r : List ℕ} → ok l c r ≡ all-items b u → new ≡ catalogue-bytes layout-20 (hoisted no-ids l) ++ drop (8 * word-count (hoisted no-ids l)) old
+pub hoisted-alone : {t old filter₀ new filter : List ℕ} {b : ℕ} {u : List ℕ} {w : Wrote} → length filter₀ ≡ bits-size → HoistedItemsTo new filter t old filter₀ 0 b u w → {l : List Item} {c : ℕ} {r : List ℕ} → ok l c r ≡ all-items b u → new ≡ catalogue-bytes layout-20 (hoisted no-ids l) ++ drop (8 * word-count (hoisted no-ids l)) old
 unfolding front-none
-hoisted-alone {t} {old} {w = w} g {l} e =
-    let k = g (front-none t old) in
+hoisted-alone {t} {old} {w = w} z g {l} e =
+    let k = g (front-none t old z) in
     let x = e ∙ sym (k .is) in
     let y : k .items ≡ l = cc in
     let f : k .front .items ≡ l = k .front-items ∙ y in

@@ -20,11 +20,11 @@ use Rattle.matter_idl.specs.sections.{sections}
 use Rattle.matter_idl.specs.survey.{items-of, accepted-items, Entry, sound, spoilt, entry, entries, report-20, entry-words, report-bytes}
 use Rattle.matter_idl.specs.answers.reading.{VerdictAtTo}
 use Rattle.matter_idl.specs.inner.sections.{FirstSection}
-use Rattle.matter_idl.specs.inner.survey.{verdictWord, entryOf, PlaceFits, wordsOf, Marks, remembered}
+use Rattle.matter_idl.specs.inner.survey.{verdictWord, entryOf, PlaceFits, wordsOf, Marks, Remembered}
 use Rattle.matter_idl.specs.declared.reading.Verdict.{Verdict}
 use Rattle.matter_idl.specs.declared.reading.Verdict.the-variants.{Accepted, Refused}
 use Rattle.matter_idl.proofs.Places.{hoisted-words}
-use Rattle.matter_idl.proofs.survey.Remembered.{marks-more, remembered-length, judged-of}
+use Rattle.matter_idl.proofs.survey.Remembered.{marks-more, judged-of}
 
 -- The report.
 
@@ -54,6 +54,12 @@ report-append k l = rw (each-append (entry-words report-20) k l) (words-bytes-ap
 
 pub fits-told : (v : Verdict) {k p : ℕ} → PlaceFits v → v ≡ Refused k p → (k < 16) × (p ≤ text-limit)
 fits-told v h e = subst (λ (x : Verdict). PlaceFits x) e h
+
+-- an entry for each section
+pub entries-count : (b : ℕ) (ss : List (List ℕ)) → length (entries b ss) ≡ length ss
+unfolding entries
+entries-count b [] = refl
+entries-count b (s ∷ ss) = ap suc (entries-count (b + length s) ss)
 
 -- Sections.
 
@@ -137,22 +143,21 @@ unfolding items-of hoisted
 verdict-words (Accepted n) b u h = (rw (h .is, items-of) (h .words no-ids), h .few)
 verdict-words (Refused k p) b u h = (rw (h .is, items-of) word-count-none, omega arith)
 
-pub record CountingSections (t old : List ℕ) (i c n : ℕ) (marks : List ℕ) : Type 0 where
+pub record CountingSections (t : List ℕ) (i c n : ℕ) (marks : List ℕ) : Type 0 where
   pub seen : List Entry
   pub items : List Item
   pub passed : Passed t i c seen items
   pub words : n ≡ word-count (hoisted no-ids items)
   pub few : n ≤ 8 * c
   pub true-marks : Marks marks seen
-  pub same : length marks ≡ length old
 
-pub sections-start : (t : List ℕ) {marks : List ℕ} → Marks marks [] → CountingSections t marks 0 0 0 marks
+pub sections-start : (t : List ℕ) {marks : List ℕ} → Marks marks [] → CountingSections t 0 0 0 marks
 unfolding hoisted
-sections-start t m = record { seen = []; items = []; passed = passed-start t; words = sym word-count-none; few = omega arith; true-marks = m; same = refl }
+sections-start t m = record { seen = []; items = []; passed = passed-start t; words = sym word-count-none; few = omega arith; true-marks = m }
 
-module _ {t old : List ℕ} {i c n : ℕ} {marks : List ℕ} (h : CountingSections t old i c n marks) where
-  pub sections-more : length t ≤ text-limit → (more : i < length (sections t)) {r : List ℕ} → Rest 0 t c r → {end : ℕ} → FirstSection end c r → {s : List ℕ} → s ≡ take (end - c) (drop c t) → (v : Verdict) → VerdictAtTo v c s → {k : ℕ} → k ≡ wordsOf v → {new : List ℕ} → new ≡ remembered i v marks
-      → CountingSections t old (i + 1) end (n + k) new
+module _ {t : List ℕ} {i c n : ℕ} {marks : List ℕ} (h : CountingSections t i c n marks) where
+  pub sections-more : length t ≤ text-limit → (more : i < length (sections t)) {r : List ℕ} → Rest 0 t c r → {end : ℕ} → FirstSection end c r → {s : List ℕ} → s ≡ take (end - c) (drop c t) → (v : Verdict) → VerdictAtTo v c s → {k : ℕ} → k ≡ wordsOf v → {new : List ℕ} → Remembered new marks i v
+      → CountingSections t (i + 1) end (n + k) new
   sections-more l more q f {s} e v w {k} z {new} y =
       let x = verdict-words v c s w in
       let o = section-ends (h .passed) more q f e in
@@ -163,8 +168,7 @@ module _ {t old : List ℕ} {i c n : ℕ} {marks : List ℕ} (h : CountingSectio
         passed = p;
         words = omega (arith, z, x .0, h .words, words-more (h .items) (items-of (verdict-at c s)));
         few = omega (arith, z, x .1, h .few, o);
-        true-marks = rw y (marks-more v (h .true-marks) (h .passed .number) (judged-of v c s w (omega (arith, o, p .inside))));
-        same = rw y (remembered-length i v marks ∙ h .same);
+        true-marks = marks-more v (h .true-marks) (h .passed .number) (judged-of v c s w (omega (arith, o, p .inside))) y;
       }
 
   pub sections-end : length (sections t) ≤ i → (n ≡ word-count (hoisted no-ids (accepted-items 0 (sections t)))) × ((n ≤ 8 * length t) × Marks marks (entries 0 (sections t)))

@@ -1,12 +1,13 @@
 -- The verdict on a section in the second pass: by its mark, or taken once more.
 use mathlib.Core.Path.{_≡_, refl, sym, ap, _∙_, subst}
+use mathlib.Core.Bool.{true, false≢true}
 use mathlib.Core.Option.{Option, none, some}
 use mathlib.Core.List.{List, [], _∷_, _++_, append-nil}
-use Prim.Native.Nat.{ℕ, zero, suc, _+_, _-_, _*_, _≤_, _<_}
+use Prim.Native.Nat.{ℕ, zero, suc, _+_, _-_, _*_, _≤_}
 use native.Mathlib.Omega.{arith}
 use native.Mathlib.Decide.{ℕ-discrete}
-use lib.ListN.{length, drop, getD, set, length-set, List·getD-append}
-use lib.Seq.{getD-append-seam, getD-set-other}
+use lib.ListN.{length, drop, getD, replicate, length-replicate, List·getD-eq-default}
+use lib.Seq.{getD-at}
 use Rattle.lexing.specs.reply.{Reply, ok, fail, stop}
 use Rattle.lexing.specs.utf8.{utf8-error}
 use Rattle.lexing.proofs.Slicing.{suf-drop}
@@ -21,42 +22,45 @@ use Rattle.matter_idl.specs.reading.{all-items, Verdict as VerdictOf, ac
 use Rattle.matter_idl.specs.survey.{items-of, Entry, sound, spoilt, entry}
 use Rattle.matter_idl.specs.answers.reading.{VerdictAtTo}
 use Rattle.matter_idl.specs.inner.reading.{HoistedItemsTo}
-use Rattle.matter_idl.specs.inner.survey.{IsSound, Marks, remembered, MarkTrue, Judged, SectionBehindTo}
+use Rattle.matter_idl.specs.inner.bits.{bits-size, has-bit, BitSet}
+use Rattle.matter_idl.specs.inner.survey.{is-sound, no-entry, Marks, Remembered, MarkTrue, Judged, SectionBehindTo}
 use Rattle.matter_idl.specs.declared.reading.Verdict.{Verdict}
 use Rattle.matter_idl.specs.declared.reading.Verdict.the-variants.{Accepted, Refused}
+use Rattle.matter_idl.proofs.bits.Laws.{none-set}
 use Rattle.matter_idl.proofs.Places.{hoisted-words}
 use Rattle.matter_idl.proofs.reading.Judged.{all-on}
 
 -- Marks.
 
-abbrev nowhere : Entry
-nowhere = spoilt 0 0 0 0
+-- an entry more is told apart from those before it by its number
+other-entry : (es : List Entry) (e : Entry) (j : ℕ) → (j ≡ length es → ⊥) → getD (es ++ (e ∷ [])) j no-entry ≡ getD es j no-entry
+other-entry [] e zero h = absurd (h refl)
+other-entry [] e (suc j) h = refl
+other-entry (x ∷ es) e zero h = refl
+other-entry (x ∷ es) e (suc j) h = other-entry es e j (λ z. h (ap suc z))
 
-sound-inside : (es : List Entry) (j : ℕ) → IsSound (getD es j nowhere) → j < length es
-sound-inside [] j h = absurd h
-sound-inside (e ∷ es) zero h = omega arith
-sound-inside (e ∷ es) (suc j) h = omega (arith, sound-inside es j h)
-
-marks-kept : {marks : List ℕ} {es : List Entry} → Marks marks es → (l : List Entry) → Marks marks (es ++ l)
-marks-kept {marks} {es} m l = record { sound-at = λ j h. let k = m .sound-at j h in rw (List·getD-append es l nowhere j (sound-inside es j k)) k }
-
-pub marks-more : (v : Verdict) {marks : List ℕ} {es : List Entry} {i : ℕ} → Marks marks es → length es ≡ i → {b : ℕ} {u : List ℕ} → Judged v b u → Marks (remembered i v marks) (es ++ (entry b (length u) (verdict-at b u) ∷ []))
-marks-more (Refused k p) m z h = marks-kept m _
-marks-more (Accepted w) {marks} {es} {i} m z {b} {u} x = record { sound-at = λ j h. go j h (ℕ-discrete j i) }
+-- a section's own bit, and the others as they were
+marks-with : {new marks : List ℕ} {es : List Entry} {i : ℕ} → Marks marks es → length es ≡ i → (e : Entry) → length new ≡ length marks → has-bit new i ≡ is-sound e → ((j : ℕ) → (j ≡ i → ⊥) → has-bit new j ≡ has-bit marks j) → Marks new (es ++ (e ∷ []))
+marks-with {new} {marks} {es} {i} m z e s here others = record { size = s ∙ m .size; each-bit = λ j. go j (ℕ-discrete j i) }
   where
-    e : Entry
-    e = entry b (length u) (verdict-at b u)
+    go : (j : ℕ) → Dec (j ≡ i) → has-bit new j ≡ is-sound (getD (es ++ (e ∷ [])) j no-entry)
+    go j (yes y) = rw (y, getD-at es e [] no-entry i z) here
+    go j (no y) = others j y ∙ (m .each-bit j ∙ ap is-sound (sym (other-entry es e j (λ d. y (d ∙ z)))))
 
-    here : IsSound (getD (es ++ (e ∷ [])) i nowhere)
-    here = rw (← z, getD-append-seam es e [] nowhere, ← x .is) tt
+pub marks-more : (v : Verdict) {new marks : List ℕ} {es : List Entry} {i : ℕ} → Marks marks es → length es ≡ i → {b : ℕ} {u : List ℕ} → Judged v b u → Remembered new marks i v → Marks new (es ++ (entry b (length u) (verdict-at b u) ∷ []))
+marks-more (Accepted n) m z x r = marks-with m z _ (r .size) (r .is ∙ ap is-sound (x .is)) (r .others)
+marks-more (Refused k p) {es = es} {i = i} m z x r =
+    rw r (marks-with m z _ refl (m .each-bit i ∙ (ap is-sound (List·getD-eq-default es no-entry (omega arith)) ∙ ap is-sound (x .is))) (λ j h. refl))
 
-    go : (j : ℕ) → getD (set marks i 1) j 0 ≡ 1 → Dec (j ≡ i) → IsSound (getD (es ++ (e ∷ [])) j nowhere)
-    go j h (yes y) = rw y here
-    go j h (no y) = marks-kept m (e ∷ []) .sound-at j (rw (getD-set-other marks i j 1 0 y) at h)
+-- no section is marked at the start
+pub unmarked : (n : ℕ) → n ≡ bits-size → Marks (replicate n 0) []
+unmarked n z = record { size = length-replicate n 0 ∙ z; each-bit = none-set n }
 
-pub remembered-length : (i : ℕ) (v : Verdict) (marks : List ℕ) → length (remembered i v marks) ≡ length marks
-remembered-length i (Accepted n) marks = length-set marks i 1
-remembered-length i (Refused k p) marks = refl
+pub remembered-refused : {v : Verdict} {k p : ℕ} → v ≡ Refused k p → (marks : List ℕ) (i : ℕ) → Remembered marks marks i v
+remembered-refused e marks i = rw e refl
+
+pub remembered-accepted : {v : Verdict} {n : ℕ} → v ≡ Accepted n → {new marks : List ℕ} {i : ℕ} → BitSet new marks i → Remembered new marks i v
+remembered-accepted e b = rw e b
 
 -- Verdicts.
 
@@ -65,13 +69,13 @@ unfolding entry
 judged-of (Accepted n) b u h l = record { is = rw (h .is, entry) refl; fits = tt }
 judged-of (Refused k p) b u h l = record { is = rw (h .is, entry) refl; fits = (omega (arith, h .number), omega (arith, h .inside)) }
 
-pub judged-marked : {marks : List ℕ} {i b : ℕ} {u : List ℕ} → MarkTrue marks i b u → getD marks i 0 ≡ 1 → (n : ℕ) → Judged (Accepted n) b u
+pub judged-marked : {marks : List ℕ} {i b : ℕ} {u : List ℕ} → MarkTrue marks i b u → has-bit marks i ≡ true → (n : ℕ) → Judged (Accepted n) b u
 unfolding entry
-judged-marked {b = b} {u = u} m h n = record { is = go (verdict-at b u) (m .sound-here h); fits = tt }
+judged-marked {b = b} {u = u} m h n = record { is = go (verdict-at b u) (sym (m .mark) ∙ h); fits = tt }
   where
-    go : (v : VerdictOf) → IsSound (entry b (length u) v) → sound b (length u) ≡ entry b (length u) v
+    go : (v : VerdictOf) → is-sound (entry b (length u) v) ≡ true → sound b (length u) ≡ entry b (length u) v
     go (accepted l) k = refl
-    go (turned-down x p) k = absurd k
+    go (turned-down x p) k = absurd (false≢true k)
 
 judged-as : {v w : Verdict} {b : ℕ} {u : List ℕ} → v ≡ w → Judged v b u → Judged w b u
 judged-as {b = b} {u = u} e h = subst (λ (x : Verdict). Judged x b u) e h
@@ -105,7 +109,7 @@ accepted-reads {n} {b} {u} h = go (utf8-error b u) refl (all-items b u) refl
 
 -- The records of a section behind those before it.
 module _ {v : Verdict} {b : ℕ} {u : List ℕ} (h : Judged v b u) where
-  pub refused-behind : {k p : ℕ} → v ≡ Refused k p → {t out : List ℕ} {at : ℕ} → SectionBehindTo out t out at b u at
+  pub refused-behind : {k p : ℕ} → v ≡ Refused k p → {t out filter : List ℕ} {at : ℕ} → SectionBehindTo out filter t out filter at b u at
   refused-behind e {at = at} f =
       let z : at - at ≡ 0 = omega arith in
       record { front = f; front-items = rw (refused-items (judged-as e h)) (sym (append-nil (f .items))); front-tail = rw z refl }
@@ -113,7 +117,7 @@ module _ {v : Verdict} {b : ℕ} {u : List ℕ} (h : Judged v b u) where
   pub judged-room : {n : ℕ} → v ≡ Accepted n → {at size : ℕ} → at + 8 * word-count (hoisted no-ids (items-of (verdict-at b u))) ≤ size → Room (each unhoisted-item) all-items b u at size
   judged-room e l = let r = accepted-reads (judged-as e h) in record { value = items-of (verdict-at b u); next = r .0; is = r .1; fits = omega (arith, hoisted-words no-ids (items-of (verdict-at b u)), l) }
 
-  pub accepted-behind : {n : ℕ} → v ≡ Accepted n → {new t old : List ℕ} {at : ℕ} {w : Wrote} → HoistedItemsTo new t old at b u w → SectionBehindTo new t old at b u (w .to)
+  pub accepted-behind : {n : ℕ} → v ≡ Accepted n → {new filter t old filter₀ : List ℕ} {at : ℕ} {w : Wrote} → HoistedItemsTo new filter t old filter₀ at b u w → SectionBehindTo new filter t old filter₀ at b u (w .to)
   accepted-behind e g f =
       let k = g f in
       let z = accepted-reads (judged-as e h) .1 ∙ sym (k .is) in

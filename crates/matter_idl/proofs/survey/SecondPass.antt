@@ -3,12 +3,12 @@ use mathlib.Core.Path.{_≡_, refl, sym, ap, _∙_}
 use mathlib.Core.List.{List, [], _∷_, _++_}
 use Prim.Native.Nat.{ℕ, _+_, _-_, _*_, _≤_, _<_}
 use native.Mathlib.Omega.{arith}
-use lib.ListN.{length, take, drop, length-append, length-drop}
-use lib.Seq.{drop-drop, getD-append-seam}
+use lib.ListN.{length, take, drop, getD, length-append, length-drop}
+use lib.Seq.{drop-drop, getD-at}
 use Rattle.lexing.specs.answers.{Rest}
 use Rattle.items.specs.items.{Item}
 use Rattle.items.specs.records.{each}
-use Rattle.items.specs.layout.{layout-20, words-bytes, catalogue-bytes, word-count}
+use Rattle.items.specs.layout.{layout-20, words-bytes, catalogue-bytes, word-count, text-limit}
 use Rattle.items.specs.buffers.{put}
 use Rattle.items.proofs.RecordWords.{catalogue-bytes-length}
 use Rattle.items.proofs.writing.Laws.{put-length, put-nothing, put-on}
@@ -16,32 +16,34 @@ use Rattle.matter_idl.specs.hoisting.{no-ids, hoisted}
 use Rattle.matter_idl.specs.reading.{verdict-at}
 use Rattle.matter_idl.specs.sections.{sections}
 use Rattle.matter_idl.specs.survey.{items-of, accepted-items, Entry, entry, entries, report-20, report-bytes}
+use Rattle.matter_idl.specs.inner.bits.{bits-size}
 use Rattle.matter_idl.specs.inner.reading.{PartOf, HoistedFront}
 use Rattle.matter_idl.specs.inner.sections.{FirstSection}
-use Rattle.matter_idl.specs.inner.survey.{entryOf, Marks, MarkTrue, Judged, SectionBehindTo}
+use Rattle.matter_idl.specs.inner.survey.{entryOf, is-sound, no-entry, Marks, MarkTrue, Judged, SectionBehindTo}
 use Rattle.matter_idl.specs.declared.reading.Verdict.{Verdict}
+use Rattle.matter_idl.proofs.Cutting.{section-number}
 use Rattle.matter_idl.proofs.reading.Marked.{put-behind, front-none}
 use Rattle.matter_idl.proofs.survey.Laws.{report-length, report-append, Passed, passed-start, all-seen, all-accepted, left-is, section-ends, passed-more, words-more}
 
 -- the records and the entries of the sections before c are written
-pub record WritingSections (t cat₀ rep₀ : List ℕ) (i c to : ℕ) (cat rep : List ℕ) : Type 0 where
+pub record WritingSections (t cat₀ rep₀ : List ℕ) (i c to : ℕ) (cat filter rep : List ℕ) : Type 0 where
   pub seen : List Entry
   pub items : List Item
   pub passed : Passed t i c seen items
-  pub front : HoistedFront t cat to
+  pub front : HoistedFront t cat filter to
   pub front-items : front .items ≡ items
   pub front-tail : front .tail ≡ drop to cat₀
   pub report : rep ≡ put 0 (report-bytes report-20 seen) rep₀
 
-pub writing-start : (t cat rep : List ℕ) → WritingSections t cat rep 0 0 0 cat rep
+pub writing-start : (t cat rep : List ℕ) {filter : List ℕ} → length filter ≡ bits-size → WritingSections t cat rep 0 0 0 cat filter rep
 unfolding front-none report-bytes words-bytes each
-writing-start t cat rep = record { seen = []; items = []; passed = passed-start t; front = front-none t cat; front-items = refl; front-tail = refl; report = sym (put-nothing 0 rep) }
+writing-start t cat rep z = record { seen = []; items = []; passed = passed-start t; front = front-none t cat z; front-items = refl; front-tail = refl; report = sym (put-nothing 0 rep) }
 
 -- the bytes between two offsets are a part of the text
 section-part : {t s : List ℕ} {c end : ℕ} → s ≡ take (end - c) (drop c t) → c + length s ≡ end → end ≤ length t → PartOf t c s
 section-part {t} {s} {c} {end} e z l = let y : length s ≡ end - c = omega arith in record { inside = omega arith; same = rw y (sym e) }
 
-module _ {t cat₀ rep₀ : List ℕ} {i c to : ℕ} {cat rep : List ℕ} (h : WritingSections t cat₀ rep₀ i c to cat rep) (room : 8 * word-count (hoisted no-ids (accepted-items 0 (sections t))) ≤ length cat₀) (rows : 8 * length (sections t) ≤ length rep₀) where
+module _ {t cat₀ rep₀ : List ℕ} {i c to : ℕ} {cat filter rep : List ℕ} (h : WritingSections t cat₀ rep₀ i c to cat filter rep) (room : 8 * word-count (hoisted no-ids (accepted-items 0 (sections t))) ≤ length cat₀) (rows : 8 * length (sections t) ≤ length rep₀) where
   to-is : to ≡ 8 * word-count (hoisted no-ids (h .items))
   to-is = h .front .ends ∙ ap (λ (l : List Item). 8 * word-count (hoisted no-ids l)) (h .front-items)
 
@@ -81,9 +83,12 @@ module _ {t cat₀ rep₀ : List ℕ} {i c to : ℕ} {cat rep : List ℕ} (h : W
     pub this-part : PartOf t c s
     this-part = section-part e ends (next .inside)
 
-    pub this-mark : {marks : List ℕ} → Marks marks (entries 0 (sections t)) → MarkTrue marks i c s
+    this-entry : getD (entries 0 (sections t)) i no-entry ≡ entry c (length s) (verdict-at c s)
     unfolding entries
-    this-mark m = record { sound-here = λ x. let k = m .sound-at i x in rw (h .passed .seen-are, left-is (h .passed) more q f e, ← h .passed .number, getD-append-seam) at k }
+    this-entry = rw (h .passed .seen-are, left-is (h .passed) more q f e) (getD-at (h .seen) _ _ no-entry i (h .passed .number))
+
+    pub this-mark : length t ≤ text-limit → {marks : List ℕ} → Marks marks (entries 0 (sections t)) → MarkTrue marks i c s
+    this-mark l m = record { size = m .size; place = section-number t l more; mark = m .each-bit i ∙ ap is-sound this-entry }
 
     pub entry-room : 8 * i + 8 ≤ length rep
     entry-room = omega (arith, report-same, rows, more)
@@ -91,7 +96,7 @@ module _ {t cat₀ rep₀ : List ℕ} {i c to : ℕ} {cat rep : List ℕ} (h : W
     pub words-room : to + 8 * word-count (hoisted no-ids (items-of (verdict-at c s))) ≤ length cat
     words-room = omega (arith, catalogue-same, to-is, words-more (h .items) (items-of (verdict-at c s)), words-in (h .items ++ items-of (verdict-at c s)) _ (next .items-are))
 
-    pub writing-more : (v : Verdict) → Judged v c s → {rep' : List ℕ} → rep' ≡ put (8 * i) (report-bytes report-20 (entryOf c (end - c) v ∷ [])) rep → {to' : ℕ} {cat' : List ℕ} → SectionBehindTo cat' t cat to c s to' → WritingSections t cat₀ rep₀ (i + 1) end to' cat' rep'
+    pub writing-more : (v : Verdict) → Judged v c s → {rep' : List ℕ} → rep' ≡ put (8 * i) (report-bytes report-20 (entryOf c (end - c) v ∷ [])) rep → {to' : ℕ} {cat' filter' : List ℕ} → SectionBehindTo cat' filter' t cat filter to c s to' → WritingSections t cat₀ rep₀ (i + 1) end to' cat' filter' rep'
     writing-more v j {rep'} w {to'} g =
         let k = g (h .front) in
         let l = h .items ++ items-of (verdict-at c s) in

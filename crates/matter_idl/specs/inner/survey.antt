@@ -1,12 +1,14 @@
 -- What the code of the survey holds of a verdict, and what its steps promise.
-use Prim.Native.Nat.{ℕ, _-_, _≤_, _<_}
+use Prim.Native.Nat.{ℕ, _^_, _-_, _≤_, _<_}
 use mathlib.Core.Path.{_≡_}
+use mathlib.Core.Bool.{Bool, true, false}
 use mathlib.Core.List.{List, [], _∷_, _++_}
-use lib.ListN.{length, getD, set, drop}
+use lib.ListN.{length, getD, drop}
 use Rattle.items.specs.records.{bits}
 use Rattle.items.specs.layout.{packed, text-limit}
 use Rattle.matter_idl.specs.reading.{verdict-at}
 use Rattle.matter_idl.specs.survey.{items-of, Entry, sound, spoilt, entry}
+use Rattle.matter_idl.specs.inner.bits.{bits-size, has-bit, BitSet}
 use Rattle.matter_idl.specs.inner.reading.{HoistedFront}
 use Rattle.matter_idl.specs.declared.reading.Verdict.{Verdict}
 use Rattle.matter_idl.specs.declared.reading.Verdict.the-variants.{Accepted, Refused}
@@ -32,23 +34,30 @@ abbrev pub wordsOf : Verdict → ℕ
 wordsOf (Accepted m) = m
 wordsOf (Refused k p) = 0
 
--- Which sections were accepted, as the first pass remembers it.
+-- Which sections are accepted, as the first pass remembers it.
 
-abbrev pub IsSound : Entry → Type 0
-IsSound (sound b n) = Unit {0}
-IsSound (spoilt b n k p) = ⊥
+abbrev pub is-sound : Entry → Bool
+is-sound (sound b n) = true
+is-sound (spoilt b n k p) = false
 
--- a byte 1 says of the section of that number that it is accepted
+-- what stands behind the last entry
+abbrev pub no-entry : Entry
+no-entry = spoilt 0 0 0 0
+
+-- the bit of a section's number says whether it is accepted
 pub record Marks (marks : List ℕ) (es : List Entry) : Type 0 where
-  pub sound-at : (j : ℕ) → getD marks j 0 ≡ 1 → IsSound (getD es j (spoilt 0 0 0 0))
+  pub size : length marks ≡ bits-size
+  pub each-bit : (j : ℕ) → has-bit marks j ≡ is-sound (getD es j no-entry)
 
-abbrev pub remembered : ℕ → Verdict → List ℕ → List ℕ
-remembered i (Accepted m) marks = set marks i 1
-remembered i (Refused k p) marks = marks
+abbrev pub Remembered : (new old : List ℕ) → ℕ → Verdict → Type 0
+Remembered new old i (Accepted m) = BitSet new old i
+Remembered new old i (Refused k p) = new ≡ old
 
--- a mark that tells the truth of a section
+-- section i, its mark among them
 pub record MarkTrue (marks : List ℕ) (i b : ℕ) (u : List ℕ) : Type 0 where
-  pub sound-here : getD marks i 0 ≡ 1 → IsSound (entry b (length u) (verdict-at b u))
+  pub size : length marks ≡ bits-size
+  pub place : i < 2 ^ 19
+  pub mark : has-bit marks i ≡ is-sound (entry b (length u) (verdict-at b u))
 
 -- a verdict that is a section's, whatever its words
 pub record Judged (v : Verdict) (b : ℕ) (u : List ℕ) : Type 0 where
@@ -56,10 +65,10 @@ pub record Judged (v : Verdict) (b : ℕ) (u : List ℕ) : Type 0 where
   pub fits : PlaceFits v
 
 -- the items of a section, if it is accepted, hoisted behind those before; the rest of the buffer is as it was
-pub record SectionBehind {t old : List ℕ} {at : ℕ} (f : HoistedFront t old at) (b : ℕ) (u : List ℕ) (to : ℕ) (new : List ℕ) : Type 0 where
-  pub front : HoistedFront t new to
+pub record SectionBehind {t old filter₀ : List ℕ} {at : ℕ} (f : HoistedFront t old filter₀ at) (b : ℕ) (u : List ℕ) (to : ℕ) (new filter : List ℕ) : Type 0 where
+  pub front : HoistedFront t new filter to
   pub front-items : front .items ≡ f .items ++ items-of (verdict-at b u)
   pub front-tail : front .tail ≡ drop (to - at) (f .tail)
 
-abbrev pub SectionBehindTo : (new t old : List ℕ) → ℕ → ℕ → List ℕ → ℕ → Type 0
-SectionBehindTo new t old at b u to = (f : HoistedFront t old at) → SectionBehind f b u to new
+abbrev pub SectionBehindTo : (new filter t old filter₀ : List ℕ) → ℕ → ℕ → List ℕ → ℕ → Type 0
+SectionBehindTo new filter t old filter₀ at b u to = (f : HoistedFront t old filter₀ at) → SectionBehind f b u to new filter

@@ -1,41 +1,18 @@
 use borrow.Author.Needs.{needs}
 use Rattle.items.proofs.clusters.word_kind.Statement.{statement}
 use Rattle.items.proofs.clusters.word_kind.Tie as tie
-use mathlib.Core.Path.{refl, sym, _∙_}
+use mathlib.Core.Path.{refl, sym, ap, _∙_}
 use mathlib.Core.List.{[], _∷_}
-use Rattle.lexing.specs.bytes.{ascii}
+use Rattle.lexing.specs.bytes.{ascii, lower}
 use Rattle.lexing.specs.word_sets.{same-bytes}
-use Rattle.items.specs.inner.clusters.{revision-words, struct-words, attribute-words, command-words, event-words}
-use Rattle.items.specs.declared.clusters.MemberKind.the-variants.{Revision, Bitmap, Enum, Struct, Attribute, Command, Event}
-use Rattle.items.proofs.clusters.Laws.{starts-any, at-word, at-other}
+use Rattle.items.specs.declared.clusters.MemberKind.the-variants.{Bitmap, Enum, Struct, Attribute, Command, Event}
+use Rattle.items.proofs.clusters.Laws.{starts-any, frees-all, at-word, at-letters, at-third-letter, at-other-letter}
 
-starts-attribute-requires : tie.Need-starts-attribute-requires
-starts-attribute-requires c κs = search needs
+peek-requires : tie.Need-peek-requires
+peek-requires c κs = tt
 
-returns : tie.Need-returns
-unfolding same-bytes
-returns c = at-word _ _ (c .before .before .before .pre .1 .0) Attribute attribute-words refl (starts-any attribute-words _ _ (sym (c .before .starts-attribute .ensures) ∙ c .if1 .taken)) (c .before .before .before .pre .1 .1)
-
-starts-command-requires : tie.Need-starts-command-requires
-starts-command-requires c κs = search needs
-
-returns-2 : tie.Need-returns-2
-unfolding same-bytes
-returns-2 c = at-word _ _ (c .before .before .before .before .before .pre .1 .0) Command command-words refl (starts-any command-words _ _ (sym (c .before .starts-command .ensures) ∙ c .if2 .taken)) (c .before .before .before .before .before .pre .1 .1)
-
-starts-struct-requires : tie.Need-starts-struct-requires
-starts-struct-requires c κs = search needs
-
-returns-3 : tie.Need-returns-3
-unfolding same-bytes
-returns-3 c = at-word _ _ (c .before .before .before .before .before .before .before .pre .1 .0) Struct struct-words refl (starts-any struct-words _ _ (sym (c .before .starts-struct .ensures) ∙ c .if3 .taken)) (c .before .before .before .before .before .before .before .pre .1 .1)
-
-starts-event-requires : tie.Need-starts-event-requires
-starts-event-requires c κs = search needs
-
-returns-4 : tie.Need-returns-4
-unfolding same-bytes
-returns-4 c = at-word _ _ (c .before .before .before .before .before .before .before .before .before .pre .1 .0) Event event-words refl (starts-any event-words _ _ (sym (c .before .starts-event .ensures) ∙ c .if4 .taken)) (c .before .before .before .before .before .before .before .before .before .pre .1 .1)
+lower-of-requires : tie.Need-lower-of-requires
+lower-of-requires c κs = tt
 
 slice-aggregate-starts : tie.Need-slice-aggregate-starts
 slice-aggregate-starts c = search needs
@@ -43,9 +20,9 @@ slice-aggregate-starts c = search needs
 starts-requires : tie.Need-starts-requires
 starts-requires c κs = search needs
 
-returns-5 : tie.Need-returns-5
+returns : tie.Need-returns
 unfolding same-bytes
-returns-5 c = at-word _ _ (c .before .before .before .before .before .before .before .before .before .before .before .before .pre .1 .0) Enum (ascii "enum" ∷ []) refl (starts-any (ascii "enum" ∷ []) _ _ (sym (c .before .starts .ensures) ∙ c .if5 .taken)) (c .before .before .before .before .before .before .before .before .before .before .before .before .pre .1 .1)
+returns c = at-word _ _ (c .before .before .before .before .before .before .before .pre .1 .0) Event (ascii "critical" ∷ []) refl (starts-any (ascii "critical" ∷ []) _ _ (sym (c .before .starts .ensures) ∙ c .if1 .taken)) (c .before .before .before .before .before .before .before .pre .1 .1)
 
 slice-aggregate-starts-2 : tie.Need-slice-aggregate-starts-2
 slice-aggregate-starts-2 c = search needs
@@ -53,9 +30,9 @@ slice-aggregate-starts-2 c = search needs
 starts-requires-2 : tie.Need-starts-requires-2
 starts-requires-2 c κs = search needs
 
-returns-6 : tie.Need-returns-6
+returns-2 : tie.Need-returns-2
 unfolding same-bytes
-returns-6 c = at-word _ _ (c .before .before .before .before .before .before .before .before .before .before .before .before .before .before .before .pre .1 .0) Bitmap (ascii "bitmap" ∷ []) refl (starts-any (ascii "bitmap" ∷ []) _ _ (sym (c .before .starts2 .ensures) ∙ c .if6 .taken)) (c .before .before .before .before .before .before .before .before .before .before .before .before .before .before .before .pre .1 .1)
+returns-2 c = at-word _ _ (c .before .before .before .before .before .before .before .pre .1 .0) Struct (ascii "fabric_scoped" ∷ []) refl (starts-any (ascii "fabric_scoped" ∷ []) _ _ (sym (c .before .starts2 .ensures) ∙ c .if2 .taken)) (c .before .before .before .before .before .before .before .pre .1 .1)
 
 slice-aggregate-starts-3 : tie.Need-slice-aggregate-starts-3
 slice-aggregate-starts-3 c = search needs
@@ -63,32 +40,110 @@ slice-aggregate-starts-3 c = search needs
 starts-requires-3 : tie.Need-starts-requires-3
 starts-requires-3 c κs = search needs
 
+returns-3 : tie.Need-returns-3
+unfolding same-bytes
+returns-3 c = at-word _ _ (c .before .before .before .before .before .before .before .before .before .before .pre .1 .0) Event (ascii "fabric_sensitive" ∷ []) refl (starts-any (ascii "fabric_sensitive" ∷ []) _ _ (sym (c .before .starts3 .ensures) ∙ c .if3 .taken)) (c .before .before .before .before .before .before .before .before .before .before .pre .1 .1)
+
+peek-requires-2 : tie.Need-peek-requires-2
+peek-requires-2 c κs = tt
+
+lower-of-requires-2 : tie.Need-lower-of-requires-2
+lower-of-requires-2 c κs = tt
+
+third-letter-kind-requires : tie.Need-third-letter-kind-requires
+third-letter-kind-requires c κs = tt
+
+slice-aggregate-starts-4 : tie.Need-slice-aggregate-starts-4
+slice-aggregate-starts-4 c = search needs
+
+starts-requires-4 : tie.Need-starts-requires-4
+starts-requires-4 c κs = search needs
+
+returns-4 : tie.Need-returns-4
+unfolding same-bytes
+returns-4 c = at-word _ _ (c .before .before .before .before .before .before .before .pre .1 .0) Attribute (ascii "timedwrite" ∷ []) refl (starts-any (ascii "timedwrite" ∷ []) _ _ (sym (c .before .starts4 .ensures) ∙ c .if4 .taken)) (c .before .before .before .before .before .before .before .pre .1 .1)
+
+returns-5 : tie.Need-returns-5
+unfolding same-bytes
+returns-5 c = at-letters _ _ (c .before .before .before .before .pre .1 .0) Attribute ((0, 97) ∷ []) [] refl ((ap lower (sym (c .before .before .peek .ensures)) ∙ sym (c .before .lower-of .ensures)) ∙ c .match .keys1, tt) tt (c .before .before .before .before .pre .1 .1)
+
+returns-6 : tie.Need-returns-6
+unfolding same-bytes
+returns-6 c = at-letters _ _ (c .before .before .before .before .pre .1 .0) Bitmap ((0, 98) ∷ []) [] refl ((ap lower (sym (c .before .before .peek .ensures)) ∙ sym (c .before .lower-of .ensures)) ∙ c .match .keys2, tt) tt (c .before .before .before .before .pre .1 .1)
+
 returns-7 : tie.Need-returns-7
 unfolding same-bytes
-returns-7 c = at-word _ _ (c .before .before .before .before .before .before .before .before .before .before .before .before .before .before .before .before .before .before .pre .1 .0) Revision revision-words refl (starts-any revision-words _ _ (sym (c .before .starts3 .ensures) ∙ c .if7 .taken)) (c .before .before .before .before .before .before .before .before .before .before .before .before .before .before .before .before .before .before .pre .1 .1)
+returns-7 c = at-letters _ _ (c .before .before .before .before .before .before .before .pre .1 .0) Command ((0, 99) ∷ []) (ascii "critical" ∷ []) refl ((ap lower (sym (c .before .before .before .before .before .peek .ensures)) ∙ sym (c .before .before .before .before .lower-of .ensures)) ∙ c .before .before .before .match .keys3, tt) (frees-all (ascii "critical" ∷ []) _ _ (sym (c .before .starts .ensures) ∙ c .if1 .left)) (c .before .before .before .before .before .before .before .pre .1 .1)
 
 returns-8 : tie.Need-returns-8
-returns-8 c = at-other _ _ (c .before .before .before .before .before .before .before .before .before .before .before .before .before .before .before .before .before .before .pre .1 .0) (record { attribute = sym (c .before .before .before .before .before .before .before .before .before .before .before .before .before .before .before .before .starts-attribute .ensures) ∙ c .before .before .before .before .before .before .before .before .before .before .before .before .before .before .before .if1 .left; command = sym (c .before .before .before .before .before .before .before .before .before .before .before .before .before .before .starts-command .ensures) ∙ c .before .before .before .before .before .before .before .before .before .before .before .before .before .if2 .left; struct = sym (c .before .before .before .before .before .before .before .before .before .before .before .before .starts-struct .ensures) ∙ c .before .before .before .before .before .before .before .before .before .before .before .if3 .left; event = sym (c .before .before .before .before .before .before .before .before .before .before .starts-event .ensures) ∙ c .before .before .before .before .before .before .before .before .before .if4 .left; enum = sym (c .before .before .before .before .before .before .before .starts .ensures) ∙ c .before .before .before .before .before .before .if5 .left; bitmap = sym (c .before .before .before .before .starts2 .ensures) ∙ c .before .before .before .if6 .left; revision = sym (c .before .starts3 .ensures) ∙ c .if7 .left }) (c .before .before .before .before .before .before .before .before .before .before .before .before .before .before .before .before .before .before .pre .1 .1)
+unfolding same-bytes
+returns-8 c = at-letters _ _ (c .before .before .before .before .pre .1 .0) Event ((0, 100) ∷ []) [] refl ((ap lower (sym (c .before .before .peek .ensures)) ∙ sym (c .before .lower-of .ensures)) ∙ c .match .keys4, tt) tt (c .before .before .before .before .pre .1 .1)
+
+returns-9 : tie.Need-returns-9
+unfolding same-bytes
+returns-9 c = at-letters _ _ (c .before .before .before .before .pre .1 .0) Enum ((0, 101) ∷ []) [] refl ((ap lower (sym (c .before .before .peek .ensures)) ∙ sym (c .before .lower-of .ensures)) ∙ c .match .keys5, tt) tt (c .before .before .before .before .pre .1 .1)
+
+returns-10 : tie.Need-returns-10
+unfolding same-bytes
+returns-10 c = at-letters _ _ (c .before .before .before .before .before .before .before .before .before .before .pre .1 .0) Command ((0, 102) ∷ []) (ascii "fabric_scoped" ∷ ascii "fabric_sensitive" ∷ []) refl ((ap lower (sym (c .before .before .before .before .before .before .before .before .peek .ensures)) ∙ sym (c .before .before .before .before .before .before .before .lower-of .ensures)) ∙ c .before .before .before .before .before .before .match .keys6, tt) (frees-all (ascii "fabric_scoped" ∷ []) _ _ (sym (c .before .before .before .before .starts2 .ensures) ∙ c .before .before .before .if2 .left) .0, frees-all (ascii "fabric_sensitive" ∷ []) _ _ (sym (c .before .starts3 .ensures) ∙ c .if3 .left)) (c .before .before .before .before .before .before .before .before .before .before .pre .1 .1)
+
+returns-11 : tie.Need-returns-11
+unfolding same-bytes
+returns-11 c = at-letters _ _ (c .before .before .before .before .pre .1 .0) Event ((0, 105) ∷ []) [] refl ((ap lower (sym (c .before .before .peek .ensures)) ∙ sym (c .before .lower-of .ensures)) ∙ c .match .keys7, tt) tt (c .before .before .before .before .pre .1 .1)
+
+returns-12 : tie.Need-returns-12
+unfolding same-bytes
+returns-12 c = at-letters _ _ (c .before .before .before .before .pre .1 .0) Attribute ((0, 110) ∷ []) [] refl ((ap lower (sym (c .before .before .peek .ensures)) ∙ sym (c .before .lower-of .ensures)) ∙ c .match .keys8, tt) tt (c .before .before .before .before .pre .1 .1)
+
+returns-13 : tie.Need-returns-13
+returns-13 c = rw (c .third-letter-kind .ensures) (at-third-letter _ _ (c .before .before .before .before .before .before .before .pre .1 .0) _ ((ap lower (sym (c .before .before .before .before .before .peek .ensures)) ∙ sym (c .before .before .before .before .lower-of .ensures)) ∙ c .before .before .before .match .keys9) (ap lower (sym (c .before .before .peek2 .ensures)) ∙ sym (c .before .lower-of2 .ensures)) (c .before .before .before .before .before .before .before .pre .1 .1))
+
+returns-14 : tie.Need-returns-14
+unfolding same-bytes
+returns-14 c = at-letters _ _ (c .before .before .before .before .pre .1 .0) Struct ((0, 115) ∷ []) [] refl ((ap lower (sym (c .before .before .peek .ensures)) ∙ sym (c .before .lower-of .ensures)) ∙ c .match .keys10, tt) tt (c .before .before .before .before .pre .1 .1)
+
+returns-15 : tie.Need-returns-15
+unfolding same-bytes
+returns-15 c = at-letters _ _ (c .before .before .before .before .before .before .before .pre .1 .0) Command ((0, 116) ∷ []) (ascii "timedwrite" ∷ []) refl ((ap lower (sym (c .before .before .before .before .before .peek .ensures)) ∙ sym (c .before .before .before .before .lower-of .ensures)) ∙ c .before .before .before .match .keys11, tt) (frees-all (ascii "timedwrite" ∷ []) _ _ (sym (c .before .starts4 .ensures) ∙ c .if4 .left)) (c .before .before .before .before .before .before .before .pre .1 .1)
+
+returns-16 : tie.Need-returns-16
+unfolding same-bytes
+returns-16 c = at-letters _ _ (c .before .before .before .before .pre .1 .0) Attribute ((0, 119) ∷ []) [] refl ((ap lower (sym (c .before .before .peek .ensures)) ∙ sym (c .before .lower-of .ensures)) ∙ c .match .keys12, tt) tt (c .before .before .before .before .pre .1 .1)
+
+returns-17 : tie.Need-returns-17
+returns-17 c = at-other-letter _ _ (c .before .before .before .before .pre .1 .0) (119 ∷ 116 ∷ 115 ∷ 114 ∷ 110 ∷ 105 ∷ 102 ∷ 101 ∷ 100 ∷ 99 ∷ 98 ∷ 97 ∷ []) refl _ (c .match .rest) (ap lower (sym (c .before .before .peek .ensures)) ∙ sym (c .before .lower-of .ensures)) (c .before .before .before .before .pre .1 .1)
 
 pub word-kind-spec : {M : Type 1} → statement M
 word-kind-spec =
     tie.close
     (tie.spec
-    starts-attribute-requires
-    returns
-    starts-command-requires
-    returns-2
-    starts-struct-requires
-    returns-3
-    starts-event-requires
-    returns-4
+    peek-requires
+    lower-of-requires
     slice-aggregate-starts
     starts-requires
-    returns-5
+    returns
     slice-aggregate-starts-2
     starts-requires-2
-    returns-6
+    returns-2
     slice-aggregate-starts-3
     starts-requires-3
+    returns-3
+    peek-requires-2
+    lower-of-requires-2
+    third-letter-kind-requires
+    slice-aggregate-starts-4
+    starts-requires-4
+    returns-4
+    returns-5
+    returns-6
     returns-7
-    returns-8)
+    returns-8
+    returns-9
+    returns-10
+    returns-11
+    returns-12
+    returns-13
+    returns-14
+    returns-15
+    returns-16
+    returns-17)

@@ -1,106 +1,81 @@
 use borrow.Author.Needs.{needs}
 use Rattle.items.proofs.members.access_privilege.Statement.{statement}
 use Rattle.items.proofs.members.access_privilege.Tie as tie
-use native.Mathlib.Omega.{arith}
-use Rattle.lexing.specs.bytes.{ascii}
-use Rattle.lexing.specs.declared.answers.Lost.the-variants.{Fail}
-use Rattle.lexing.proofs.Slicing.{or-here, or-next}
+use mathlib.Core.Path.{refl, sym, ap, _∙_}
+use mathlib.Core.List.{[], _∷_}
+use Rattle.lexing.specs.bytes.{ascii, lower}
+use Rattle.lexing.specs.word_sets.{same-bytes}
 use Rattle.items.specs.members.{access-privilege}
-use Rattle.items.proofs.Keywords.{keyword-value, keyword-not}
-use mathlib.Core.Path.{refl}
-use Rattle.items.proofs.Answers.{read-is, read-not}
-use Rattle.items.proofs.Choice.{or-past}
+use Rattle.items.specs.inner.maturity.{numbered}
+use Rattle.items.proofs.Alternatives.{one-of-all, last-of-all}
+use Rattle.items.proofs.members.Levels.{level-as, level-other, privileges}
 
-slice-aggregate-keyword : tie.Need-slice-aggregate-keyword
-slice-aggregate-keyword c = search needs
+peek-requires : tie.Need-peek-requires
+peek-requires c κs = tt
 
-keyword-requires : tie.Need-keyword-requires
-keyword-requires c κs = search needs
+lower-of-requires : tie.Need-lower-of-requires
+lower-of-requires c κs = tt
 
-enum-known-view : tie.Need-enum-known-view
-enum-known-view c = c .match .keys1
+slice-aggregate-level-by : tie.Need-slice-aggregate-level-by
+slice-aggregate-level-by c = search needs
+
+level-by-requires : tie.Need-level-by-requires
+level-by-requires c κs = search needs
+
+slice-aggregate-level-by-2 : tie.Need-slice-aggregate-level-by-2
+slice-aggregate-level-by-2 c = search needs
+
+level-by-requires-2 : tie.Need-level-by-requires-2
+level-by-requires-2 c κs = search needs
+
+slice-aggregate-level-by-3 : tie.Need-slice-aggregate-level-by-3
+slice-aggregate-level-by-3 c = search needs
+
+level-by-requires-3 : tie.Need-level-by-requires-3
+level-by-requires-3 c κs = search needs
+
+slice-aggregate-level-by-4 : tie.Need-slice-aggregate-level-by-4
+slice-aggregate-level-by-4 c = search needs
+
+level-by-requires-4 : tie.Need-level-by-requires-4
+level-by-requires-4 c κs = search needs
 
 returns : tie.Need-returns
-unfolding access-privilege
-returns c = read-is refl (or-here _ _ _ _ _ _ _ (keyword-value (ascii "view") 0 _ _ _ (c .before .before .before .keyword .ensures) _ (c .before .view .given .1))) (omega arith)
-
-enum-told : tie.Need-enum-told
-enum-told c = c .match .keys2
-
-slice-aggregate-keyword-2 : tie.Need-slice-aggregate-keyword-2
-slice-aggregate-keyword-2 c = search needs
-
-keyword-requires-2 : tie.Need-keyword-requires-2
-keyword-requires-2 c κs = search needs
-
-enum-known-operate : tie.Need-enum-known-operate
-enum-known-operate c = c .match2 .keys1
+unfolding same-bytes access-privilege numbered
+returns c = level-as _ _ (one-of-all _ _ _ ((ap lower (sym (c .before .before .before .before .peek .ensures)) ∙ sym (c .before .before .before .lower-of .ensures)) ∙ c .before .before .match .keys1) (ascii "view") 0 privileges (ascii "administer", 3) refl refl) (c .level-by .ensures)
 
 returns-2 : tie.Need-returns-2
-unfolding access-privilege
-returns-2 c = read-is refl (or-next _ _ _ _ _ _ _ _ (keyword-not (ascii "view") 0 _ _ _ (c .before .before .before .before .before .before .before .keyword .ensures) _ (c .before .before .before .before .before .enum-told .given .1)) (or-here _ _ _ _ _ _ _ (keyword-value (ascii "operate") 1 _ _ _ (c .before .before .before .keyword2 .ensures) _ (c .before .operate .given .1)))) (omega arith)
-
-enum-told-2 : tie.Need-enum-told-2
-enum-told-2 c = c .match2 .keys2
-
-slice-aggregate-keyword-3 : tie.Need-slice-aggregate-keyword-3
-slice-aggregate-keyword-3 c = search needs
-
-keyword-requires-3 : tie.Need-keyword-requires-3
-keyword-requires-3 c κs = search needs
-
-enum-known-manage : tie.Need-enum-known-manage
-enum-known-manage c = c .match3 .keys1
+unfolding same-bytes access-privilege numbered
+returns-2 c = level-as _ _ (one-of-all _ _ _ ((ap lower (sym (c .before .before .before .before .peek .ensures)) ∙ sym (c .before .before .before .lower-of .ensures)) ∙ c .before .before .match .keys2) (ascii "operate") 1 privileges (ascii "administer", 3) refl refl) (c .level-by2 .ensures)
 
 returns-3 : tie.Need-returns-3
-unfolding access-privilege
-returns-3 c = read-is refl (or-next _ _ _ _ _ _ _ _ (keyword-not (ascii "view") 0 _ _ _ (c .before .before .before .before .before .before .before .before .before .before .before .keyword .ensures) _ (c .before .before .before .before .before .before .before .before .before .enum-told .given .1)) (or-next _ _ _ _ _ _ _ _ (keyword-not (ascii "operate") 1 _ _ _ (c .before .before .before .before .before .before .before .keyword2 .ensures) _ (c .before .before .before .before .before .enum-told2 .given .1)) (or-here _ _ _ _ _ _ _ (keyword-value (ascii "manage") 2 _ _ _ (c .before .before .before .keyword3 .ensures) _ (c .before .manage .given .1))))) (omega arith)
-
-enum-told-3 : tie.Need-enum-told-3
-enum-told-3 c = c .match3 .keys2
-
-slice-aggregate-keyword-4 : tie.Need-slice-aggregate-keyword-4
-slice-aggregate-keyword-4 c = search needs
-
-keyword-requires-4 : tie.Need-keyword-requires-4
-keyword-requires-4 c κs = search needs
-
-enum-known-administer : tie.Need-enum-known-administer
-enum-known-administer c = c .match4 .keys1
+unfolding same-bytes access-privilege numbered
+returns-3 c = level-as _ _ (one-of-all _ _ _ ((ap lower (sym (c .before .before .before .before .peek .ensures)) ∙ sym (c .before .before .before .lower-of .ensures)) ∙ c .before .before .match .keys3) (ascii "manage") 2 privileges (ascii "administer", 3) refl refl) (c .level-by3 .ensures)
 
 returns-4 : tie.Need-returns-4
-unfolding access-privilege
-returns-4 c = read-is refl (or-next _ _ _ _ _ _ _ _ (keyword-not (ascii "view") 0 _ _ _ (c .before .before .before .before .before .before .before .before .before .before .before .before .before .before .before .keyword .ensures) _ (c .before .before .before .before .before .before .before .before .before .before .before .before .before .enum-told .given .1)) (or-next _ _ _ _ _ _ _ _ (keyword-not (ascii "operate") 1 _ _ _ (c .before .before .before .before .before .before .before .before .before .before .before .keyword2 .ensures) _ (c .before .before .before .before .before .before .before .before .before .enum-told2 .given .1)) (or-next _ _ _ _ _ _ _ _ (keyword-not (ascii "manage") 2 _ _ _ (c .before .before .before .before .before .before .before .keyword3 .ensures) _ (c .before .before .before .before .before .enum-told3 .given .1)) (keyword-value (ascii "administer") 3 _ _ _ (c .before .before .before .keyword4 .ensures) _ (c .before .administer .given .1))))) (omega arith)
-
-enum-told-4 : tie.Need-enum-told-4
-enum-told-4 c = c .match4 .keys2
+unfolding same-bytes access-privilege numbered
+returns-4 c = level-as _ _ (last-of-all _ _ _ ((ap lower (sym (c .before .before .before .before .peek .ensures)) ∙ sym (c .before .before .before .lower-of .ensures)) ∙ c .before .before .match .keys4) privileges (ascii "administer", 3) refl) (c .level-by4 .ensures)
 
 returns-5 : tie.Need-returns-5
-unfolding access-privilege
-returns-5 c = read-not (Fail (c .before .before .before .before .before .before .before .before .before .before .before .before .before .before .before .before .before .args .base)) refl tt (or-past _ _ _ _ _ (keyword-not (ascii "view") 0 _ _ _ (c .before .before .before .before .before .before .before .before .before .before .before .before .before .before .keyword .ensures) _ (c .before .before .before .before .before .before .before .before .before .before .before .before .enum-told .given .1)) (omega arith) (or-past _ _ _ _ _ (keyword-not (ascii "operate") 1 _ _ _ (c .before .before .before .before .before .before .before .before .before .before .keyword2 .ensures) _ (c .before .before .before .before .before .before .before .before .enum-told2 .given .1)) (omega arith) (or-past _ _ _ _ _ (keyword-not (ascii "manage") 2 _ _ _ (c .before .before .before .before .before .before .keyword3 .ensures) _ (c .before .before .before .before .enum-told3 .given .1)) (omega arith) (keyword-not (ascii "administer") 3 _ _ _ (c .before .before .keyword4 .ensures) _ (c .enum-told4 .given .1)))))
+unfolding access-privilege numbered
+returns-5 c = level-other _ _ (97 ∷ 109 ∷ 111 ∷ 118 ∷ []) privileges (ascii "administer", 3) refl _ (c .match .rest) (ap lower (sym (c .before .before .peek .ensures)) ∙ sym (c .before .lower-of .ensures))
 
 pub access-privilege-spec : {M : Type 1} → statement M
 access-privilege-spec =
     tie.close
     (tie.spec
-    slice-aggregate-keyword
-    keyword-requires
-    enum-known-view
+    peek-requires
+    lower-of-requires
+    slice-aggregate-level-by
+    level-by-requires
+    slice-aggregate-level-by-2
+    level-by-requires-2
+    slice-aggregate-level-by-3
+    level-by-requires-3
+    slice-aggregate-level-by-4
+    level-by-requires-4
     returns
-    enum-told
-    slice-aggregate-keyword-2
-    keyword-requires-2
-    enum-known-operate
     returns-2
-    enum-told-2
-    slice-aggregate-keyword-3
-    keyword-requires-3
-    enum-known-manage
     returns-3
-    enum-told-3
-    slice-aggregate-keyword-4
-    keyword-requires-4
-    enum-known-administer
     returns-4
-    enum-told-4
     returns-5)

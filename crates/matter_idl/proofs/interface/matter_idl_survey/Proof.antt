@@ -3,9 +3,12 @@ use Rattle.matter_idl.proofs.interface.matter_idl_survey.Statement.{sta
 use Rattle.matter_idl.proofs.interface.matter_idl_survey.Tie as tie
 use borrow.Author.Tests.{le-leb, lt-leb}
 use denote.Ref.{now}
+use mathlib.Core.Path.{refl}
 use native.Mathlib.Omega.{arith}
-use lib.ListN.{length}
-use Rattle.matter_idl.proofs.interface.SurveyOutcomes.{survey-refused, survey-long, survey-rows, survey-short, survey-done, report-kept, catalogue-kept, unmarked}
+use Prim.Native.Nat.{ℕ}
+use lib.ListN.{length, length-replicate}
+use Rattle.matter_idl.proofs.interface.SurveyOutcomes.{survey-refused, survey-long, survey-rows, survey-short, survey-done, report-kept, catalogue-kept}
+use Rattle.matter_idl.proofs.survey.Remembered.{unmarked}
 
 packed-requires : tie.Need-packed-requires
 packed-requires c κs = search needs
@@ -32,7 +35,7 @@ slice-aggregate-count-accepted : tie.Need-slice-aggregate-count-accepted
 slice-aggregate-count-accepted c = search needs
 
 count-accepted-requires : tie.Need-count-accepted-requires
-count-accepted-requires c κs = (omega (arith, c .before .before .before .if1 .left), (c .before .before .count-sections .ensures .0, unmarked 4096))
+count-accepted-requires c κs = (omega (arith, c .before .before .before .if1 .left), (c .before .before .count-sections .ensures .0, unmarked 65536 refl))
 
 mul-if3 : tie.Need-mul-if3
 mul-if3 c = omega (arith, c .before .count-accepted .ensures .1 .0, c .before .before .before .before .before .if1 .left)
@@ -49,23 +52,26 @@ returns-3 c = survey-refused (survey-short (c .before .before .before .before .b
 slice-aggregate-write-sections : tie.Need-slice-aggregate-write-sections
 slice-aggregate-write-sections c = search needs
 
+slice-aggregate-write-sections-2 : tie.Need-slice-aggregate-write-sections-2
+slice-aggregate-write-sections-2 c = search needs
+
 write-sections-requires : tie.Need-write-sections-requires
-write-sections-requires c κs = (omega (arith, c .before .before .before .before .before .before .before .before .before .if1 .left), (c .before .before .before .before .before .before .before .before .count-sections .ensures .0, (c .before .before .before .before .before .count-accepted .ensures .1 .1, (omega (arith, c .before .before .before .before .before .count-accepted .ensures .0, c .before .before .before .if3 .left), omega (arith, c .before .before .before .before .before .before .before .if2 .left)))))
+write-sections-requires c κs = (omega (arith, c .before .before .before .before .before .before .before .before .before .before .if1 .left), (c .before .before .before .before .before .before .before .before .before .count-sections .ensures .0, (c .before .before .before .before .before .before .count-accepted .ensures .1 .1, (omega (arith, c .before .before .before .before .before .before .count-accepted .ensures .0, c .before .before .before .before .if3 .left), (omega (arith, c .before .before .before .before .before .before .before .before .if2 .left), length-replicate {A = ℕ} 65536 0)))))
 
 mul-packed-3 : tie.Need-mul-packed-3
-mul-packed-3 c = omega (arith, c .before .before .before .before .before .before .before .before .before .before .count-accepted .ensures .1 .0, c .before .before .before .before .before .before .before .before .before .before .before .before .before .before .if1 .left)
+mul-packed-3 c = omega (arith, c .before .before .before .before .before .before .before .before .before .before .before .before .count-accepted .ensures .1 .0, c .before .before .before .before .before .before .before .before .before .before .before .before .before .before .before .before .if1 .left)
 
 packed-requires-4 : tie.Need-packed-requires-4
-packed-requires-4 c κs = (omega arith, omega (arith, c .before .before .before .before .before .before .before .before .before .before .count-accepted .ensures .1 .0, c .before .before .before .before .before .before .before .before .before .before .before .before .before .before .if1 .left))
+packed-requires-4 c κs = (omega arith, omega (arith, c .before .before .before .before .before .before .before .before .before .before .before .before .count-accepted .ensures .1 .0, c .before .before .before .before .before .before .before .before .before .before .before .before .before .before .before .before .if1 .left))
 
 same-length : tie.Need-same-length
-same-length c = catalogue-kept (c .before .before .before .before .before .before .before .before .before .before .before .before .before .before .before .before .before .before .before .args .text .now) (length (now (c .before .before .before .before .before .before .before .before .before .before .before .before .before .before .before .before .before .before .before .args .catalogue))) (length (now (c .before .before .before .before .before .before .before .before .before .before .before .before .before .before .before .before .before .before .before .args .report))) (le-leb _ _ (c .before .before .before .before .before .before .before .before .before .before .before .before .before .before .before .if1 .left)) (c .before .before .before .before .before .before .before .before .before .before .before .before .before .before .count-sections .ensures .0) (le-leb _ _ (c .before .before .before .before .before .before .before .before .before .before .before .before .before .if2 .left)) (c .before .before .before .before .before .before .before .before .before .before .before .count-accepted .ensures .0) _ (omega (arith, c .before .before .before .before .before .before .before .before .before .if3 .left)) (c .before .before .before .before .before .write-sections .ensures .0)
+same-length c = catalogue-kept (c .before .before .before .before .before .before .before .before .before .before .before .before .before .before .before .before .before .before .before .before .before .args .text .now) (length (now (c .before .before .before .before .before .before .before .before .before .before .before .before .before .before .before .before .before .before .before .before .before .args .catalogue))) (length (now (c .before .before .before .before .before .before .before .before .before .before .before .before .before .before .before .before .before .before .before .before .before .args .report))) (le-leb _ _ (c .before .before .before .before .before .before .before .before .before .before .before .before .before .before .before .before .before .if1 .left)) (c .before .before .before .before .before .before .before .before .before .before .before .before .before .before .before .before .count-sections .ensures .0) (le-leb _ _ (c .before .before .before .before .before .before .before .before .before .before .before .before .before .before .before .if2 .left)) (c .before .before .before .before .before .before .before .before .before .before .before .before .before .count-accepted .ensures .0) _ (omega (arith, c .before .before .before .before .before .before .before .before .before .before .before .if3 .left)) (c .before .before .before .before .before .before .write-sections .ensures .0)
 
 same-length-2 : tie.Need-same-length-2
-same-length-2 c = report-kept (c .before .before .before .before .before .before .before .before .before .before .before .before .before .before .before .before .before .before .before .args .text .now) (length (now (c .before .before .before .before .before .before .before .before .before .before .before .before .before .before .before .before .before .before .before .args .catalogue))) (length (now (c .before .before .before .before .before .before .before .before .before .before .before .before .before .before .before .before .before .before .before .args .report))) (le-leb _ _ (c .before .before .before .before .before .before .before .before .before .before .before .before .before .before .before .if1 .left)) (c .before .before .before .before .before .before .before .before .before .before .before .before .before .before .count-sections .ensures .0) _ (omega (arith, c .before .before .before .before .before .before .before .before .before .before .before .before .before .if2 .left)) (c .before .before .before .before .before .write-sections .ensures .1)
+same-length-2 c = report-kept (c .before .before .before .before .before .before .before .before .before .before .before .before .before .before .before .before .before .before .before .before .before .args .text .now) (length (now (c .before .before .before .before .before .before .before .before .before .before .before .before .before .before .before .before .before .before .before .before .before .args .catalogue))) (length (now (c .before .before .before .before .before .before .before .before .before .before .before .before .before .before .before .before .before .before .before .before .before .args .report))) (le-leb _ _ (c .before .before .before .before .before .before .before .before .before .before .before .before .before .before .before .before .before .if1 .left)) (c .before .before .before .before .before .before .before .before .before .before .before .before .before .before .before .before .count-sections .ensures .0) _ (omega (arith, c .before .before .before .before .before .before .before .before .before .before .before .before .before .before .before .if2 .left)) (c .before .before .before .before .before .before .write-sections .ensures .1)
 
 returns-4 : tie.Need-returns-4
-returns-4 c = survey-done (c .before .before .before .before .before .before .before .before .before .before .before .before .before .before .before .before .before .before .before .args .text .now) (length (now (c .before .before .before .before .before .before .before .before .before .before .before .before .before .before .before .before .before .before .before .args .catalogue))) (length (now (c .before .before .before .before .before .before .before .before .before .before .before .before .before .before .before .before .before .before .before .args .report))) (le-leb _ _ (c .before .before .before .before .before .before .before .before .before .before .before .before .before .before .before .if1 .left)) (c .before .before .before .before .before .before .before .before .before .before .before .before .before .before .count-sections .ensures .0) (le-leb _ _ (c .before .before .before .before .before .before .before .before .before .before .before .before .before .if2 .left)) (c .before .before .before .before .before .before .before .before .before .before .before .count-accepted .ensures .0) (le-leb _ _ (c .before .before .before .before .before .before .before .before .before .if3 .left)) (c .packed4 .ensures) (now (c .before .before .before .before .before .before .before .before .before .before .before .before .before .before .before .before .before .before .before .args .catalogue)) (now (c .before .before .before .before .before .before .before .before .before .before .before .before .before .before .before .before .before .before .before .args .report)) (c .before .before .before .before .before .write-sections .ensures .0) (c .before .before .before .before .before .write-sections .ensures .1)
+returns-4 c = survey-done (c .before .before .before .before .before .before .before .before .before .before .before .before .before .before .before .before .before .before .before .before .before .args .text .now) (length (now (c .before .before .before .before .before .before .before .before .before .before .before .before .before .before .before .before .before .before .before .before .before .args .catalogue))) (length (now (c .before .before .before .before .before .before .before .before .before .before .before .before .before .before .before .before .before .before .before .before .before .args .report))) (le-leb _ _ (c .before .before .before .before .before .before .before .before .before .before .before .before .before .before .before .before .before .if1 .left)) (c .before .before .before .before .before .before .before .before .before .before .before .before .before .before .before .before .count-sections .ensures .0) (le-leb _ _ (c .before .before .before .before .before .before .before .before .before .before .before .before .before .before .before .if2 .left)) (c .before .before .before .before .before .before .before .before .before .before .before .before .before .count-accepted .ensures .0) (le-leb _ _ (c .before .before .before .before .before .before .before .before .before .before .before .if3 .left)) (c .packed4 .ensures) (now (c .before .before .before .before .before .before .before .before .before .before .before .before .before .before .before .before .before .before .before .before .before .args .catalogue)) (now (c .before .before .before .before .before .before .before .before .before .before .before .before .before .before .before .before .before .before .before .before .before .args .report)) (c .before .before .before .before .before .before .write-sections .ensures .0) (c .before .before .before .before .before .before .write-sections .ensures .1)
 
 pub matter-idl-survey-spec : {M : Type 1} → statement M
 matter-idl-survey-spec =
@@ -85,6 +91,7 @@ matter-idl-survey-spec =
     packed-requires-3
     returns-3
     slice-aggregate-write-sections
+    slice-aggregate-write-sections-2
     write-sections-requires
     mul-packed-3
     packed-requires-4

@@ -3,10 +3,12 @@ use Rattle.matter_idl.proofs.survey.count_accepted.Statement.{statement
 use Rattle.matter_idl.proofs.survey.count_accepted.Tie as tie
 use Prim.Native.Nat.{_-_}
 use native.Mathlib.Omega.{arith}
+use mathlib.Core.Path.{sym, _∙_}
+use Rattle.matter_idl.proofs.Cutting.{section-number}
 use Rattle.matter_idl.proofs.survey.Laws.{CountingSections, sections-start, section-ends, sections-more, sections-end}
 
 abbrev Inv-loop : tie.InvT-loop
-Inv-loop text m marks₀ i₀ start₀ n₀ marks i start n = CountingSections text marks₀ i start n marks
+Inv-loop text m marks₀ i₀ start₀ n₀ marks i start n = CountingSections text i start n marks
 
 abbrev μ-loop : tie.MeasureT-loop
 μ-loop text m marks₀ i₀ start₀ n₀ marks i start n = m - i
@@ -27,7 +29,7 @@ verdict-at-requires : tie.Need-verdict-at-requires Inv-loop μ-loop
 verdict-at-requires c κs = omega (arith, section-ends ((c .before .before .before .before .loop .inv) .passed) (omega (arith, c .before .before .before .loop-test .taken, c .before .before .before .before .before .before .before .pre .1 .0)) (c .before .before .rest-at .ensures) (c .before .section-end .ensures) (c .section-at .ensures), c .before .section-end .ensures .inside, c .before .before .rest-at .ensures .size, c .before .before .before .before .before .before .before .pre .0)
 
 remember-requires : tie.Need-remember-requires Inv-loop μ-loop
-remember-requires c κs = tt
+remember-requires c κs = ((c .before .before .before .before .before .before .loop .inv) .true-marks .size, section-number (c .before .before .before .before .before .before .before .before .before .args .text .now) (c .before .before .before .before .before .before .before .before .before .pre .0) (omega (arith, c .before .before .before .before .before .loop-test .taken, c .before .before .before .before .before .before .before .before .before .pre .1 .0)))
 
 accepted-words-requires : tie.Need-accepted-words-requires Inv-loop μ-loop
 accepted-words-requires c κs = tt
@@ -45,7 +47,7 @@ loop-again : tie.Need-loop-again Inv-loop μ-loop
 loop-again c = sections-more (c .before .before .before .before .before .before .before .before .before .before .loop .inv) (c .before .before .before .before .before .before .before .before .before .before .before .before .before .pre .0) (omega (arith, c .before .before .before .before .before .before .before .before .before .loop-test .taken, c .before .before .before .before .before .before .before .before .before .before .before .before .before .pre .1 .0)) (c .before .before .before .before .before .before .before .before .rest-at .ensures) (c .before .before .before .before .before .before .before .section-end .ensures) (c .before .before .before .before .before .before .section-at .ensures) (c .before .before .before .before .before .verdict-at .result) (c .before .before .before .before .before .verdict-at .ensures) (c .accepted-words .ensures) (c .before .before .before .remember .ensures)
 
 same-length : tie.Need-same-length Inv-loop μ-loop
-same-length c = (c .before .loop .inv) .same
+same-length c = (c .before .loop .inv) .true-marks .size ∙ sym (c .before .before .before .before .pre .1 .1 .size)
 
 returns : tie.Need-returns Inv-loop μ-loop
 returns c = sections-end (c .before .loop .inv) (omega (arith, c .loop-test .left, c .before .before .before .before .pre .1 .0))

@@ -1,9 +1,7 @@
 use borrow.Author.Needs.{needs}
 use Rattle.matter_idl.proofs.survey.remember.Statement.{statement}
 use Rattle.matter_idl.proofs.survey.remember.Tie as tie
-use mathlib.Core.Path.{sym, ap, _∙_}
-use lib.Seq.{set-out}
-use Rattle.matter_idl.specs.inner.survey.{remembered}
+use Rattle.matter_idl.proofs.survey.Remembered.{remembered-refused, remembered-accepted}
 
 enum-told : tie.Need-enum-told
 enum-told c = c .match .keys1
@@ -12,21 +10,17 @@ enum-told-2 : tie.Need-enum-told-2
 enum-told-2 c = c .match .keys2
 
 returns : tie.Need-returns
-returns c = sym (ap (λ x. remembered (c .before .before .args .i) x (c .before .before .args .marks .now)) (c .enum-told2 .given .1))
+returns c = remembered-refused (c .enum-told2 .given .1) _ _
 
-returns-2 : tie.Need-returns-2
-returns-2 c = sym (set-out _ _ _ (c .if1 .taken)) ∙ (sym (ap (λ x. remembered (c .before .before .before .args .i) x (c .before .before .before .args .marks .now)) (c .before .enum-told .given .1)))
-
-slice-write-marks : tie.Need-slice-write-marks
-slice-write-marks c = search needs
+set-bit-requires : tie.Need-set-bit-requires
+set-bit-requires c κs = search needs
 
 same-length : tie.Need-same-length
-same-length c = search needs
+same-length c = c .before .before .set-bit .ensures .size
 
-returns-3 : tie.Need-returns-3
-returns-3 c = (sym (ap (λ x. remembered (c .before .before .before .args .i) x (c .before .before .before .args .marks .now)) (c .before .enum-told .given .1)))
+returns-2 : tie.Need-returns-2
+returns-2 c = remembered-accepted (c .before .before .before .before .enum-told .given .1) (c .before .before .set-bit .ensures)
 
 pub remember-spec : {M : Type 1} → statement M
 remember-spec =
-    tie.close
-    (tie.spec enum-told enum-told-2 returns returns-2 slice-write-marks same-length returns-3)
+    tie.close (tie.spec enum-told enum-told-2 returns set-bit-requires same-length returns-2)

@@ -1,0 +1,2 @@
+-- Laws of a fixed array of bits.
+pub mod Laws

@@ -1,0 +1,2 @@
+-- Laws of the filter.
+pub mod Laws
