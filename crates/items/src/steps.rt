@@ -11,25 +11,15 @@ use lexing::answers::Step;
 use lexing::blanks::whitespace0;
 use lexing::integers::Number;
 use lexing::integers::positive_integer;
-use lexing::parts::peek;
 use lexing::parts::rest_at;
 use lexing::words::keyword;
 use lexing::words::tag;
 
-// The offset behind the blanks at the front. No byte above the slash starts one, and most calls end with that test, or with a single space before such a byte.
+// The offset behind the blanks at the front.
 fn blank_end(part: &[u8], base: usize) -> usize
     requires { ⌜ base + length (now part) ≤ u64-max ⌝ }
     ensures { λ r. ⌜ Skips whitespace0 (Next r) base (now (part .entry)) ⌝ }
 {
-    let x = peek(part, 0);
-    if b'/' < x {
-        return base;
-    }
-    if x == b' ' {
-        if b'/' < peek(part, 1) {
-            return base + 1;
-        }
-    }
     let w = whitespace0(part, base);
     w.next
 }

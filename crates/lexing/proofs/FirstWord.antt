@@ -1,23 +1,23 @@
 -- A text whose first word is a keyword: no other keyword stands there, no blank, and no word of a set that lacks it.
 use mathlib.Core.Path.{_≡_, refl, sym, ap, _∙_}
-use mathlib.Core.Bool.{Bool, true, false, not, _&&_, _||_, true≢false, false≢true}
+use mathlib.Core.Bool.{Bool, true, false, not, _&&_, true≢false, false≢true}
 use mathlib.Core.Logic.{_⊎_, inl, inr}
 use mathlib.Core.List.{List, [], _∷_}
 use Prim.Native.Nat.{ℕ, zero, suc, _+_, _*_, _^_, _<_, max}
 use native.Mathlib.Omega.{arith}
 use lib.Dec.{eqb}
 use lib.ListN.{length, getD}
-use borrow.Author.Tests.{eq-eqb, ne-eqb, eqb-true, eqb-false, not-true}
-use Rattle.lexing.specs.bytes.{slash, isLetter, isWord, isSpace, lower, takeWhile}
+use borrow.Author.Tests.{eq-eqb, eqb-true, eqb-false, not-true}
+use Rattle.lexing.specs.bytes.{isLetter, isWord, lower, takeWhile}
 use Rattle.lexing.specs.reply.{Reply, ok, fail, stop, ret, _>>=_, _or_, further, iterWithin, iter, keep}
 use Rattle.lexing.specs.words.{Word, isKeyword, keyword, any-keyword}
 use Rattle.lexing.specs.blanks.{Whitespace, whitespace-group, Doc, no-doc, after, one-blank, whitespace0}
 use Rattle.lexing.specs.word_sets.{next-word, set-step, keywords-set, same-bytes, contains, bit, flags, set-of, set-flags}
 use Rattle.lexing.specs.inner.word_sets.{initial}
-use Rattle.lexing.proofs.Tests.{and-left, and-right, or-false, blank-fails, false-if}
-use Rattle.lexing.proofs.TokenLocality.{blank-no-letter, no-group, one-blank-consumes, set-step-consumes}
+use Rattle.lexing.proofs.Tests.{and-left, and-right, or-false, false-if}
+use Rattle.lexing.proofs.TokenLocality.{one-blank-consumes, set-step-consumes}
 use Rattle.lexing.proofs.Repetition.{iter-fail}
-use Rattle.lexing.proofs.words.Laws.{no-letter, keyword-no-word, keyword-other, keyword-same, key-differs}
+use Rattle.lexing.proofs.words.Laws.{keyword-no-word, keyword-other, key-differs}
 
 -- the first word of u is the keyword k
 pub record Starts (k u : List ℕ) : Type 0 where
@@ -106,17 +106,6 @@ module _ {k u : List ℕ} (s : Starts k u) (b : ℕ) where
   lacks-free : (js : List (List ℕ)) → lacks k js ≡ true → Frees b u js
   lacks-free [] e = tt
   lacks-free (j ∷ js) e = (other-keyword j (not-true (same-bytes k j) (and-left (not (same-bytes k j)) (lacks k js) e)), lacks-free js (and-right (not (same-bytes k j)) (lacks k js) e))
-
-  pub no-blank : whitespace0 b u ≡ ok no-doc b u
-  unfolding whitespace0 keep one-blank _>>=_
-  no-blank = iter-fail one-blank keep one-blank-consumes no-doc b u b (none u (s .letter))
-    where
-      letter-no-blank : (x : ℕ) → isLetter x ≡ true → (eqb x slash || isSpace x) ≡ false
-      letter-no-blank x e = false-if (eqb x slash || isSpace x) (λ q. true≢false (sym e ∙ blank-no-letter x q))
-
-      none : (u : List ℕ) → isLetter (getD u 0 0) ≡ true → one-blank no-doc b u ≡ fail b
-      none [] e = absurd (false≢true (sym no-letter ∙ e))
-      none (x ∷ u) e = rw (no-group b x u (letter-no-blank x e), one-blank, _>>=_)
 
 one-lacks : (k : List ℕ) (ks js : List (List ℕ)) → OneOf k ks → disjoint ks js ≡ true → lacks k js ≡ true
 one-lacks k [] js o e = absurd o

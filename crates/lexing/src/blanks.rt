@@ -270,15 +270,12 @@ fn more_blanks(part: &[u8], base: usize, from: usize) -> Blank
     }
 }
 
-// Any number of blanks. Most are white space alone, behind which no slash stands. The loop over comments is called at two places, so that
-// it stays a function of its own and what is left here is short.
-pub fn whitespace0(part: &[u8], base: usize) -> Blank
+// Any number of blanks, with a comment or white space at the front. It is called at two places, so that it stays a function of its own and what is left of
+// `whitespace0` is short.
+fn blank_run(part: &[u8], base: usize) -> Blank
     requires { ⌜ base + length (now part) ≤ u64-max ⌝ }
     ensures { λ r. ⌜ BlankTo r base (now (part .entry)) ⌝ }
 {
-    if peek(part, 0) == b'/' {
-        return more_blanks(part, base, base);
-    }
     let n = white_length(part);
     let next = base + n;
     if peek(part, n) == b'/' {
@@ -288,6 +285,30 @@ pub fn whitespace0(part: &[u8], base: usize) -> Blank
         next,
         doc: DocSpan::Absent,
     }
+}
+
+// Any number of blanks. No byte above the slash starts one, and most calls end with that test, or with a single space before such a byte.
+pub fn whitespace0(part: &[u8], base: usize) -> Blank
+    requires { ⌜ base + length (now part) ≤ u64-max ⌝ }
+    ensures { λ r. ⌜ BlankTo r base (now (part .entry)) ⌝ }
+{
+    let x = peek(part, 0);
+    if b'/' < x {
+        return Blank {
+            next: base,
+            doc: DocSpan::Absent,
+        };
+    }
+    if x != b' ' {
+        return blank_run(part, base);
+    }
+    if b'/' < peek(part, 1) {
+        return Blank {
+            next: base + 1,
+            doc: DocSpan::Absent,
+        };
+    }
+    blank_run(part, base)
 }
 
 // At least one blank.

@@ -1,17 +1,13 @@
 -- Steps from an offset of a part: what they answer, and what they give the sequence that takes them.
 use mathlib.Core.Path.{_≡_, refl, sym, ap, _∙_, subst}
-use mathlib.Core.List.{List, [], _∷_}
-use mathlib.Core.Bool.{Bool, true, false, _||_, true≢false}
-use Prim.Native.Nat.{ℕ, _+_, _-_, _≤_, _<_}
-use native.Mathlib.Omega.{arith}
+use mathlib.Core.List.{List}
+use Prim.Native.Nat.{ℕ, _+_, _-_, _≤_}
 use borrow.Author.Tests.{eq-eqb, ne-eqb}
-use lib.Dec.{eqb}
-use lib.ListN.{length, drop, getD}
-use Rattle.lexing.specs.bytes.{slash, isSpace, takeWhile}
-use Rattle.lexing.specs.reply.{Parser, ok, fail, ret, _>>=_, _>>_, keep, position, failAt, pick}
+use lib.ListN.{length, drop}
+use Rattle.lexing.specs.reply.{Parser, ok, fail, ret, _>>=_, _>>_, position, failAt, pick}
 use Rattle.lexing.specs.words.{keyword, tag}
 use Rattle.lexing.specs.integers.{positive-integer}
-use Rattle.lexing.specs.blanks.{no-doc, after, one-blank, whitespace0, whitespace1}
+use Rattle.lexing.specs.blanks.{no-doc, whitespace0, whitespace1}
 use Rattle.lexing.specs.answers.{Rest, BlankTo, docOf, lostOf, lostReply, numberAnswer, numberLost, numberReply, tagReply, wordReply}
 use Rattle.lexing.specs.declared.answers.Lost.{Lost}
 use Rattle.lexing.specs.declared.answers.Lost.the-variants.{Fail}
@@ -21,11 +17,8 @@ use Rattle.lexing.specs.declared.blanks.Blank.{Blank}
 use Rattle.lexing.specs.declared.integers.Number.{Number}
 use Rattle.lexing.specs.declared.integers.Number.the-variants.{Value, NoNumber}
 use Rattle.lexing.proofs.Onward.{Onward, advances-onward, tag-advances, integer-advances}
-use Rattle.lexing.proofs.Slicing.{Took, took, walks, rest-self, blank-took, integer-lost}
-use Rattle.lexing.proofs.Repetition.{iter-more, iter-fail}
-use Rattle.lexing.proofs.Scans.{first-of, run-cons, run-none}
-use Rattle.lexing.proofs.blanks.Laws.{group-white}
-use Rattle.lexing.proofs.TokenLocality.{keyword-chain, whitespace0-chain, whitespace1-chain, no-group, one-blank-consumes}
+use Rattle.lexing.proofs.Slicing.{Took, took, walks, rest-self, integer-lost}
+use Rattle.lexing.proofs.TokenLocality.{keyword-chain, whitespace0-chain, whitespace1-chain}
 use Rattle.items.specs.answers.{Skips, SkipsAt, BlankAt, NumberAt}
 use Rattle.items.proofs.Dropping.{behind, skip-behind, tag-skips, keyword-skips}
 use Rattle.items.proofs.Onward.{onward-then}
@@ -37,43 +30,6 @@ blank-on = walks whitespace0-chain
 -- the blanks at the front, by their end
 pub blank-ends : {b : ℕ} {u : List ℕ} {t : Blank} → BlankTo t b u → Skips whitespace0 (Next (t .next)) b u
 blank-ends {t = t} h = record { value = docOf (t .doc); reads = h .reads }
-
--- no byte above the slash starts one
-above-slash : (x : ℕ) → slash < x → (eqb x slash || isSpace x) ≡ false
-unfolding isSpace
-above-slash x h = rw (ne-eqb x slash (λ e. omega (arith, e)), ne-eqb x 32 (λ e. omega (arith, e)), ne-eqb x 9 (λ e. omega (arith, e)), ne-eqb x 10 (λ e. omega (arith, e)), ne-eqb x 13 (λ e. omega (arith, e))) refl
-
-blank-fails : (b : ℕ) (u : List ℕ) → slash < getD u 0 0 → one-blank no-doc b u ≡ fail b
-unfolding one-blank _>>=_
-blank-fails b [] h = absurd (omega arith)
-blank-fails b (x ∷ u) h = rw (no-group b x u (above-slash x h), one-blank, _>>=_)
-
-no-blank : (b : ℕ) (u : List ℕ) → slash < getD u 0 0 → ok no-doc b u ≡ whitespace0 b u
-unfolding whitespace0 keep
-no-blank b u h = sym (iter-fail one-blank keep one-blank-consumes no-doc b u b (blank-fails b u h))
-
-pub blank-none : (b : ℕ) (u : List ℕ) (x : ℕ) → x ≡ getD u 0 0 → slash < x → Skips whitespace0 (Next b) b u
-blank-none b u x e h = let z : b - b ≡ 0 = omega arith in record { value = no-doc; reads = rw z (no-blank b u (rw e at h)) }
-
--- a single space before such a byte
-one-space : (u : List ℕ) → getD u 0 0 ≡ 32 → slash < getD u 1 0 → 1 ≡ length (takeWhile isSpace u)
-unfolding isSpace
-one-space [] e h = absurd (omega arith)
-one-space (x ∷ []) e h = absurd (omega arith)
-one-space (x ∷ y ∷ u) e h = sym (ap length (run-cons isSpace x (y ∷ u) (ap isSpace e) ∙ ap (λ v. x ∷ v) (run-none isSpace y u (or-right (eqb y slash) (above-slash y h)))))
-  where
-    or-right : (s : Bool) {t : Bool} → (s || t) ≡ false → t ≡ false
-    or-right true q = absurd (true≢false q)
-    or-right false q = q
-
-pub blank-one : (b : ℕ) (u : List ℕ) {x y : ℕ} → x ≡ getD u 0 0 → y ≡ getD u 1 0 → x ≡ 32 → slash < y → Skips whitespace0 (Next (b + 1)) b u
-unfolding whitespace0 one-blank after ret _>>=_ keep
-blank-one b u ex ey e h =
-    let k : slash < getD u 1 0 = rw ey at h in
-    let turn : one-blank no-doc b u ≡ ok no-doc (b + 1) (drop 1 u) = rw (← group-white b 1 u (one-space u (sym ex ∙ e) k) (omega arith), one-blank, _>>=_) in
-    let end : one-blank no-doc (b + 1) (drop 1 u) ≡ fail (b + 1) = blank-fails (b + 1) (drop 1 u) (rw (first-of 1 u) k) in
-    let z : b + 1 - b ≡ 1 = omega arith in
-    record { value = no-doc; reads = rw z (sym (iter-more one-blank keep one-blank-consumes no-doc b u no-doc (b + 1) (drop 1 u) turn ∙ iter-fail one-blank keep one-blank-consumes no-doc (b + 1) (drop 1 u) (b + 1) end)) }
 
 pub blank-bounds : {n b : ℕ} {u : List ℕ} → Skips whitespace0 (Next n) b u → (b ≤ n) × (n ≤ b + length u)
 blank-bounds {n} {b} {u} h = let t = skip-took blank-on (rest-self b u) refl h in (t .up, t .inside)

@@ -401,11 +401,26 @@ blanks-alone b u n e x ex ne =
     let y : x ≡ getD (drop (b + n - b) u) 0 0 = ex ∙ sym (first-of (b + n - b) u ∙ ap (λ (m : ℕ). getD u m 0) z) in
     blanks-end b u (record { next = b + n; doc = 0; size = 0 }) i Done (turn-other b u (b + n) (drop (b + n - b) u) q no-doc (i .behind) x y ne) Absent refl refl
 
--- none before a slash
-pub slash-first : (b : ℕ) (u : List ℕ) → getD u 0 0 ≡ slash → b ≡ b + length (takeWhile isSpace u)
-unfolding takeWhile isSpace
-slash-first b [] e = omega arith
-slash-first b (x ∷ u) e = rw (run-none isSpace x u (ap isSpace e)) (omega arith)
+-- no byte above the slash starts a blank, and behind a single space none ends the run
+above-slash : (x : ℕ) → slash < x → isSpace x ≡ false
+unfolding isSpace
+above-slash x h = rw (ne-eqb x 32 (λ e. omega (arith, e)), ne-eqb x 9 (λ e. omega (arith, e)), ne-eqb x 10 (λ e. omega (arith, e)), ne-eqb x 13 (λ e. omega (arith, e))) refl
+
+pub blanks-none : (b : ℕ) (u : List ℕ) (x : ℕ) → x ≡ getD u 0 0 → slash < x → BlankTo (record { next = b; doc = Absent }) b u
+blanks-none b u x e h = let z : b + 0 ≡ b = omega arith in rw z at (blanks-alone b u 0 (no-run u (rw e at h)) x e (λ q. omega arith))
+  where
+    no-run : (u : List ℕ) → slash < getD u 0 0 → 0 ≡ length (takeWhile isSpace u)
+    no-run [] h = absurd (omega arith)
+    no-run (y ∷ u) h = sym (ap length (run-none isSpace y u (above-slash y h)))
+
+pub blanks-one : (b : ℕ) (u : List ℕ) (x y : ℕ) → x ≡ getD u 0 0 → y ≡ getD u 1 0 → x ≡ 32 → slash < y → BlankTo (record { next = b + 1; doc = Absent }) b u
+unfolding isSpace
+blanks-one b u x y ex ey e h = blanks-alone b u 1 (one-space u (sym ex ∙ e) (rw ey at h)) y ey (λ q. omega arith)
+  where
+    one-space : (u : List ℕ) → getD u 0 0 ≡ 32 → slash < getD u 1 0 → 1 ≡ length (takeWhile isSpace u)
+    one-space [] e h = absurd (omega arith)
+    one-space (x ∷ []) e h = absurd (omega arith)
+    one-space (x ∷ y ∷ u) e h = sym (ap length (run-cons isSpace x (y ∷ u) (ap isSpace e) ∙ ap (λ v. x ∷ v) (run-none isSpace y u (above-slash y h))))
 
 -- at least one
 module _ (b : ℕ) (u : List ℕ) (t : Blank) (h : BlankTo t b u) where

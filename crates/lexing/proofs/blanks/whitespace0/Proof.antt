@@ -1,51 +1,46 @@
 use borrow.Author.Needs.{needs}
 use Rattle.lexing.proofs.blanks.whitespace0.Statement.{statement}
 use Rattle.lexing.proofs.blanks.whitespace0.Tie as tie
-use mathlib.Core.Path.{sym, _∙_, ap}
 use native.Mathlib.Omega.{arith}
-use denote.Ref.{now}
-use Prim.Native.Nat.{_+_}
-use Rattle.lexing.specs.bytes.{isSpace}
-use Rattle.lexing.proofs.Scans.{run-le}
-use Rattle.lexing.proofs.blanks.Laws.{blanks-alone, slash-first}
+use Rattle.lexing.proofs.blanks.Laws.{blanks-none, blanks-one}
 
 peek-requires : tie.Need-peek-requires
 peek-requires c κs = tt
 
-more-blanks-requires : tie.Need-more-blanks-requires
-more-blanks-requires c κs = (c .before .before .before .pre, slash-first _ _ (sym (c .before .peek .ensures) ∙ c .if1 .taken))
-
 returns : tie.Need-returns
-returns c = search needs
+returns c = blanks-none _ _ _ (c .before .peek .ensures) (c .if1 .taken)
 
-white-length-requires : tie.Need-white-length-requires
-white-length-requires c κs = tt
+blank-run-requires : tie.Need-blank-run-requires
+blank-run-requires c κs = search needs
 
-add-next : tie.Need-add-next
-add-next c = omega (arith, c .white-length .ensures, run-le isSpace (now (c .before .before .before .before .args .part)))
+returns-2 : tie.Need-returns-2
+returns-2 c = c .blank-run .ensures
 
 peek-requires-2 : tie.Need-peek-requires-2
 peek-requires-2 c κs = tt
 
-more-blanks-requires-2 : tie.Need-more-blanks-requires-2
-more-blanks-requires-2 c κs = (c .before .before .before .before .before .before .pre, ap (λ n. c .before .before .before .before .before .before .args .base + n) (c .before .before .white-length .ensures))
-
-returns-2 : tie.Need-returns-2
-returns-2 c = search needs
+add-t7 : tie.Need-add-t7
+add-t7 c = omega (arith, (blanks-one (c .before .before .before .before .before .before .args .base) (c .before .before .before .before .before .before .args .part .now) _ _ (c .before .before .before .before .peek .ensures) (c .before .peek2 .ensures) (c .before .before .if2 .left) (c .if3 .taken)) .inside, c .before .before .before .before .before .before .pre)
 
 returns-3 : tie.Need-returns-3
-returns-3 c = blanks-alone _ _ _ (c .before .before .white-length .ensures) _ (c .before .peek2 .ensures) (c .if2 .left)
+returns-3 c = (blanks-one (c .before .before .before .before .before .before .args .base) (c .before .before .before .before .before .before .args .part .now) _ _ (c .before .before .before .before .peek .ensures) (c .before .peek2 .ensures) (c .before .before .if2 .left) (c .if3 .taken))
+
+blank-run-requires-2 : tie.Need-blank-run-requires-2
+blank-run-requires-2 c κs = search needs
+
+returns-4 : tie.Need-returns-4
+returns-4 c = c .blank-run2 .ensures
 
 pub whitespace0-spec : {M : Type 1} → statement M
 whitespace0-spec =
     tie.close
     (tie.spec
     peek-requires
-    more-blanks-requires
     returns
-    white-length-requires
-    add-next
-    peek-requires-2
-    more-blanks-requires-2
+    blank-run-requires
     returns-2
-    returns-3)
+    peek-requires-2
+    add-t7
+    returns-3
+    blank-run-requires-2
+    returns-4)
