@@ -11,10 +11,15 @@ ghost use Rattle.items.specs.buffers.{put};
 ghost use Rattle.items.specs.records.{each, twos-complement, default-number, default-word, instance-record, part-records, endpoint-records};
 ghost use Rattle.items.specs.endpoints.{name-behind, named-after, device-version, value-tries, default-attribute-value, deep-run, deep-braces, instance-tries, instantiation, instantiation-head, cluster-instantiation, part-tries, endpoint-head, endpoint};
 ghost use Rattle.items.specs.answers.{NameIn, CountTo, Room, Written};
-ghost use Rattle.items.specs.answers.endpoints.{NamedTo, namedLost, DeviceTypeTo, deviceTypeLost, HandlingTo, handlingLost, ValueTo, valueLost, valueOf, SpanIn, optionalValue, DefaultTo, DefaultIn, defaultOf, defaultLost, InstanceIn, AttributeInstanceTo, attributeInstanceLost, triedLost, TriedTo, DeepTo, TryRoom, TryWritten};
+ghost use Rattle.items.specs.answers.names.{NamedTo};
+ghost use Rattle.items.specs.answers.endpoints.{DeviceTypeTo, deviceTypeLost, HandlingTo, handlingLost, ValueTo, valueLost, valueOf, SpanIn, optionalValue, DefaultTo, DefaultIn, defaultOf, defaultLost, InstanceIn, AttributeInstanceTo, attributeInstanceLost, triedLost, TriedTo, DeepTo, TryRoom, TryWritten};
 ghost use Rattle.items.specs.inner.endpoints.{furtherLost, triedEnd, deep-close, deep-rest, blank-binding, plainWord, name-parts, device-parts, instance-parts, endpoint-first};
 use crate::counts::Count;
 use crate::counts::count_lost;
+use crate::names::Named;
+use crate::names::code_behind;
+use crate::names::keyword_name;
+use crate::names::named_lost;
 use crate::steps::blank_at;
 use crate::steps::gap_at;
 use crate::steps::integer_behind;
@@ -41,14 +46,7 @@ use lexing::integers::signed_integer;
 use lexing::parts::rest_at;
 use lexing::strings::default_string;
 use lexing::words::keyword;
-use lexing::words::parse_id;
 use lexing::words::tag;
-
-// Where a name starts and ends, and the offset behind all that was read.
-pub enum Named {
-    Name(usize, usize, usize),
-    NoName(Lost),
-}
 
 // A device type: where its name starts and ends, its code and its version.
 pub struct DeviceTypeParts {
@@ -126,32 +124,15 @@ pub fn name_behind(part: &[u8], base: usize, first: &[u8], second: &[u8]) -> Nam
     let Step::Next(c1) = one else {
         return Named::NoName(step_lost(one));
     };
-    let gap1 = gap_at(part, base, c1);
-    let Step::Next(c2) = gap1 else {
-        return Named::NoName(step_lost(gap1));
+    let gap = gap_at(part, base, c1);
+    let Step::Next(c2) = gap else {
+        return Named::NoName(step_lost(gap));
     };
-    let two = keyword(rest_at(part, base, c2), c2, second);
-    let Step::Next(c3) = two else {
-        return Named::NoName(step_lost(two));
+    let named = keyword_name(rest_at(part, base, c2), c2, second);
+    let Named::Name(name, end, c3) = named else {
+        return Named::NoName(named_lost(named));
     };
-    let gap2 = gap_at(part, base, c3);
-    let Step::Next(c4) = gap2 else {
-        return Named::NoName(step_lost(gap2));
-    };
-    let name = parse_id(rest_at(part, base, c4), c4);
-    let Step::Next(c5) = name else {
-        return Named::NoName(step_lost(name));
-    };
-    Named::Name(c4, c5, c5)
-}
-
-pub fn named_lost(r: Named) -> Lost
-    ensures { λ x. ⌜ x ≡ namedLost r ⌝ }
-{
-    match r {
-        Named::Name(_, _, c) => Lost::Fail(c),
-        Named::NoName(l) => l,
-    }
+    Named::Name(name, end, c3)
 }
 
 // The same with a semicolon.
@@ -202,16 +183,12 @@ pub fn device_type(part: &[u8], base: usize) -> DeviceTypeRead
     let Named::Name(name, end, c1) = named else {
         return DeviceTypeRead::NoDeviceType(named_lost(named));
     };
-    let equals = tag_behind(part, base, c1, b'=');
-    let Step::Next(c2) = equals else {
-        return DeviceTypeRead::NoDeviceType(step_lost(equals));
-    };
-    let number = integer_behind(part, base, c2);
-    let Number::Value(code, c3) = number else {
+    let number = code_behind(part, base, c1);
+    let Number::Value(code, c2) = number else {
         return DeviceTypeRead::NoDeviceType(number_lost(number));
     };
-    let last = device_version(rest_at(part, base, c3), c3);
-    let Number::Value(version, c4) = last else {
+    let last = device_version(rest_at(part, base, c2), c2);
+    let Number::Value(version, c3) = last else {
         return DeviceTypeRead::NoDeviceType(number_lost(last));
     };
     let t = DeviceTypeParts {
@@ -220,7 +197,7 @@ pub fn device_type(part: &[u8], base: usize) -> DeviceTypeRead
         code,
         version,
     };
-    DeviceTypeRead::DeviceType(t, c4)
+    DeviceTypeRead::DeviceType(t, c3)
 }
 
 pub fn device_type_lost(r: DeviceTypeRead) -> Lost
@@ -365,23 +342,15 @@ pub fn attribute_instantiation(part: &[u8], base: usize) -> AttributeInstanceRea
     let HandlingRead::Handling(handling, c1) = held else {
         return AttributeInstanceRead::NoAttributeInstance(handling_lost(held));
     };
-    let gap1 = gap_at(part, base, c1);
-    let Step::Next(c2) = gap1 else {
-        return AttributeInstanceRead::NoAttributeInstance(step_lost(gap1));
+    let gap = gap_at(part, base, c1);
+    let Step::Next(c2) = gap else {
+        return AttributeInstanceRead::NoAttributeInstance(step_lost(gap));
     };
-    let key = keyword(rest_at(part, base, c2), c2, b"attribute");
-    let Step::Next(c3) = key else {
-        return AttributeInstanceRead::NoAttributeInstance(step_lost(key));
+    let named = keyword_name(rest_at(part, base, c2), c2, b"attribute");
+    let Named::Name(name, end, c3) = named else {
+        return AttributeInstanceRead::NoAttributeInstance(named_lost(named));
     };
-    let gap2 = gap_at(part, base, c3);
-    let Step::Next(name) = gap2 else {
-        return AttributeInstanceRead::NoAttributeInstance(step_lost(gap2));
-    };
-    let word = parse_id(rest_at(part, base, name), name);
-    let Step::Next(end) = word else {
-        return AttributeInstanceRead::NoAttributeInstance(step_lost(word));
-    };
-    let optional = optional_default(rest_at(part, base, end), end);
+    let optional = optional_default(rest_at(part, base, c3), c3);
     let DefaultRead::Optional(default, c4) = optional else {
         return AttributeInstanceRead::NoAttributeInstance(default_lost(optional));
     };

@@ -16,9 +16,9 @@ use crate::counts::Count;
 use crate::counts::closed;
 use crate::counts::count_end;
 use crate::maturity::api_maturity;
+use crate::names::code_behind;
 use crate::optional::optional;
 use crate::steps::blank_at;
-use crate::steps::integer_behind;
 use crate::steps::tag_behind;
 use crate::writing::First;
 use crate::writing::Wrote;
@@ -162,15 +162,11 @@ pub fn constant_entry(part: &[u8], base: usize) -> EntryRead
     let Step::Next(c4) = name else {
         return EntryRead::NoEntry(step_lost(name));
     };
-    let equals = tag_behind(part, base, c4, b'=');
-    let Step::Next(c5) = equals else {
-        return EntryRead::NoEntry(step_lost(equals));
-    };
-    let value = integer_behind(part, base, c5);
-    let Number::Value(code, c6) = value else {
+    let value = code_behind(part, base, c4);
+    let Number::Value(code, c5) = value else {
         return EntryRead::NoEntry(number_lost(value));
     };
-    let last = entry_end(rest_at(part, base, c6), c6);
+    let last = entry_end(rest_at(part, base, c5), c5);
     let Step::Next(next) = last else {
         return EntryRead::NoEntry(step_lost(last));
     };

@@ -13,10 +13,13 @@ ghost use Rattle.items.specs.answers.{CountTo, FrontFits, Room, Written}
 ghost use Rattle.items.specs.answers.members.{levelLost, LevelTo, levelOr, eventQualitiesLost, EventQualitiesTo, eventHeadLost, EventHeadTo, EventCountTo, commandHeadLost, CommandHeadTo, commandTypesLost, CommandTypesTo, commandLost, EventHeadBetween, CommandBetween, CommandTo, command-records};
 ghost use Rattle.items.specs.inner.members.{extentIf, commandFront, command-parts, event-first};
 use crate::counts::Count;
+use crate::names::Named;
+use crate::names::code_behind;
+use crate::names::named_lost;
+use crate::names::type_behind;
 use crate::optional::optional;
 use crate::steps::blank_at;
 use crate::steps::gap_at;
-use crate::steps::integer_behind;
 use crate::steps::keyword_behind;
 use crate::steps::tag_behind;
 use crate::structs::struct_fields;
@@ -279,15 +282,11 @@ pub fn event_head(part: &[u8], base: usize) -> EventHeadRead
     let Step::Next(c3) = id else {
         return EventHeadRead::NoEventHead(step_lost(id));
     };
-    let equals = tag_behind(part, base, c3, b'=');
-    let Step::Next(c4) = equals else {
-        return EventHeadRead::NoEventHead(step_lost(equals));
-    };
-    let number = integer_behind(part, base, c4);
-    let Number::Value(code, c5) = number else {
+    let number = code_behind(part, base, c3);
+    let Number::Value(code, c4) = number else {
         return EventHeadRead::NoEventHead(number_lost(number));
     };
-    let c6 = blank_at(part, base, c5);
+    let c5 = blank_at(part, base, c4);
     EventHeadRead::EventHead(
         EventHeadParts {
             sensitive: q.sensitive,
@@ -297,7 +296,7 @@ pub fn event_head(part: &[u8], base: usize) -> EventHeadRead
             end: c3,
             code,
         },
-        c6,
+        c5,
     )
 }
 
@@ -393,14 +392,9 @@ pub fn command_types(part: &[u8], base: usize) -> CommandTypesRead
     let Step::Next(c2) = closing else {
         return CommandTypesRead::NoCommandTypes(step_lost(closing));
     };
-    let colon = tag_behind(part, base, c2, b':');
-    let Step::Next(c3) = colon else {
-        return CommandTypesRead::NoCommandTypes(step_lost(colon));
-    };
-    let output = blank_at(part, base, c3);
-    let to = parse_id(rest_at(part, base, output), output);
-    let Step::Next(output_end) = to else {
-        return CommandTypesRead::NoCommandTypes(step_lost(to));
+    let to = type_behind(rest_at(part, base, c2), c2);
+    let Named::Name(output, output_end, c3) = to else {
+        return CommandTypesRead::NoCommandTypes(named_lost(to));
     };
     CommandTypesRead::CommandTypes(
         CommandTypesParts {
@@ -409,7 +403,7 @@ pub fn command_types(part: &[u8], base: usize) -> CommandTypesRead
             output,
             output_end,
         },
-        output_end,
+        c3,
     )
 }
 
@@ -439,16 +433,12 @@ pub fn parse_command_after_doc_maturity(
     let CommandTypesRead::CommandTypes(t, c2) = types else {
         return CommandRead::NoCommand(command_types_lost(types));
     };
-    let equals = tag_behind(part, base, c2, b'=');
-    let Step::Next(c3) = equals else {
-        return CommandRead::NoCommand(step_lost(equals));
-    };
-    let number = integer_behind(part, base, c3);
-    let Number::Value(code, c4) = number else {
+    let number = code_behind(part, base, c2);
+    let Number::Value(code, c3) = number else {
         return CommandRead::NoCommand(number_lost(number));
     };
-    let semicolon = tag_behind(part, base, c4, b';');
-    let Step::Next(c5) = semicolon else {
+    let semicolon = tag_behind(part, base, c3, b';');
+    let Step::Next(c4) = semicolon else {
         return CommandRead::NoCommand(step_lost(semicolon));
     };
     CommandRead::Command(
@@ -465,7 +455,7 @@ pub fn parse_command_after_doc_maturity(
             output_end: t.output_end,
             code,
         },
-        c5,
+        c4,
     )
 }
 

@@ -17,10 +17,12 @@ use crate::counts::Count;
 use crate::counts::closed;
 use crate::counts::count_end;
 use crate::maturity::api_maturity;
+use crate::names::Named;
+use crate::names::keyword_name;
+use crate::names::named_lost;
 use crate::steps::blank_at;
 use crate::steps::gap_at;
 use crate::steps::integer_behind;
-use crate::steps::keyword_behind;
 use crate::steps::tag_behind;
 use crate::writing::First;
 use crate::writing::FrontParts;
@@ -396,32 +398,25 @@ pub fn struct_head(part: &[u8], base: usize, from: usize) -> StructHeadRead
     let start = word.next;
     let set = keywords_set(rest_at(part, base, start), start, 1);
     let c1 = set.next;
-    let key = keyword_behind(part, base, c1, b"struct");
-    let Step::Next(c2) = key else {
-        return StructHeadRead::NoHead(step_lost(key));
+    let c2 = blank_at(part, base, c1);
+    let named = keyword_name(rest_at(part, base, c2), c2, b"struct");
+    let Named::Name(name, end, c3) = named else {
+        return StructHeadRead::NoHead(named_lost(named));
     };
-    let gap = gap_at(part, base, c2);
-    let Step::Next(c3) = gap else {
-        return StructHeadRead::NoHead(step_lost(gap));
-    };
-    let name = parse_id(rest_at(part, base, c3), c3);
-    let Step::Next(c4) = name else {
-        return StructHeadRead::NoHead(step_lost(name));
-    };
-    let c5 = blank_at(part, base, c4);
-    let number = struct_code(rest_at(part, base, c5), c5, kind);
-    let Number::Value(code, c6) = number else {
+    let c4 = blank_at(part, base, c3);
+    let number = struct_code(rest_at(part, base, c4), c4, kind);
+    let Number::Value(code, c5) = number else {
         return StructHeadRead::NoHead(number_lost(number));
     };
     StructHeadRead::Head(
         StructHeadParts {
             kind,
             scoped: set.flags,
-            name: c3,
-            end: c4,
+            name,
+            end,
             code,
         },
-        c6,
+        c5,
     )
 }
 

@@ -34,11 +34,9 @@ use Rattle.items.specs.inner.endpoints.{blank-binding, plainWord, name-p
 use Rattle.items.specs.layout.{packed, width, from-top, offset, size, layout-20, further-word, record-words, big-endian, catalogue-words, catalogue-bytes, word-count, text-limit}
 use Rattle.items.specs.buffers.{put}
 use Rattle.items.specs.answers.{NameIn, wordBetween}
-use Rattle.items.specs.answers.endpoints.{NamedTo, deviceTypeAt, InstanceIn, attributeInstanceAt, valueOf, valueLost, valueAnswer, ValueIn, ValueTo, SpanIn, DefaultIn, optionalValue, defaultOf, OptionalTo}
+use Rattle.items.specs.answers.endpoints.{deviceTypeAt, InstanceIn, attributeInstanceAt, valueOf, valueLost, valueAnswer, ValueIn, ValueTo, SpanIn, DefaultIn, optionalValue, defaultOf, OptionalTo}
 use Rattle.items.specs.declared.endpoints.DeviceTypeParts.{DeviceTypeParts}
 use Rattle.items.specs.declared.endpoints.AttributeInstanceParts.{AttributeInstanceParts}
-use Rattle.items.specs.declared.endpoints.Named.{Named}
-use Rattle.items.specs.declared.endpoints.Named.the-variants.{Name}
 use Rattle.items.specs.declared.endpoints.SpanParts.{SpanParts}
 use Rattle.items.specs.declared.endpoints.DefaultValue.{DefaultValue}
 use Rattle.items.specs.declared.endpoints.DefaultValue.the-variants.{Number as Num, Signed as SignedValue, Truth, Text}
@@ -77,14 +75,6 @@ default-on = walks (default-attribute-value-local .on-chain)
 
 pub optional-on : Onward (opt (whitespace1 >> default-attribute-value))
 optional-on = walks (chain-opt (chain-then whitespace1-chain (default-attribute-value-local .on-chain)))
-
--- names
-module _ {m : Parser Word} {n : ℕ} {r : List ℕ} {a : Named} {x e c : ℕ} (h : NamedTo m a n r) (d : a ≡ Name x e c) where
-  pub named-in : NameIn n x e c
-  named-in = read-within h d
-
-  pub named-took : (w : Onward m) {b : ℕ} {u : List ℕ} → Rest b u n r → Took m b u n (wordBetween b u x e) c
-  named-took w {b} {u} q = rw (← word-moved b n u r x e q (named-in .from)) (read-took h d w q refl)
 
 -- a number that another reader than that of integers gives
 pub number-took : {m : Parser ℕ} (w : Onward m) {b n : ℕ} {u r : List ℕ} {a : Number} {v c : ℕ} → Rest b u n r → a ≡ Value v c → numberReply a n r ≡ m n r → Took m b u n v c

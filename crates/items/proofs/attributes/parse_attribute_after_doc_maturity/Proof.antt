@@ -10,7 +10,7 @@ use mathlib.Core.Path.{refl}
 use native.Mathlib.Omega.{arith}
 use Rattle.lexing.specs.bytes.{ascii}
 use Rattle.lexing.proofs.Slicing.{rest-self, begin, go, on, lose, fall, done, set-took}
-use Rattle.items.proofs.Answers.{read-is, read-not, read-took, read-lost}
+use Rattle.items.proofs.Answers.{read-is, read-not, read-lost, read-took}
 use Rattle.items.proofs.Pairs.{pair-on, pair-fall}
 use Rattle.items.proofs.steps.Laws.{blank-at-took, gap-at-took, tag-behind-took, keyword-behind-took, skips-lost}
 use Rattle.items.specs.answers.attributes.{privilegesLost}

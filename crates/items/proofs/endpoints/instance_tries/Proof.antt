@@ -7,12 +7,14 @@ use mathlib.Core.List.{[], _∷_}
 use Rattle.lexing.proofs.Slicing.{rest-self}
 use Rattle.items.specs.endpoints.{attribute-instantiation, Instance, attribute-instance, command-instance, event-instance, instance-tries}
 use Rattle.items.specs.records.{instance-record}
-use Rattle.items.specs.answers.endpoints.{namedLost, attributeInstanceLost}
+use Rattle.items.specs.answers.names.{namedLost}
+use Rattle.items.specs.answers.endpoints.{attributeInstanceLost}
 use Rattle.items.proofs.Answers.{read-took, read-lost}
 use Rattle.items.proofs.Mapped.{mapped-not}
 use Rattle.items.proofs.Locality.{attribute-instantiation-consumes, named-after-consumes}
 use Rattle.items.proofs.endpoints.Deep.{weighed-not, intercept-next, intercept-stop, intercept-last, try-here, try-is}
-use Rattle.items.proofs.endpoints.Laws.{named-took, attribute-instance-on, named-after-on, attribute-words, command-words, event-words}
+use Rattle.items.proofs.names.Laws.{named-took}
+use Rattle.items.proofs.endpoints.Laws.{attribute-instance-on, named-after-on, attribute-words, command-words, event-words}
 
 attribute-instantiation-requires : tie.Need-attribute-instantiation-requires
 attribute-instantiation-requires c κs = search needs
