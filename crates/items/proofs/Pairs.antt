@@ -3,7 +3,7 @@ use mathlib.Core.Path.{_≡_, refl, _∙_}
 use mathlib.Core.List.{List}
 use Prim.Native.Nat.{ℕ, _-_}
 use lib.ListN.{drop}
-use Rattle.lexing.specs.reply.{Reply, ok, fail, stop, Parser, _>>=_, _>>_}
+use Rattle.lexing.specs.reply.{Reply, ok, fail, stop, Parser, ret, _>>=_, _>>_}
 use Rattle.lexing.specs.answers.{Rest, lostReply}
 use Rattle.lexing.specs.declared.answers.Lost.{Lost}
 use Rattle.lexing.proofs.Slicing.{Took, go, lose}
@@ -66,3 +66,51 @@ module _ {A B C D E : Type 0} (m : Parser A) (p : Parser B) (q : Parser C) (s : 
 
     pub four-lose : {r : List ℕ} (l : Lost) → Rest b u n r → lostReply l ≡ (m >> (p >> (q >> s))) n r → lostReply l ≡ (m >> (p >> (q >> (s >>= k)))) n (drop (n - b) u)
     four-lose l w e = lose (m >> (p >> (q >> s))) k l w e ∙ four-assoc n (drop (n - b) u)
+
+-- a step and what closes it
+bind-at : {A B C : Type 0} (g : A → Parser B) (k : B → Parser C) (x : Reply A) (n : ℕ) (v : List ℕ) → (((λ b u. x) >>= g) >>= k) n v ≡ ((λ b u. x) >>= (λ a. g a >>= k)) n v
+unfolding _>>=_
+bind-at g k (ok a c r) n v = refl
+bind-at g k (fail q) n v = refl
+bind-at g k (stop i q) n v = refl
+
+bind-same-at : {A B : Type 0} (g h : A → Parser B) → ((a : A) (n : ℕ) (v : List ℕ) → g a n v ≡ h a n v) → (x : Reply A) (n : ℕ) (v : List ℕ) → ((λ b u. x) >>= g) n v ≡ ((λ b u. x) >>= h) n v
+unfolding _>>=_
+bind-same-at g h e (ok a c r) n v = e a c r
+bind-same-at g h e (fail q) n v = refl
+bind-same-at g h e (stop i q) n v = refl
+
+bind-same : {A B : Type 0} (m : Parser A) (g h : A → Parser B) → ((a : A) (n : ℕ) (v : List ℕ) → g a n v ≡ h a n v) → (n : ℕ) (v : List ℕ) → (m >>= g) n v ≡ (m >>= h) n v
+unfolding _>>=_
+bind-same m g h e n v = bind-same-at g h e (m n v) n v
+
+bind-assoc : {A B C : Type 0} (m : Parser A) (g : A → Parser B) (k : B → Parser C) (n : ℕ) (v : List ℕ) → ((m >>= g) >>= k) n v ≡ (m >>= (λ a. g a >>= k)) n v
+unfolding _>>=_
+bind-assoc m g k n v = bind-at g k (m n v) n v
+
+ret-first : {A B : Type 0} (a : A) (k : A → Parser B) (n : ℕ) (v : List ℕ) → (ret a >>= k) n v ≡ k a n v
+unfolding _>>=_ ret
+ret-first a k n v = refl
+
+module _ {A B C D E : Type 0} (m : Parser A) (p : Parser B) (q : Parser C) (s : Parser D) (k : B → Parser E) where
+  abbrev closing : B → Parser B
+  closing x = q >> (s >> ret x)
+
+  abbrev closed-then : B → Parser E
+  closed-then x = q >> (s >> k x)
+
+  closing-then : (x : B) (n : ℕ) (v : List ℕ) → (closing x >>= k) n v ≡ closed-then x n v
+  closing-then x n v = three-assoc q s (ret x) k n v ∙ then-same q (s >> (ret x >>= k)) (s >> k x) (then-same s (ret x >>= k) (k x) (ret-first x k)) n v
+
+  bound : (n : ℕ) (v : List ℕ) → ((p >>= closing) >>= k) n v ≡ (p >>= closed-then) n v
+  bound n v = bind-assoc p closing k n v ∙ bind-same p (λ x. closing x >>= k) closed-then closing-then n v
+
+  closed-assoc : (n : ℕ) (v : List ℕ) → ((m >> (p >>= closing)) >>= k) n v ≡ (m >> (p >>= closed-then)) n v
+  closed-assoc n v = then-assoc m (p >>= closing) k n v ∙ then-same m ((p >>= closing) >>= k) (p >>= closed-then) bound n v
+
+  module _ {b n : ℕ} {u : List ℕ} where
+    pub closed-go : {X : Reply E} {a : B} {c : ℕ} → Took (m >> (p >>= (λ x. q >> (s >> ret x)))) b u n a c → X ≡ k a c (drop (c - b) u) → X ≡ (m >> (p >>= (λ x. q >> (s >> k x)))) n (drop (n - b) u)
+    closed-go t e = go k t e ∙ closed-assoc n (drop (n - b) u)
+
+    pub closed-lose : {r : List ℕ} (l : Lost) → Rest b u n r → lostReply l ≡ (m >> (p >>= (λ x. q >> (s >> ret x)))) n r → lostReply l ≡ (m >> (p >>= (λ x. q >> (s >> k x)))) n (drop (n - b) u)
+    closed-lose l w e = lose (m >> (p >>= closing)) k l w e ∙ closed-assoc n (drop (n - b) u)

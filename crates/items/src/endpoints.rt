@@ -12,7 +12,8 @@ ghost use Rattle.items.specs.records.{each, twos-complement, default-num
 ghost use Rattle.items.specs.endpoints.{name-behind, named-after, device-version, value-tries, default-attribute-value, deep-run, deep-braces, instance-tries, instantiation, instantiation-head, cluster-instantiation, part-tries, endpoint-head, endpoint};
 ghost use Rattle.items.specs.answers.{NameIn, CountTo, Room, Written};
 ghost use Rattle.items.specs.answers.names.{NamedTo};
-ghost use Rattle.items.specs.answers.endpoints.{DeviceTypeTo, deviceTypeLost, HandlingTo, handlingLost, ValueTo, valueLost, valueOf, SpanIn, optionalValue, DefaultTo, DefaultIn, defaultOf, defaultLost, InstanceIn, AttributeInstanceTo, attributeInstanceLost, triedLost, TriedTo, DeepTo, TryRoom, TryWritten};
+ghost use Rattle.items.specs.answers.endpoints.{DeviceTypeTo, deviceTypeLost, HandlingTo, handlingLost, ValueTo, valueOf, SpanIn, optionalValue, DefaultTo, DefaultIn, defaultOf, defaultLost, InstanceIn, AttributeInstanceTo, attributeInstanceLost, triedLost, TriedTo, DeepTo, TryRoom, TryWritten};
+ghost use Rattle.items.specs.declared.endpoints.ValueRead.the-variants.{NoValue};
 ghost use Rattle.items.specs.inner.endpoints.{furtherLost, triedEnd, deep-close, deep-rest, blank-binding, plainWord, name-parts, device-parts, instance-parts, endpoint-first};
 use crate::counts::Count;
 use crate::counts::count_lost;
@@ -288,26 +289,23 @@ pub fn default_attribute_value(part: &[u8], base: usize) -> ValueRead
     value_tries(rest_at(part, base, c3), c3)
 }
 
-pub fn value_lost(r: ValueRead) -> Lost
-    ensures { λ x. ⌜ x ≡ valueLost r ⌝ }
+// No value at an offset: where it fails nothing is read, and a stop goes on.
+fn no_default(l: Lost, base: usize) -> DefaultRead
+    ensures { λ x. ⌜ x ≡ optionalValue (NoValue l) base ⌝ }
 {
-    match r {
-        ValueRead::Read(_, c) => Lost::Fail(c),
-        ValueRead::NoValue(l) => l,
-    }
-}
-
-// A value that may be absent, at an offset: where it fails nothing is read, and a stop goes on.
-fn optional_value(r: ValueRead, base: usize) -> DefaultRead
-    ensures { λ x. ⌜ x ≡ optionalValue r base ⌝ }
-{
-    if let ValueRead::Read(v, c) = r {
-        return DefaultRead::Optional(Default::Present(v), c);
-    }
-    let l = value_lost(r);
     match l {
         Lost::Fail(_) => DefaultRead::Optional(Default::Absent, base),
         Lost::Stop(n, p) => DefaultRead::NoDefault(Lost::Stop(n, p)),
+    }
+}
+
+// A value that may be absent, at an offset.
+fn optional_value(r: ValueRead, base: usize) -> DefaultRead
+    ensures { λ x. ⌜ x ≡ optionalValue r base ⌝ }
+{
+    match r {
+        ValueRead::Read(v, c) => DefaultRead::Optional(Default::Present(v), c),
+        ValueRead::NoValue(l) => no_default(l, base),
     }
 }
 
@@ -318,7 +316,7 @@ fn optional_default(part: &[u8], base: usize) -> DefaultRead
 {
     let gap = whitespace1(part, base);
     let Gap::Passed(w) = gap else {
-        return optional_value(ValueRead::NoValue(gap_lost(gap)), base);
+        return no_default(gap_lost(gap), base);
     };
     let c1 = w.next;
     let value = default_attribute_value(rest_at(part, base, c1), c1);

@@ -282,15 +282,12 @@ pub fn write_entries_list(part: &[u8], base: usize, out: &mut [u8], at: usize) -
         return nothing;
     };
     let run = write_entries(rest_at(part, base, c1), c1, out, at);
-    let c2 = run.next;
-    let w = whitespace0(rest_at(part, base, c2), c2);
-    let c3 = w.next;
-    let close = tag(rest_at(part, base, c3), c3, b'}');
-    let Step::Next(c4) = close else {
+    let close = tag_behind(part, base, run.next, b'}');
+    let Step::Next(c2) = close else {
         return nothing;
     };
     Wrote {
-        next: c4,
+        next: c2,
         to: run.to,
     }
 }

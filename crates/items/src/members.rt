@@ -8,10 +8,11 @@ ghost use Rattle.lexing.specs.answers.{docOf};
 ghost use Rattle.items.specs.layout.{text-limit, layout-20, further-word, catalogue-bytes};
 ghost use Rattle.items.specs.buffers.{put};
 ghost use Rattle.items.specs.records.{spanned, event-records};
-ghost use Rattle.items.specs.members.{access-privilege, event-priority, access-to, invoke-access, parse-event-after-doc-maturity, parse-command-after-doc-maturity};
+ghost use Rattle.items.specs.members.{or-else, access-privilege, event-priority, access-to, invoke-access, parse-event-after-doc-maturity, parse-command-after-doc-maturity};
 ghost use Rattle.items.specs.answers.{CountTo, FrontFits, Room, Written};
 ghost use Rattle.items.specs.answers.members.{levelLost, LevelTo, levelOr, eventQualitiesLost, EventQualitiesTo, eventHeadLost, EventHeadTo, EventCountTo, commandHeadLost, CommandHeadTo, commandTypesLost, CommandTypesTo, commandLost, EventHeadBetween, CommandBetween, CommandTo, command-records};
-ghost use Rattle.items.specs.inner.members.{extentIf, commandFront, command-parts, event-first};
+ghost use Rattle.items.specs.clusters.{mapped};
+ghost use Rattle.items.specs.inner.members.{event-access, extentIf, commandFront, command-parts, event-first};
 use crate::counts::Count;
 use crate::names::Named;
 use crate::names::code_behind;
@@ -222,6 +223,26 @@ pub fn access_to(part: &[u8], base: usize, key: &[u8]) -> Level
     Level::Chosen(p, c7)
 }
 
+// The keyword `event`, and the privilege to read the event.
+fn event_access(part: &[u8], base: usize) -> Level
+    requires { ⌜ base + length (now part) ≤ text-limit ⌝ }
+    ensures { λ r. ⌜ LevelTo (mapped event-access (or-else 0)) r base (now (part .entry)) ⌝ }
+{
+    let gap1 = gap_at(part, base, base);
+    let Step::Next(c1) = gap1 else {
+        return Level::NoLevel(step_lost(gap1));
+    };
+    let event = keyword(rest_at(part, base, c1), c1, b"event");
+    let Step::Next(c2) = event else {
+        return Level::NoLevel(step_lost(event));
+    };
+    let gap2 = gap_at(part, base, c2);
+    let Step::Next(c3) = gap2 else {
+        return Level::NoLevel(step_lost(gap2));
+    };
+    level_or(access_to(rest_at(part, base, c3), c3, b"read"), 0, c3)
+}
+
 pub fn event_qualities(part: &[u8], base: usize) -> EventQualitiesRead
     requires { ⌜ base + length (now part) ≤ text-limit ⌝ }
     ensures { λ r. ⌜ EventQualitiesTo r base (now (part .entry)) ⌝ }
@@ -233,20 +254,8 @@ pub fn event_qualities(part: &[u8], base: usize) -> EventQualitiesRead
     let Level::Chosen(rank, c3) = priority else {
         return EventQualitiesRead::NoEventQualities(level_lost(priority));
     };
-    let gap1 = gap_at(part, base, c3);
-    let Step::Next(c4) = gap1 else {
-        return EventQualitiesRead::NoEventQualities(step_lost(gap1));
-    };
-    let event = keyword(rest_at(part, base, c4), c4, b"event");
-    let Step::Next(c5) = event else {
-        return EventQualitiesRead::NoEventQualities(step_lost(event));
-    };
-    let gap2 = gap_at(part, base, c5);
-    let Step::Next(c6) = gap2 else {
-        return EventQualitiesRead::NoEventQualities(step_lost(gap2));
-    };
-    let access = level_or(access_to(rest_at(part, base, c6), c6, b"read"), 0, c6);
-    let Level::Chosen(privilege, c7) = access else {
+    let access = event_access(rest_at(part, base, c3), c3);
+    let Level::Chosen(privilege, c4) = access else {
         return EventQualitiesRead::NoEventQualities(level_lost(access));
     };
     let sensitive = q.flags;
@@ -256,7 +265,7 @@ pub fn event_qualities(part: &[u8], base: usize) -> EventQualitiesRead
             rank,
             privilege,
         },
-        c7,
+        c4,
     )
 }
 

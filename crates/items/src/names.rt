@@ -4,8 +4,8 @@ ghost use Prim.Native.Nat.{_+_, _≤_};
 ghost use lib.ListN.{length};
 ghost use Rattle.lexing.specs.integers.{u64-max};
 ghost use Rattle.items.specs.layout.{text-limit};
-ghost use Rattle.items.specs.answers.{NumberAt};
-ghost use Rattle.items.specs.answers.names.{namedLost, NamedTo, keyword-name, type-behind, code-behind};
+ghost use Rattle.items.specs.answers.{NumberAt, behind-blanks};
+ghost use Rattle.items.specs.answers.names.{namedLost, NamedTo, keyword-name, type-behind, equals-code};
 use crate::steps::blank_at;
 use crate::steps::gap_at;
 use crate::steps::integer_behind;
@@ -17,6 +17,7 @@ use lexing::integers::Number;
 use lexing::parts::rest_at;
 use lexing::words::keyword;
 use lexing::words::parse_id;
+use lexing::words::tag;
 
 // Where a name starts and ends, and the offset behind all that was read.
 pub enum Named {
@@ -71,13 +72,22 @@ pub fn type_behind(part: &[u8], base: usize) -> Named
 }
 
 // An equals sign and a code.
-pub fn code_behind(part: &[u8], base: usize, c: usize) -> Number
+pub fn code_at(part: &[u8], base: usize, c: usize) -> Number
     requires { ⌜ ((base ≤ c) × (c ≤ base + length (now part))) × (base + length (now part) ≤ u64-max) ⌝ }
-    ensures { λ r. ⌜ NumberAt code-behind r base (now (part .entry)) c ⌝ }
+    ensures { λ r. ⌜ NumberAt equals-code r base (now (part .entry)) c ⌝ }
 {
-    let equals = tag_behind(part, base, c, b'=');
+    let equals = tag(rest_at(part, base, c), c, b'=');
     let Step::Next(c1) = equals else {
         return Number::NoNumber(step_lost(equals));
     };
     integer_behind(part, base, c1)
+}
+
+// The same behind blanks.
+pub fn code_behind(part: &[u8], base: usize, c: usize) -> Number
+    requires { ⌜ ((base ≤ c) × (c ≤ base + length (now part))) × (base + length (now part) ≤ u64-max) ⌝ }
+    ensures { λ r. ⌜ NumberAt (behind-blanks equals-code) r base (now (part .entry)) c ⌝ }
+{
+    let n = blank_at(part, base, c);
+    code_at(part, base, n)
 }

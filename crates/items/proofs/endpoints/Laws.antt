@@ -34,7 +34,7 @@ use Rattle.items.specs.inner.endpoints.{blank-binding, plainWord, name-p
 use Rattle.items.specs.layout.{packed, width, from-top, offset, size, layout-20, further-word, record-words, big-endian, catalogue-words, catalogue-bytes, word-count, text-limit}
 use Rattle.items.specs.buffers.{put}
 use Rattle.items.specs.answers.{NameIn, wordBetween}
-use Rattle.items.specs.answers.endpoints.{deviceTypeAt, InstanceIn, attributeInstanceAt, valueOf, valueLost, valueAnswer, ValueIn, ValueTo, SpanIn, DefaultIn, optionalValue, defaultOf, OptionalTo}
+use Rattle.items.specs.answers.endpoints.{deviceTypeAt, InstanceIn, attributeInstanceAt, valueOf, valueAnswer, ValueIn, ValueTo, SpanIn, DefaultIn, optionalValue, defaultOf, OptionalTo}
 use Rattle.items.specs.declared.endpoints.DeviceTypeParts.{DeviceTypeParts}
 use Rattle.items.specs.declared.endpoints.AttributeInstanceParts.{AttributeInstanceParts}
 use Rattle.items.specs.declared.endpoints.SpanParts.{SpanParts}
@@ -138,14 +138,8 @@ module _ (b : ℕ) (u : List ℕ) {a : Step} (h : stringReply a b u ≡ default-
     text-past = string-past (default-string b u) (string-place default-escape b u) l' lost-string
 
 -- a value that may be absent
-value-told : (r : ValueRead) (l k x : Lost) → r ≡ NoValue k → l ≡ valueLost r → l ≡ x → r ≡ NoValue x
-value-told r l k x e d z = e ∙ ap NoValue (sym (d ∙ ap valueLost e) ∙ z)
-
 pub optional-at : (r : ValueRead) (b : ℕ) {x : ValueRead} → r ≡ x → optionalValue x b ≡ optionalValue r b
 optional-at r b e = sym (ap (λ (y : ValueRead). optionalValue y b) e)
-
-pub optional-told : (r : ValueRead) (b : ℕ) (l k x : Lost) → r ≡ NoValue k → l ≡ valueLost r → l ≡ x → optionalValue (NoValue x) b ≡ optionalValue r b
-optional-told r b l k x e d z = optional-at r b (value-told r l k x e d z)
 
 optional-to : {m : Parser DefaultOf} (a : ValueRead) (b : ℕ) (u : List ℕ) → ValueTo m a b u → OptionalTo m (optionalValue a b) b u
 optional-to {m} (Read v c) b u h = record { reads = opt-ok m b u (valueOf v) c (drop (c - b) u) (h .reads); within = h .within }

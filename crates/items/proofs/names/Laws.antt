@@ -14,14 +14,13 @@ use Rattle.lexing.specs.declared.integers.Number.{Number}
 use Rattle.lexing.specs.declared.integers.Number.the-variants.{Value, NoNumber}
 use Rattle.lexing.proofs.Onward.{Onward, advances-onward, parse-id-advances, tag-advances, integer-advances}
 use Rattle.lexing.proofs.TokenLocality.{keyword-chain, whitespace0-chain, whitespace1-chain}
-use Rattle.lexing.proofs.Slicing.{Took, took, walks, rebase, integer-lost}
+use Rattle.lexing.proofs.Slicing.{Took, took, on, walks, rebase, integer-lost}
 use Rattle.items.specs.answers.{NameIn, NumberAt, wordBetween}
-use Rattle.items.specs.answers.names.{NamedIn, NamedTo, keyword-name, type-behind, code-behind}
+use Rattle.items.specs.answers.names.{NamedIn, NamedTo, keyword-name, type-behind, equals-code}
 use Rattle.items.specs.declared.names.Named.{Named}
 use Rattle.items.specs.declared.names.Named.the-variants.{Name}
 use Rattle.items.proofs.Answers.{read-within, read-took}
 use Rattle.items.proofs.Onward.{onward-then}
-use Rattle.items.proofs.Pairs.{pair-on}
 use Rattle.items.proofs.WordBetween.{word-moved}
 
 behind-on : {A : Type 0} {m : Parser A} → Onward m → Onward (whitespace0 >> m)
@@ -33,11 +32,14 @@ keyword-name-on k = onward-then (walks (keyword-chain k)) (onward-then (walks wh
 pub type-behind-on : Onward type-behind
 type-behind-on = behind-on (onward-then (advances-onward (tag-advances 58)) (behind-on (advances-onward parse-id-advances)))
 
-integer-on : Onward (whitespace0 >> positive-integer)
+pub integer-on : Onward (whitespace0 >> positive-integer)
 integer-on = behind-on (advances-onward integer-advances)
 
-code-behind-on : Onward code-behind
-code-behind-on = behind-on (onward-then (advances-onward (tag-advances 61)) integer-on)
+pub equals-code-on : Onward equals-code
+equals-code-on = onward-then (advances-onward (tag-advances 61)) integer-on
+
+pub code-behind-on : Onward (whitespace0 >> equals-code)
+code-behind-on = behind-on equals-code-on
 
 -- a word reads a byte or more
 pub name-more : {b n : ℕ} {u : List ℕ} {a : Word} {c : ℕ} → Took parse-id b u n a c → n < c
@@ -57,17 +59,17 @@ module _ {m : Parser Word} {n : ℕ} {r : List ℕ} {a : Named} {x e c : ℕ} (h
   pub named-took : (w : Onward m) {b : ℕ} {u : List ℕ} → Rest b u n r → Took m b u n (wordBetween b u x e) c
   named-took w {b} {u} q = rw (← word-moved b n u r x e q (named-in .from)) (read-took h d w q refl)
 
-module _ {b n : ℕ} {u : List ℕ} where
-  -- the integer behind an equals sign that was read
-  pub code-is : (r : Number) {a : Unit {0}} {c : ℕ} → Rest b u n (drop (n - b) u) → Took (whitespace0 >> tag 61) b u n a c → NumberAt (whitespace0 >> positive-integer) r b u c → NumberAt code-behind r b u n
-  code-is (Value v e) q t h =
-      let s : Took (whitespace0 >> positive-integer) b u _ v e = took integer-on (h .at) (h .reads) in
-      record { at = q; reads = ap (λ z. ok v e z) (rebase b n e u (q .from) (omega (arith, t .up, s .up))) ∙ pair-on _ _ _ t (sym (s .goes)) }
-  code-is (NoNumber l) q t h = record { at = q; reads = pair-on _ _ _ t (h .reads) }
+-- a number from an offset of a part: behind a step that was read, taken and lost
+module _ {b n : ℕ} {u : List ℕ} {m : Parser ℕ} where
+  pub number-after : {A : Type 0} {k : Parser A} → Onward m → (r : Number) {a : A} {c : ℕ} → Rest b u n (drop (n - b) u) → Took k b u n a c → NumberAt m r b u c → NumberAt (k >> m) r b u n
+  number-after w (Value v e) q t h =
+      let s : Took m b u _ v e = took w (h .at) (h .reads) in
+      record { at = q; reads = ap (λ z. ok v e z) (rebase b n e u (q .from) (omega (arith, t .up, s .up))) ∙ on m t (sym (s .goes)) }
+  number-after w (NoNumber l) q t h = record { at = q; reads = on m t (h .reads) }
 
-  module _ {a : Number} (h : NumberAt code-behind a b u n) where
-    pub code-took : {v c : ℕ} → a ≡ Value v c → Took code-behind b u n v c
-    code-took e = took code-behind-on (h .at) (subst (λ (x : Number). numberReply x n (drop (n - b) u) ≡ code-behind n (drop (n - b) u)) e (h .reads))
+  module _ {a : Number} (h : NumberAt m a b u n) where
+    pub number-at-took : Onward m → {v c : ℕ} → a ≡ Value v c → Took m b u n v c
+    number-at-took w e = took w (h .at) (subst (λ (x : Number). numberReply x n (drop (n - b) u) ≡ m n (drop (n - b) u)) e (h .reads))
 
-    pub code-lost : {l l' : Lost} → l' ≡ numberLost a → a ≡ NoNumber l → lostReply l' ≡ code-behind n (drop (n - b) u)
-    code-lost e d = integer-lost e d n (drop (n - b) u) (code-behind n (drop (n - b) u)) (h .reads)
+    pub number-at-lost : {l l' : Lost} → l' ≡ numberLost a → a ≡ NoNumber l → lostReply l' ≡ m n (drop (n - b) u)
+    number-at-lost e d = integer-lost e d n (drop (n - b) u) (m n (drop (n - b) u)) (h .reads)

@@ -88,10 +88,6 @@ abbrev pub valueAnswer : ℕ → List ℕ → ValueRead → Answer DefaultOf
 valueAnswer b u (Read v c) = got (valueOf v) c
 valueAnswer b u (NoValue l) = lost l
 
-abbrev pub valueLost : ValueRead → Lost
-valueLost (Read v c) = Fail c
-valueLost (NoValue l) = l
-
 abbrev pub ValueIn : ℕ → ValueRead → Type 0
 ValueIn b (Read v c) = SpanIn v c
 ValueIn b (NoValue l) = Unit {0}

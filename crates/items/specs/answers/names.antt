@@ -29,9 +29,8 @@ type-behind = do
   parse-id
 
 -- an equals sign and a code
-abbrev pub code-behind : Parser ℕ
-code-behind = do
-  whitespace0
+abbrev pub equals-code : Parser ℕ
+equals-code = do
   tag (byte "=")
   whitespace0
   positive-integer

@@ -11,7 +11,7 @@ use Rattle.items.proofs.Answers.{read-is, read-not, last-lost}
 use Rattle.items.proofs.Pairs.{four-go, four-lose}
 use Rattle.items.proofs.maturity.Laws.{maturity-took}
 use Rattle.items.proofs.steps.Laws.{blank-at-took}
-use Rattle.items.proofs.names.Laws.{code-took, code-lost}
+use Rattle.items.proofs.names.Laws.{code-behind-on, number-at-took, number-at-lost}
 
 blank-at-requires : tie.Need-blank-at-requires
 blank-at-requires c κs = omega (arith, c .before .pre)
@@ -58,10 +58,10 @@ number-lost-requires c κs = tt
 
 returns-2 : tie.Need-returns-2
 unfolding constant-entry entry-end
-returns-2 c = read-not _ refl tt (begin (constant-entry) _ _ (on _ (blank-at-took (c .before .before .before .before .before .before .before .before .before .before .before .before .blank-at .ensures)) (go _ (maturity-took (c .before .before .before .before .before .before .before .before .before .before .before .rest-at .ensures) (c .before .before .before .before .before .before .before .before .before .before .api-maturity .ensures)) (on _ (blank-at-took (c .before .before .before .before .before .before .before .before .before .blank-at2 .ensures)) (go _ (word-took (c .before .before .before .before .before .before .before .before .rest-at2 .ensures) (c .before .before .before .before .before .name .given .1) (c .before .before .before .before .before .before .before .parse-id .ensures)) (four-lose _ _ _ _ _ (c .number-lost .result) (c .before .before .before .code-behind .ensures .at) (code-lost (c .before .before .before .code-behind .ensures) (c .number-lost .ensures) (c .before .enum-told2 .given .1))))))))
+returns-2 c = read-not _ refl tt (begin (constant-entry) _ _ (on _ (blank-at-took (c .before .before .before .before .before .before .before .before .before .before .before .before .blank-at .ensures)) (go _ (maturity-took (c .before .before .before .before .before .before .before .before .before .before .before .rest-at .ensures) (c .before .before .before .before .before .before .before .before .before .before .api-maturity .ensures)) (on _ (blank-at-took (c .before .before .before .before .before .before .before .before .before .blank-at2 .ensures)) (go _ (word-took (c .before .before .before .before .before .before .before .before .rest-at2 .ensures) (c .before .before .before .before .before .name .given .1) (c .before .before .before .before .before .before .before .parse-id .ensures)) (four-lose _ _ _ _ _ (c .number-lost .result) (c .before .before .before .code-behind .ensures .at) (number-at-lost (c .before .before .before .code-behind .ensures) (c .number-lost .ensures) (c .before .enum-told2 .given .1))))))))
 
 rest-at-requires-3 : tie.Need-rest-at-requires-3
-rest-at-requires-3 c κs = let t = code-took (c .before .before .before .code-behind .ensures) (c .before .value .given .1) in omega (arith, t .up, t .inside, c .before .before .before .code-behind .ensures .at .from)
+rest-at-requires-3 c κs = let t = number-at-took (c .before .before .before .code-behind .ensures) code-behind-on (c .before .value .given .1) in omega (arith, t .up, t .inside, c .before .before .before .code-behind .ensures .at .from)
 
 entry-end-requires : tie.Need-entry-end-requires
 entry-end-requires c κs = omega (arith, c .rest-at3 .ensures .size, c .before .before .before .before .before .before .before .before .before .before .before .before .before .before .before .pre)
@@ -77,11 +77,11 @@ step-lost-requires-2 c κs = tt
 
 returns-3 : tie.Need-returns-3
 unfolding constant-entry entry-end
-returns-3 c = read-not _ refl tt (begin (constant-entry) _ _ (on _ (blank-at-took (c .before .before .before .before .before .before .before .before .before .before .before .before .before .before .before .before .before .blank-at .ensures)) (go _ (maturity-took (c .before .before .before .before .before .before .before .before .before .before .before .before .before .before .before .before .rest-at .ensures) (c .before .before .before .before .before .before .before .before .before .before .before .before .before .before .before .api-maturity .ensures)) (on _ (blank-at-took (c .before .before .before .before .before .before .before .before .before .before .before .before .before .before .blank-at2 .ensures)) (go _ (word-took (c .before .before .before .before .before .before .before .before .before .before .before .before .before .rest-at2 .ensures) (c .before .before .before .before .before .before .before .before .before .before .name .given .1) (c .before .before .before .before .before .before .before .before .before .before .before .before .parse-id .ensures)) (four-go _ _ _ _ _ (code-took (c .before .before .before .before .before .before .before .before .code-behind .ensures) (c .before .before .before .before .before .before .value .given .1)) (last-lost (entry-end _) (c .step-lost2 .result) (c .before .before .before .before .rest-at3 .ensures) (end-none _ (c .step-lost2 .ensures) (c .before .enum-told3 .given .1) (c .before .before .before .entry-end .ensures)))))))))
+returns-3 c = read-not _ refl tt (begin (constant-entry) _ _ (on _ (blank-at-took (c .before .before .before .before .before .before .before .before .before .before .before .before .before .before .before .before .before .blank-at .ensures)) (go _ (maturity-took (c .before .before .before .before .before .before .before .before .before .before .before .before .before .before .before .before .rest-at .ensures) (c .before .before .before .before .before .before .before .before .before .before .before .before .before .before .before .api-maturity .ensures)) (on _ (blank-at-took (c .before .before .before .before .before .before .before .before .before .before .before .before .before .before .blank-at2 .ensures)) (go _ (word-took (c .before .before .before .before .before .before .before .before .before .before .before .before .before .rest-at2 .ensures) (c .before .before .before .before .before .before .before .before .before .before .name .given .1) (c .before .before .before .before .before .before .before .before .before .before .before .before .parse-id .ensures)) (four-go _ _ _ _ _ (number-at-took (c .before .before .before .before .before .before .before .before .code-behind .ensures) code-behind-on (c .before .before .before .before .before .before .value .given .1)) (last-lost (entry-end _) (c .step-lost2 .result) (c .before .before .before .before .rest-at3 .ensures) (end-none _ (c .step-lost2 .ensures) (c .before .enum-told3 .given .1) (c .before .before .before .entry-end .ensures)))))))))
 
 returns-4 : tie.Need-returns-4
 unfolding constant-entry entry-end
-returns-4 c = read-is refl (begin (constant-entry) _ _ (on _ (blank-at-took (c .before .before .before .before .before .before .before .before .before .before .before .before .before .before .before .before .before .blank-at .ensures)) (go _ (maturity-took (c .before .before .before .before .before .before .before .before .before .before .before .before .before .before .before .before .rest-at .ensures) (c .before .before .before .before .before .before .before .before .before .before .before .before .before .before .before .api-maturity .ensures)) (on _ (blank-at-took (c .before .before .before .before .before .before .before .before .before .before .before .before .before .before .blank-at2 .ensures)) (go _ (word-took (c .before .before .before .before .before .before .before .before .before .before .before .before .before .rest-at2 .ensures) (c .before .before .before .before .before .before .before .before .before .before .name .given .1) (c .before .before .before .before .before .before .before .before .before .before .before .before .parse-id .ensures)) (four-go _ _ _ _ _ (code-took (c .before .before .before .before .before .before .before .before .code-behind .ensures) (c .before .before .before .before .before .before .value .given .1)) (sym ((end-took _ (c .before .before .before .before .rest-at3 .ensures) (c .before .last .given .1) (c .before .before .before .entry-end .ensures)) .goes)))))))) (record { from = omega (arith, (blank-at-took (c .before .before .before .before .before .before .before .before .before .before .before .before .before .before .blank-at2 .ensures)) .up, c .before .before .before .before .before .before .before .before .before .before .before .before .before .before .blank-at2 .ensures .at .from); up = (word-took (c .before .before .before .before .before .before .before .before .before .before .before .before .before .rest-at2 .ensures) (c .before .before .before .before .before .before .before .before .before .before .name .given .1) (c .before .before .before .before .before .before .before .before .before .before .before .before .parse-id .ensures)) .up; inside = omega (arith, (code-took (c .before .before .before .before .before .before .before .before .code-behind .ensures) (c .before .before .before .before .before .before .value .given .1)) .up, end-up (c .before .last .given .1) (c .before .before .before .entry-end .ensures)); small = c .before .before .before .before .before .before .before .before .before .before .before .before .before .before .before .api-maturity .ensures .small })
+returns-4 c = read-is refl (begin (constant-entry) _ _ (on _ (blank-at-took (c .before .before .before .before .before .before .before .before .before .before .before .before .before .before .before .before .before .blank-at .ensures)) (go _ (maturity-took (c .before .before .before .before .before .before .before .before .before .before .before .before .before .before .before .before .rest-at .ensures) (c .before .before .before .before .before .before .before .before .before .before .before .before .before .before .before .api-maturity .ensures)) (on _ (blank-at-took (c .before .before .before .before .before .before .before .before .before .before .before .before .before .before .blank-at2 .ensures)) (go _ (word-took (c .before .before .before .before .before .before .before .before .before .before .before .before .before .rest-at2 .ensures) (c .before .before .before .before .before .before .before .before .before .before .name .given .1) (c .before .before .before .before .before .before .before .before .before .before .before .before .parse-id .ensures)) (four-go _ _ _ _ _ (number-at-took (c .before .before .before .before .before .before .before .before .code-behind .ensures) code-behind-on (c .before .before .before .before .before .before .value .given .1)) (sym ((end-took _ (c .before .before .before .before .rest-at3 .ensures) (c .before .last .given .1) (c .before .before .before .entry-end .ensures)) .goes)))))))) (record { from = omega (arith, (blank-at-took (c .before .before .before .before .before .before .before .before .before .before .before .before .before .before .blank-at2 .ensures)) .up, c .before .before .before .before .before .before .before .before .before .before .before .before .before .before .blank-at2 .ensures .at .from); up = (word-took (c .before .before .before .before .before .before .before .before .before .before .before .before .before .rest-at2 .ensures) (c .before .before .before .before .before .before .before .before .before .before .name .given .1) (c .before .before .before .before .before .before .before .before .before .before .before .before .parse-id .ensures)) .up; inside = omega (arith, (number-at-took (c .before .before .before .before .before .before .before .before .code-behind .ensures) code-behind-on (c .before .before .before .before .before .before .value .given .1)) .up, end-up (c .before .last .given .1) (c .before .before .before .entry-end .ensures)); small = c .before .before .before .before .before .before .before .before .before .before .before .before .before .before .before .api-maturity .ensures .small })
 
 pub constant-entry-spec : {M : Type 1} → statement M
 constant-entry-spec =

@@ -11,7 +11,7 @@ use Rattle.items.proofs.Answers.{read-is, read-not, read-lost, read-too
 use Rattle.items.proofs.Pairs.{four-go, four-lose}
 use Rattle.items.proofs.Locality.{event-qualities-inside}
 use Rattle.items.proofs.steps.Laws.{blank-at-took}
-use Rattle.items.proofs.names.Laws.{code-took, code-lost}
+use Rattle.items.proofs.names.Laws.{code-behind-on, number-at-took, number-at-lost}
 use Rattle.lexing.proofs.Locality.{chain-inside}
 use Rattle.items.specs.answers.members.{eventQualitiesLost}
 
@@ -67,14 +67,14 @@ number-lost-requires c κs = tt
 
 returns-3 : tie.Need-returns-3
 unfolding event-head
-returns-3 c = read-not _ refl tt (begin (event-head) _ _ (go _ (read-took (c .before .before .before .before .before .before .before .before .before .before .before .before .before .event-qualities .ensures) (c .before .before .before .before .before .before .before .before .before .before .before .qualities .given .1) (walks (chain-inside event-qualities-inside)) (rest-self _ _) refl) (on _ (blank-at-took (c .before .before .before .before .before .before .before .before .before .blank-at .ensures)) (go _ (word-took (c .before .before .before .before .before .before .before .before .rest-at .ensures) (c .before .before .before .before .before .id .given .1) (c .before .before .before .before .before .before .before .parse-id .ensures)) (four-lose _ _ _ _ _ (c .number-lost .result) (c .before .before .before .code-behind .ensures .at) (code-lost (c .before .before .before .code-behind .ensures) (c .number-lost .ensures) (c .before .enum-told3 .given .1)))))))
+returns-3 c = read-not _ refl tt (begin (event-head) _ _ (go _ (read-took (c .before .before .before .before .before .before .before .before .before .before .before .before .before .event-qualities .ensures) (c .before .before .before .before .before .before .before .before .before .before .before .qualities .given .1) (walks (chain-inside event-qualities-inside)) (rest-self _ _) refl) (on _ (blank-at-took (c .before .before .before .before .before .before .before .before .before .blank-at .ensures)) (go _ (word-took (c .before .before .before .before .before .before .before .before .rest-at .ensures) (c .before .before .before .before .before .id .given .1) (c .before .before .before .before .before .before .before .parse-id .ensures)) (four-lose _ _ _ _ _ (c .number-lost .result) (c .before .before .before .code-behind .ensures .at) (number-at-lost (c .before .before .before .code-behind .ensures) (c .number-lost .ensures) (c .before .enum-told3 .given .1)))))))
 
 blank-at-requires-2 : tie.Need-blank-at-requires-2
-blank-at-requires-2 c κs = let t = code-took (c .before .before .before .code-behind .ensures) (c .before .number .given .1) in omega (arith, t .up, t .inside, c .before .before .before .code-behind .ensures .at .from, c .before .before .before .before .before .before .before .before .before .before .before .before .before .before .before .pre)
+blank-at-requires-2 c κs = let t = number-at-took (c .before .before .before .code-behind .ensures) code-behind-on (c .before .number .given .1) in omega (arith, t .up, t .inside, c .before .before .before .code-behind .ensures .at .from, c .before .before .before .before .before .before .before .before .before .before .before .before .before .before .before .pre)
 
 returns-4 : tie.Need-returns-4
 unfolding event-head
-returns-4 c = read-is refl (begin (event-head) _ _ (go _ (read-took (c .before .before .before .before .before .before .before .before .before .before .before .before .before .before .event-qualities .ensures) (c .before .before .before .before .before .before .before .before .before .before .before .before .qualities .given .1) (walks (chain-inside event-qualities-inside)) (rest-self _ _) refl) (on _ (blank-at-took (c .before .before .before .before .before .before .before .before .before .before .blank-at .ensures)) (go _ (word-took (c .before .before .before .before .before .before .before .before .before .rest-at .ensures) (c .before .before .before .before .before .before .id .given .1) (c .before .before .before .before .before .before .before .before .parse-id .ensures)) (four-go _ _ _ _ _ (code-took (c .before .before .before .before .code-behind .ensures) (c .before .before .number .given .1)) (on _ (blank-at-took (c .blank-at2 .ensures)) (done _ _ _ _))))))) (let w = event-qualities-small (c .before .before .before .before .before .before .before .before .before .before .before .before .before .before .event-qualities .ensures) (c .before .before .before .before .before .before .before .before .before .before .before .before .qualities .given .1) in record { sensitive = w .sensitive; rank = w .rank; privilege = w .privilege; name-from = omega (arith, (read-took (c .before .before .before .before .before .before .before .before .before .before .before .before .before .before .event-qualities .ensures) (c .before .before .before .before .before .before .before .before .before .before .before .before .qualities .given .1) (walks (chain-inside event-qualities-inside)) (rest-self _ _) refl) .up, (blank-at-took (c .before .before .before .before .before .before .before .before .before .before .blank-at .ensures)) .up); name-to = (word-took (c .before .before .before .before .before .before .before .before .before .rest-at .ensures) (c .before .before .before .before .before .before .id .given .1) (c .before .before .before .before .before .before .before .before .parse-id .ensures)) .up; before = omega (arith, (code-took (c .before .before .before .before .code-behind .ensures) (c .before .before .number .given .1)) .up, (blank-at-took (c .blank-at2 .ensures)) .up) })
+returns-4 c = read-is refl (begin (event-head) _ _ (go _ (read-took (c .before .before .before .before .before .before .before .before .before .before .before .before .before .before .event-qualities .ensures) (c .before .before .before .before .before .before .before .before .before .before .before .before .qualities .given .1) (walks (chain-inside event-qualities-inside)) (rest-self _ _) refl) (on _ (blank-at-took (c .before .before .before .before .before .before .before .before .before .before .blank-at .ensures)) (go _ (word-took (c .before .before .before .before .before .before .before .before .before .rest-at .ensures) (c .before .before .before .before .before .before .id .given .1) (c .before .before .before .before .before .before .before .before .parse-id .ensures)) (four-go _ _ _ _ _ (number-at-took (c .before .before .before .before .code-behind .ensures) code-behind-on (c .before .before .number .given .1)) (on _ (blank-at-took (c .blank-at2 .ensures)) (done _ _ _ _))))))) (let w = event-qualities-small (c .before .before .before .before .before .before .before .before .before .before .before .before .before .before .event-qualities .ensures) (c .before .before .before .before .before .before .before .before .before .before .before .before .qualities .given .1) in record { sensitive = w .sensitive; rank = w .rank; privilege = w .privilege; name-from = omega (arith, (read-took (c .before .before .before .before .before .before .before .before .before .before .before .before .before .before .event-qualities .ensures) (c .before .before .before .before .before .before .before .before .before .before .before .before .qualities .given .1) (walks (chain-inside event-qualities-inside)) (rest-self _ _) refl) .up, (blank-at-took (c .before .before .before .before .before .before .before .before .before .before .blank-at .ensures)) .up); name-to = (word-took (c .before .before .before .before .before .before .before .before .before .rest-at .ensures) (c .before .before .before .before .before .before .id .given .1) (c .before .before .before .before .before .before .before .before .parse-id .ensures)) .up; before = omega (arith, (number-at-took (c .before .before .before .before .code-behind .ensures) code-behind-on (c .before .before .number .given .1)) .up, (blank-at-took (c .blank-at2 .ensures)) .up) })
 
 pub event-head-spec : {M : Type 1} → statement M
 event-head-spec =

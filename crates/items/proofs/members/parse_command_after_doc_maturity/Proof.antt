@@ -11,7 +11,7 @@ use Rattle.items.proofs.Answers.{read-not, read-lost, read-took}
 use Rattle.items.proofs.Pairs.{pair-on, pair-fall, four-go, four-lose}
 use Rattle.items.proofs.Locality.{command-head-inside}
 use Rattle.items.proofs.steps.Laws.{tag-behind-took, skips-lost}
-use Rattle.items.proofs.names.Laws.{code-took, code-lost}
+use Rattle.items.proofs.names.Laws.{code-behind-on, number-at-took, number-at-lost}
 use Rattle.lexing.proofs.Locality.{chain-inside}
 use Rattle.items.specs.answers.members.{commandHeadLost, commandTypesLost}
 
@@ -64,10 +64,10 @@ number-lost-requires c κs = tt
 
 returns-3 : tie.Need-returns-3
 unfolding parse-command-after-doc-maturity
-returns-3 c = read-not _ refl tt (begin (parse-command-after-doc-maturity (docOf (c .before .before .before .before .before .before .before .before .before .before .before .before .before .before .args .doc)) (c .before .before .before .before .before .before .before .before .before .before .before .before .before .before .args .maturity)) _ _ (go _ (read-took (c .before .before .before .before .before .before .before .before .before .before .before .before .command-head .ensures) (c .before .before .before .before .before .before .before .before .before .before .head .given .1) (walks (chain-inside command-head-inside)) (rest-self _ _) refl) (go _ (command-types-took (c .before .before .before .before .before .before .before .command-types .ensures) (c .before .before .before .before .before .types .given .1) (c .before .before .before .before .before .before .before .before .rest-at .ensures)) (four-lose _ _ _ _ _ (c .number-lost .result) (c .before .before .before .code-behind .ensures .at) (code-lost (c .before .before .before .code-behind .ensures) (c .number-lost .ensures) (c .before .enum-told3 .given .1))))))
+returns-3 c = read-not _ refl tt (begin (parse-command-after-doc-maturity (docOf (c .before .before .before .before .before .before .before .before .before .before .before .before .before .before .args .doc)) (c .before .before .before .before .before .before .before .before .before .before .before .before .before .before .args .maturity)) _ _ (go _ (read-took (c .before .before .before .before .before .before .before .before .before .before .before .before .command-head .ensures) (c .before .before .before .before .before .before .before .before .before .before .head .given .1) (walks (chain-inside command-head-inside)) (rest-self _ _) refl) (go _ (command-types-took (c .before .before .before .before .before .before .before .command-types .ensures) (c .before .before .before .before .before .types .given .1) (c .before .before .before .before .before .before .before .before .rest-at .ensures)) (four-lose _ _ _ _ _ (c .number-lost .result) (c .before .before .before .code-behind .ensures .at) (number-at-lost (c .before .before .before .code-behind .ensures) (c .number-lost .ensures) (c .before .enum-told3 .given .1))))))
 
 tag-behind-requires : tie.Need-tag-behind-requires
-tag-behind-requires c κs = let t = code-took (c .before .before .before .code-behind .ensures) (c .before .number .given .1) in omega (arith, t .up, t .inside, c .before .before .before .code-behind .ensures .at .from, c .before .before .before .before .before .before .before .before .before .before .before .before .before .before .pre)
+tag-behind-requires c κs = let t = number-at-took (c .before .before .before .code-behind .ensures) code-behind-on (c .before .number .given .1) in omega (arith, t .up, t .inside, c .before .before .before .code-behind .ensures .at .from, c .before .before .before .before .before .before .before .before .before .before .before .before .before .before .pre)
 
 enum-known-semicolon : tie.Need-enum-known-semicolon
 enum-known-semicolon c = c .match4 .keys1
@@ -80,11 +80,11 @@ step-lost-requires c κs = tt
 
 returns-4 : tie.Need-returns-4
 unfolding parse-command-after-doc-maturity
-returns-4 c = read-not _ refl tt (begin (parse-command-after-doc-maturity (docOf (c .before .before .before .before .before .before .before .before .before .before .before .before .before .before .before .before .before .before .args .doc)) (c .before .before .before .before .before .before .before .before .before .before .before .before .before .before .before .before .before .before .args .maturity)) _ _ (go _ (read-took (c .before .before .before .before .before .before .before .before .before .before .before .before .before .before .before .before .command-head .ensures) (c .before .before .before .before .before .before .before .before .before .before .before .before .before .before .head .given .1) (walks (chain-inside command-head-inside)) (rest-self _ _) refl) (go _ (command-types-took (c .before .before .before .before .before .before .before .before .before .before .before .command-types .ensures) (c .before .before .before .before .before .before .before .before .before .types .given .1) (c .before .before .before .before .before .before .before .before .before .before .before .before .rest-at .ensures)) (four-go _ _ _ _ _ (code-took (c .before .before .before .before .before .before .before .code-behind .ensures) (c .before .before .before .before .before .number .given .1)) (pair-fall _ _ _ (c .step-lost .result) (c .before .before .before .tag-behind .ensures .at) (skips-lost (c .step-lost .ensures) (c .before .enum-told4 .given .1) (c .before .before .before .tag-behind .ensures)))))))
+returns-4 c = read-not _ refl tt (begin (parse-command-after-doc-maturity (docOf (c .before .before .before .before .before .before .before .before .before .before .before .before .before .before .before .before .before .before .args .doc)) (c .before .before .before .before .before .before .before .before .before .before .before .before .before .before .before .before .before .before .args .maturity)) _ _ (go _ (read-took (c .before .before .before .before .before .before .before .before .before .before .before .before .before .before .before .before .command-head .ensures) (c .before .before .before .before .before .before .before .before .before .before .before .before .before .before .head .given .1) (walks (chain-inside command-head-inside)) (rest-self _ _) refl) (go _ (command-types-took (c .before .before .before .before .before .before .before .before .before .before .before .command-types .ensures) (c .before .before .before .before .before .before .before .before .before .types .given .1) (c .before .before .before .before .before .before .before .before .before .before .before .before .rest-at .ensures)) (four-go _ _ _ _ _ (number-at-took (c .before .before .before .before .before .before .before .code-behind .ensures) code-behind-on (c .before .before .before .before .before .number .given .1)) (pair-fall _ _ _ (c .step-lost .result) (c .before .before .before .tag-behind .ensures .at) (skips-lost (c .step-lost .ensures) (c .before .enum-told4 .given .1) (c .before .before .before .tag-behind .ensures)))))))
 
 returns-5 : tie.Need-returns-5
 unfolding parse-command-after-doc-maturity
-returns-5 c = command-is (c .before .before .before .before .before .before .before .before .before .before .before .before .before .before .before .before .before .before .args .doc) _ _ _ _ _ _ _ _ _ (command-head-within (c .before .before .before .before .before .before .before .before .before .before .before .before .before .before .before .before .command-head .ensures) (c .before .before .before .before .before .before .before .before .before .before .before .before .before .before .head .given .1)) (command-types-within (c .before .before .before .before .before .before .before .before .before .before .before .command-types .ensures) (c .before .before .before .before .before .before .before .before .before .types .given .1)) (omega (arith, (code-took (c .before .before .before .before .before .before .before .code-behind .ensures) (c .before .before .before .before .before .number .given .1)) .up, (tag-behind-took 59 (c .before .semicolon .given .1) (c .before .before .before .tag-behind .ensures)) .up)) (begin (parse-command-after-doc-maturity (docOf (c .before .before .before .before .before .before .before .before .before .before .before .before .before .before .before .before .before .before .args .doc)) (c .before .before .before .before .before .before .before .before .before .before .before .before .before .before .before .before .before .before .args .maturity)) _ _ (go _ (read-took (c .before .before .before .before .before .before .before .before .before .before .before .before .before .before .before .before .command-head .ensures) (c .before .before .before .before .before .before .before .before .before .before .before .before .before .before .head .given .1) (walks (chain-inside command-head-inside)) (rest-self _ _) refl) (go _ (command-types-took (c .before .before .before .before .before .before .before .before .before .before .before .command-types .ensures) (c .before .before .before .before .before .before .before .before .before .types .given .1) (c .before .before .before .before .before .before .before .before .before .before .before .before .rest-at .ensures)) (four-go _ _ _ _ _ (code-took (c .before .before .before .before .before .before .before .code-behind .ensures) (c .before .before .before .before .before .number .given .1)) (pair-on _ _ _ (tag-behind-took 59 (c .before .semicolon .given .1) (c .before .before .before .tag-behind .ensures)) (done _ _ _ _))))))
+returns-5 c = command-is (c .before .before .before .before .before .before .before .before .before .before .before .before .before .before .before .before .before .before .args .doc) _ _ _ _ _ _ _ _ _ (command-head-within (c .before .before .before .before .before .before .before .before .before .before .before .before .before .before .before .before .command-head .ensures) (c .before .before .before .before .before .before .before .before .before .before .before .before .before .before .head .given .1)) (command-types-within (c .before .before .before .before .before .before .before .before .before .before .before .command-types .ensures) (c .before .before .before .before .before .before .before .before .before .types .given .1)) (omega (arith, (number-at-took (c .before .before .before .before .before .before .before .code-behind .ensures) code-behind-on (c .before .before .before .before .before .number .given .1)) .up, (tag-behind-took 59 (c .before .semicolon .given .1) (c .before .before .before .tag-behind .ensures)) .up)) (begin (parse-command-after-doc-maturity (docOf (c .before .before .before .before .before .before .before .before .before .before .before .before .before .before .before .before .before .before .args .doc)) (c .before .before .before .before .before .before .before .before .before .before .before .before .before .before .before .before .before .before .args .maturity)) _ _ (go _ (read-took (c .before .before .before .before .before .before .before .before .before .before .before .before .before .before .before .before .command-head .ensures) (c .before .before .before .before .before .before .before .before .before .before .before .before .before .before .head .given .1) (walks (chain-inside command-head-inside)) (rest-self _ _) refl) (go _ (command-types-took (c .before .before .before .before .before .before .before .before .before .before .before .command-types .ensures) (c .before .before .before .before .before .before .before .before .before .types .given .1) (c .before .before .before .before .before .before .before .before .before .before .before .before .rest-at .ensures)) (four-go _ _ _ _ _ (number-at-took (c .before .before .before .before .before .before .before .code-behind .ensures) code-behind-on (c .before .before .before .before .before .number .given .1)) (pair-on _ _ _ (tag-behind-took 59 (c .before .semicolon .given .1) (c .before .before .before .tag-behind .ensures)) (done _ _ _ _))))))
 
 pub parse-command-after-doc-maturity-spec : {M : Type 1} → statement M
 parse-command-after-doc-maturity-spec =
