@@ -9,10 +9,10 @@ ghost use Rattle.lexing.specs.answers.{tagReply, numberReply};
 ghost use Rattle.items.specs.layout.{text-limit, layout-20, further-word, catalogue-bytes};
 ghost use Rattle.items.specs.buffers.{put};
 ghost use Rattle.items.specs.records.{each, twos-complement, default-number, default-word, instance-record, part-records, endpoint-records};
-ghost use Rattle.items.specs.endpoints.{name-behind, named-after, device-version, value-tries, default-attribute-value, deep-run, deep-braces, instance-tries, instantiation, instantiation-head, cluster-instantiation, part-tries, endpoint-head, endpoint};
-ghost use Rattle.items.specs.answers.{NameIn, CountTo, Room, Written};
+ghost use Rattle.items.specs.endpoints.{name-behind, named-after, device-version, value-tries, default-attribute-value, attribute-instantiation, deep-run, deep-braces, instance-tries, instantiation, instantiation-head, cluster-instantiation, part-tries, endpoint-head, endpoint};
+ghost use Rattle.items.specs.answers.{Skips, NameIn, CountTo, Room, Written};
 ghost use Rattle.items.specs.answers.names.{NamedTo};
-ghost use Rattle.items.specs.answers.endpoints.{DeviceTypeTo, deviceTypeLost, HandlingTo, handlingLost, ValueTo, valueOf, SpanIn, optionalValue, DefaultTo, DefaultIn, defaultOf, defaultLost, InstanceIn, AttributeInstanceTo, attributeInstanceLost, triedLost, TriedTo, DeepTo, TryRoom, TryWritten};
+ghost use Rattle.items.specs.answers.endpoints.{DeviceTypeTo, deviceTypeLost, HandlingTo, handlingLost, ValueTo, valueOf, SpanIn, optionalValue, DefaultTo, DefaultIn, defaultOf, defaultLost, InstanceIn, AttributeInstanceTo, triedLost, TriedTo, DeepTo, TryRoom, TryWritten};
 ghost use Rattle.items.specs.declared.endpoints.ValueRead.the-variants.{NoValue};
 ghost use Rattle.items.specs.inner.endpoints.{furtherLost, triedEnd, deep-close, deep-rest, blank-binding, plainWord, name-parts, device-parts, instance-parts, endpoint-first};
 use crate::counts::Count;
@@ -365,12 +365,15 @@ pub fn attribute_instantiation(part: &[u8], base: usize) -> AttributeInstanceRea
     AttributeInstanceRead::AttributeInstance(a, c5)
 }
 
-pub fn attribute_instance_lost(r: AttributeInstanceRead) -> Lost
-    ensures { λ x. ⌜ x ≡ attributeInstanceLost r ⌝ }
+// The end of an attribute's instance.
+fn attribute_instance_end(part: &[u8], base: usize) -> Step
+    requires { ⌜ base + length (now part) ≤ text-limit ⌝ }
+    ensures { λ r. ⌜ Skips attribute-instantiation r base (now (part .entry)) ⌝ }
 {
+    let r = attribute_instantiation(part, base);
     match r {
-        AttributeInstanceRead::AttributeInstance(_, c) => Lost::Fail(c),
-        AttributeInstanceRead::NoAttributeInstance(l) => l,
+        AttributeInstanceRead::AttributeInstance(_, c) => Step::Next(c),
+        AttributeInstanceRead::NoAttributeInstance(l) => Step::Not(l),
     }
 }
 
@@ -432,11 +435,11 @@ fn instance_tries(part: &[u8], base: usize, q: usize) -> Tried
     requires { ⌜ base + length (now part) ≤ text-limit ⌝ }
     ensures { λ r. ⌜ TriedTo (λ i. instance-record i ∷ []) (instance-tries q) r base (now (part .entry)) ⌝ }
 {
-    let attribute = attribute_instantiation(part, base);
-    if let AttributeInstanceRead::AttributeInstance(_, c) = attribute {
+    let attribute = attribute_instance_end(part, base);
+    if let Step::Next(c) = attribute {
         return Tried::Found(2, c, q);
     }
-    let first = further(attribute_instance_lost(attribute), q);
+    let first = further(step_lost(attribute), q);
     let Lost::Fail(q1) = first else {
         return Tried::NotFound(first);
     };

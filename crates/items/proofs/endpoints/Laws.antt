@@ -76,6 +76,10 @@ default-on = walks (default-attribute-value-local .on-chain)
 pub optional-on : Onward (opt (whitespace1 >> default-attribute-value))
 optional-on = walks (chain-opt (chain-then whitespace1-chain (default-attribute-value-local .on-chain)))
 
+-- some instance of an attribute: where none is read there is no value
+pub no-instance : AttributeInstanceOf
+no-instance = record { handling = 0; name = word 0 []; default = none }
+
 -- a number that another reader than that of integers gives
 pub number-took : {m : Parser ℕ} (w : Onward m) {b n : ℕ} {u r : List ℕ} {a : Number} {v c : ℕ} → Rest b u n r → a ≡ Value v c → numberReply a n r ≡ m n r → Took m b u n v c
 number-took {m} w {b} {n} {u} {r} q e h = took w q (subst (λ (x : Number). numberReply x n r ≡ m n r) e h)
