@@ -34,6 +34,7 @@ use crate::members::write_event;
 use crate::names::Named;
 use crate::names::code_behind;
 use crate::names::keyword_name;
+use crate::names::keyword_number;
 use crate::names::named_lost;
 use crate::optional::optional;
 use crate::steps::blank_at;
@@ -54,7 +55,6 @@ use lexing::blanks::DocSpan;
 use lexing::blanks::whitespace0;
 use lexing::integers::Number;
 use lexing::integers::number_lost;
-use lexing::integers::positive_integer;
 use lexing::parts::rest_at;
 use lexing::words::keyword;
 use lexing::words::tag;
@@ -263,23 +263,15 @@ pub fn parse_revision(part: &[u8], base: usize) -> Number
     requires { ⌜ base + length (now part) ≤ text-limit ⌝ }
     ensures { λ r. ⌜ RevisionTo r base (now (part .entry)) ⌝ }
 {
-    let key = keyword(part, base, b"revision");
-    let Step::Next(c1) = key else {
-        return Number::NoNumber(step_lost(key));
-    };
-    let gap = gap_at(part, base, c1);
-    let Step::Next(c2) = gap else {
-        return Number::NoNumber(step_lost(gap));
-    };
-    let number = positive_integer(rest_at(part, base, c2), c2);
-    let Number::Value(n, c3) = number else {
+    let number = keyword_number(part, base, b"revision");
+    let Number::Value(n, c1) = number else {
         return Number::NoNumber(number_lost(number));
     };
-    let semicolon = tag_behind(part, base, c3, b';');
-    let Step::Next(c4) = semicolon else {
+    let semicolon = tag_behind(part, base, c1, b';');
+    let Step::Next(c2) = semicolon else {
         return Number::NoNumber(step_lost(semicolon));
     };
-    Number::Value(n, c4)
+    Number::Value(n, c2)
 }
 
 // A revision takes no words of its own.

@@ -20,6 +20,7 @@ use crate::counts::count_lost;
 use crate::names::Named;
 use crate::names::code_behind;
 use crate::names::keyword_name;
+use crate::names::keyword_number;
 use crate::names::named_lost;
 use crate::steps::blank_at;
 use crate::steps::gap_at;
@@ -616,20 +617,13 @@ pub fn endpoint_head(part: &[u8], base: usize) -> Number
     requires { ⌜ base + length (now part) ≤ text-limit ⌝ }
     ensures { λ r. ⌜ numberReply r base (now (part .entry)) ≡ endpoint-head base (now (part .entry)) ⌝ }
 {
-    let key = keyword_behind(part, base, base, b"endpoint");
-    let Step::Next(c1) = key else {
-        return Number::NoNumber(step_lost(key));
-    };
-    let gap = gap_at(part, base, c1);
-    let Step::Next(c2) = gap else {
-        return Number::NoNumber(step_lost(gap));
-    };
-    let number = positive_integer(rest_at(part, base, c2), c2);
-    let Number::Value(id, c3) = number else {
+    let c1 = blank_at(part, base, base);
+    let number = keyword_number(rest_at(part, base, c1), c1, b"endpoint");
+    let Number::Value(id, c2) = number else {
         return Number::NoNumber(number_lost(number));
     };
-    let c4 = blank_at(part, base, c3);
-    Number::Value(id, c4)
+    let c3 = blank_at(part, base, c2);
+    Number::Value(id, c3)
 }
 
 // The first pass over an endpoint: two words, and those of its parts.

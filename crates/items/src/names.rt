@@ -1,11 +1,12 @@
-// What several heads have in them: a keyword and a name, a colon and a type's name, an equals sign and a code.
+// What several heads have in them: a keyword and a name or a number, a colon and a type's name, an equals sign and a code.
 ghost use mathlib.Core.Path.{_≡_};
 ghost use Prim.Native.Nat.{_+_, _≤_};
 ghost use lib.ListN.{length};
 ghost use Rattle.lexing.specs.integers.{u64-max};
+ghost use Rattle.lexing.specs.answers.{numberReply};
 ghost use Rattle.items.specs.layout.{text-limit};
 ghost use Rattle.items.specs.answers.{NumberAt, behind-blanks};
-ghost use Rattle.items.specs.answers.names.{namedLost, NamedTo, keyword-name, type-behind, equals-code};
+ghost use Rattle.items.specs.answers.names.{namedLost, NamedTo, keyword-name, keyword-number, type-behind, equals-code};
 use crate::steps::blank_at;
 use crate::steps::gap_at;
 use crate::steps::integer_behind;
@@ -14,6 +15,8 @@ use lexing::answers::Lost;
 use lexing::answers::Step;
 use lexing::answers::step_lost;
 use lexing::integers::Number;
+use lexing::integers::number_lost;
+use lexing::integers::positive_integer;
 use lexing::parts::rest_at;
 use lexing::words::keyword;
 use lexing::words::parse_id;
@@ -52,6 +55,26 @@ pub fn keyword_name(part: &[u8], base: usize, key: &[u8]) -> Named
         return Named::NoName(step_lost(name));
     };
     Named::Name(c2, c3, c3)
+}
+
+// A keyword and the number behind it.
+pub fn keyword_number(part: &[u8], base: usize, key: &[u8]) -> Number
+    requires { ⌜ base + length (now part) ≤ text-limit ⌝ }
+    ensures { λ r. ⌜ numberReply r base (now (part .entry)) ≡ keyword-number (now (key .entry)) base (now (part .entry)) ⌝ }
+{
+    let word = keyword(part, base, key);
+    let Step::Next(c1) = word else {
+        return Number::NoNumber(step_lost(word));
+    };
+    let gap = gap_at(part, base, c1);
+    let Step::Next(c2) = gap else {
+        return Number::NoNumber(step_lost(gap));
+    };
+    let number = positive_integer(rest_at(part, base, c2), c2);
+    let Number::Value(v, c3) = number else {
+        return Number::NoNumber(number_lost(number));
+    };
+    Number::Value(v, c3)
 }
 
 // A colon and the name of a type.

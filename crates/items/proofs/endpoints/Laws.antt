@@ -80,10 +80,6 @@ optional-on = walks (chain-opt (chain-then whitespace1-chain (default-attribute-
 pub no-instance : AttributeInstanceOf
 no-instance = record { handling = 0; name = word 0 []; default = none }
 
--- a number that another reader than that of integers gives
-pub number-took : {m : Parser ℕ} (w : Onward m) {b n : ℕ} {u r : List ℕ} {a : Number} {v c : ℕ} → Rest b u n r → a ≡ Value v c → numberReply a n r ≡ m n r → Took m b u n v c
-number-took {m} w {b} {n} {u} {r} q e h = took w q (subst (λ (x : Number). numberReply x n r ≡ m n r) e h)
-
 -- the tries of a default's value
 module _ (b : ℕ) (u : List ℕ) {a : Number} (h : numberReply a b u ≡ positive-integer b u) where
   pub number-try : {v c : ℕ} → a ≡ Value v c → ok (number v) c (drop (c - b) u) ≡ mapped positive-integer number b u

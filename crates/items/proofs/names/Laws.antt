@@ -16,7 +16,7 @@ use Rattle.lexing.proofs.Onward.{Onward, advances-onward, parse-id-advances, ta
 use Rattle.lexing.proofs.TokenLocality.{keyword-chain, whitespace0-chain, whitespace1-chain}
 use Rattle.lexing.proofs.Slicing.{Took, took, on, walks, rebase, integer-lost}
 use Rattle.items.specs.answers.{NameIn, NumberAt, wordBetween}
-use Rattle.items.specs.answers.names.{NamedIn, NamedTo, keyword-name, type-behind, equals-code}
+use Rattle.items.specs.answers.names.{NamedIn, NamedTo, keyword-name, keyword-number, type-behind, equals-code}
 use Rattle.items.specs.declared.names.Named.{Named}
 use Rattle.items.specs.declared.names.Named.the-variants.{Name}
 use Rattle.items.proofs.Answers.{read-within, read-took}
@@ -28,6 +28,9 @@ behind-on w = onward-then (walks whitespace0-chain) w
 
 pub keyword-name-on : (k : List ℕ) → Onward (keyword-name k)
 keyword-name-on k = onward-then (walks (keyword-chain k)) (onward-then (walks whitespace1-chain) (advances-onward parse-id-advances))
+
+pub keyword-number-on : (k : List ℕ) → Onward (keyword-number k)
+keyword-number-on k = onward-then (walks (keyword-chain k)) (onward-then (walks whitespace1-chain) (advances-onward integer-advances))
 
 pub type-behind-on : Onward type-behind
 type-behind-on = behind-on (onward-then (advances-onward (tag-advances 58)) (behind-on (advances-onward parse-id-advances)))
@@ -58,6 +61,10 @@ module _ {m : Parser Word} {n : ℕ} {r : List ℕ} {a : Named} {x e c : ℕ} (h
 
   pub named-took : (w : Onward m) {b : ℕ} {u : List ℕ} → Rest b u n r → Took m b u n (wordBetween b u x e) c
   named-took w {b} {u} q = rw (← word-moved b n u r x e q (named-in .from)) (read-took h d w q refl)
+
+-- a number that another reader than that of integers gives
+pub number-took : {m : Parser ℕ} (w : Onward m) {b n : ℕ} {u r : List ℕ} {a : Number} {v c : ℕ} → Rest b u n r → a ≡ Value v c → numberReply a n r ≡ m n r → Took m b u n v c
+number-took {m} w {b} {n} {u} {r} q e h = took w q (subst (λ (x : Number). numberReply x n r ≡ m n r) e h)
 
 -- a number from an offset of a part: behind a step that was read, taken and lost
 module _ {b n : ℕ} {u : List ℕ} {m : Parser ℕ} where

@@ -20,6 +20,13 @@ keyword-name k = do
   whitespace1
   parse-id
 
+-- a keyword and the number behind it
+abbrev pub keyword-number : List ℕ → Parser ℕ
+keyword-number k = do
+  keyword k
+  whitespace1
+  positive-integer
+
 -- a colon and the name of a type
 abbrev pub type-behind : Parser Word
 type-behind = do
