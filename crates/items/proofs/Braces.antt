@@ -203,11 +203,11 @@ module _ {A : Type 0} {records : A → List Record} (m : Parser A) {b : ℕ} {u 
         record { value = x .value; next = x .next; is = rw (q .same) (x .is); fits = rw (← z) (room .fits) }
 
     -- no closing brace
-    pub braces-close : {o : Wrote} {old new : List ℕ} (h : Written records m c₁ r p o old new) {d : Doc} {c₃ : ℕ} → Took whitespace0 b u (o .next) d c₃ → (l : Lost) {r' : List ℕ} → Rest b u c₃ r' → lostReply l ≡ tag 125 c₃ r' → ⊥
-    braces-close h t l q' e = no-room room l (braces-unclosed m b u t₁ (written-took w q h) l (both-lost t l q' e))
+    pub braces-close : {o : Wrote} {old new : List ℕ} (h : Written records m c₁ r p o old new) (l : Lost) → lostReply l ≡ (whitespace0 >> tag 125) (o .next) (drop (o .next - b) u) → ⊥
+    braces-close h l e = no-room room l (braces-unclosed m b u t₁ (written-took w q h) l e)
 
-    pub braces-written : {o : Wrote} {old new : List ℕ} (h : Written records m c₁ r p o old new) {d : Doc} {c₃ : ℕ} → Took whitespace0 b u (o .next) d c₃ → {c : ℕ} → Took (tag 125) b u c₃ tt c → Written records (braces m) b u p (record { next = c; to = o .to }) old new
-    braces-written h t t₄ = record { value = h .value; is = braces-read m b u t₁ (written-took w q h) (both-took t t₄); place = h .place; bytes = h .bytes }
+    pub braces-written : {o : Wrote} {old new : List ℕ} (h : Written records m c₁ r p o old new) {v : Unit {0}} {c : ℕ} → Took (whitespace0 >> tag 125) b u (o .next) v c → Written records (braces m) b u p (record { next = c; to = o .to }) old new
+    braces-written h t = record { value = h .value; is = braces-read m b u t₁ (written-took w q h) t; place = h .place; bytes = h .bytes }
 
 -- The first pass: what was counted between them.
 module _ {A : Type 0} {f : A → List Record} {m : Parser A} (w : Onward m) {b : ℕ} {u : List ℕ} {c : ℕ} (t : Took (tag 123) b u b tt c) {r : List ℕ} (q : Rest b u c r) where

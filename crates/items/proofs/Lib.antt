@@ -16,7 +16,7 @@ pub mod Tries
 pub mod Answers
 pub mod Mapped
 pub mod Recorded
--- two steps taken as one
+-- several steps taken as one
 pub mod Pairs
 -- parts that are dropped, parts between braces, a head and then a list, words by their offsets, and the words of records
 pub mod Dropping

@@ -1,4 +1,5 @@
 -- What the answers of the code say, as replies of the definitions: what the modules share, and each module's own apart.
+pub mod names
 pub mod entries
 pub mod structs
 pub mod choices

@@ -22,7 +22,7 @@ use crate::steps::keyword_behind;
 use crate::steps::tag_behind;
 use crate::structs::StructFieldParts;
 use crate::structs::StructFieldRead;
-use crate::structs::parse_struct_field;
+use crate::structs::closed_field;
 use crate::structs::put_field;
 use crate::structs::struct_field_lost;
 use crate::writing::First;
@@ -346,14 +346,9 @@ pub fn parse_attribute_after_doc_maturity(
     let PrivilegesRead::Privileges(read, write, c4) = access else {
         return AttributeRead::NoAttribute(privileges_lost(access));
     };
-    let c5 = blank_at(part, base, c4);
-    let r = parse_struct_field(rest_at(part, base, c5), c5);
-    let StructFieldRead::StructField(field, c6) = r else {
+    let r = closed_field(rest_at(part, base, c4), c4);
+    let StructFieldRead::StructField(field, c5) = r else {
         return AttributeRead::NoAttribute(struct_field_lost(r));
-    };
-    let semicolon = tag_behind(part, base, c6, b';');
-    let Step::Next(c7) = semicolon else {
-        return AttributeRead::NoAttribute(step_lost(semicolon));
     };
     let flags = q.flags;
     AttributeRead::Attribute(
@@ -365,7 +360,7 @@ pub fn parse_attribute_after_doc_maturity(
             write,
             field,
         },
-        c7,
+        c5,
     )
 }
 

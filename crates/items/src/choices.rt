@@ -14,9 +14,11 @@ ghost use Rattle.items.specs.inner.choices.{choice-first};
 use crate::counts::Count;
 use crate::entries::constant_entries_list;
 use crate::entries::write_entries_list;
+use crate::names::Named;
+use crate::names::keyword_name;
+use crate::names::named_lost;
+use crate::names::type_behind;
 use crate::steps::blank_at;
-use crate::steps::gap_at;
-use crate::steps::tag_behind;
 use crate::writing::First;
 use crate::writing::FrontParts;
 use crate::writing::Wrote;
@@ -26,11 +28,7 @@ use crate::writing::put_documented;
 use crate::writing::put_word;
 use crate::writing::span_word;
 use lexing::answers::Lost;
-use lexing::answers::Step;
-use lexing::answers::step_lost;
 use lexing::parts::rest_at;
-use lexing::words::keyword;
-use lexing::words::parse_id;
 
 // Up to the entries: whether it is shared, and the offsets of its name and of its base type and behind them.
 pub struct ChoiceHeadParts {
@@ -52,37 +50,24 @@ pub fn choice_head(part: &[u8], base: usize, from: usize, key: &[u8]) -> ChoiceH
     requires { ⌜ ChoiceFrom from base (now part) ⌝ }
     ensures { λ r. ⌜ ChoiceHeadTo (now (key .entry)) r base (now (part .entry)) ⌝ }
 {
-    let word = keyword(rest_at(part, base, from), from, key);
-    let Step::Next(c2) = word else {
-        return ChoiceHeadRead::NoChoiceHead(step_lost(word));
+    let named = keyword_name(rest_at(part, base, from), from, key);
+    let Named::Name(name, end, c1) = named else {
+        return ChoiceHeadRead::NoChoiceHead(named_lost(named));
     };
-    let gap = gap_at(part, base, c2);
-    let Step::Next(c3) = gap else {
-        return ChoiceHeadRead::NoChoiceHead(step_lost(gap));
+    let kind = type_behind(rest_at(part, base, c1), c1);
+    let Named::Name(base_at, base_end, c2) = kind else {
+        return ChoiceHeadRead::NoChoiceHead(named_lost(kind));
     };
-    let name = parse_id(rest_at(part, base, c3), c3);
-    let Step::Next(c4) = name else {
-        return ChoiceHeadRead::NoChoiceHead(step_lost(name));
-    };
-    let colon = tag_behind(part, base, c4, b':');
-    let Step::Next(c5) = colon else {
-        return ChoiceHeadRead::NoChoiceHead(step_lost(colon));
-    };
-    let c6 = blank_at(part, base, c5);
-    let kind = parse_id(rest_at(part, base, c6), c6);
-    let Step::Next(c7) = kind else {
-        return ChoiceHeadRead::NoChoiceHead(step_lost(kind));
-    };
-    let c8 = blank_at(part, base, c7);
+    let c3 = blank_at(part, base, c2);
     ChoiceHeadRead::ChoiceHead(
         ChoiceHeadParts {
             shared: base < from,
-            name: c3,
-            end: c4,
-            base_at: c6,
-            base_end: c7,
+            name,
+            end,
+            base_at,
+            base_end,
         },
-        c8,
+        c3,
     )
 }
 

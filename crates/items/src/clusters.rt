@@ -31,10 +31,14 @@ use crate::members::count_command;
 use crate::members::parse_event_after_doc_maturity;
 use crate::members::write_command;
 use crate::members::write_event;
+use crate::names::Named;
+use crate::names::code_behind;
+use crate::names::keyword_name;
+use crate::names::keyword_number;
+use crate::names::named_lost;
 use crate::optional::optional;
 use crate::steps::blank_at;
 use crate::steps::gap_at;
-use crate::steps::integer_behind;
 use crate::steps::tag_behind;
 use crate::structs::parse_struct_after_doc_maturity;
 use crate::structs::write_struct;
@@ -52,11 +56,9 @@ use lexing::blanks::whitespace0;
 use lexing::bytes::lower_of;
 use lexing::integers::Number;
 use lexing::integers::number_lost;
-use lexing::integers::positive_integer;
 use lexing::parts::peek;
 use lexing::parts::rest_at;
 use lexing::words::keyword;
-use lexing::words::parse_id;
 use lexing::words::tag;
 
 // What a member is by its first word.
@@ -224,23 +226,15 @@ pub fn parse_revision(part: &[u8], base: usize) -> Number
     requires { ⌜ base + length (now part) ≤ text-limit ⌝ }
     ensures { λ r. ⌜ RevisionTo r base (now (part .entry)) ⌝ }
 {
-    let key = keyword(part, base, b"revision");
-    let Step::Next(c1) = key else {
-        return Number::NoNumber(step_lost(key));
-    };
-    let gap = gap_at(part, base, c1);
-    let Step::Next(c2) = gap else {
-        return Number::NoNumber(step_lost(gap));
-    };
-    let number = positive_integer(rest_at(part, base, c2), c2);
-    let Number::Value(n, c3) = number else {
+    let number = keyword_number(part, base, b"revision");
+    let Number::Value(n, c1) = number else {
         return Number::NoNumber(number_lost(number));
     };
-    let semicolon = tag_behind(part, base, c3, b';');
-    let Step::Next(c4) = semicolon else {
+    let semicolon = tag_behind(part, base, c1, b';');
+    let Step::Next(c2) = semicolon else {
         return Number::NoNumber(step_lost(semicolon));
     };
-    Number::Value(n, c4)
+    Number::Value(n, c2)
 }
 
 // A revision takes no words of its own.
@@ -375,35 +369,16 @@ pub fn cluster_head(part: &[u8], base: usize) -> ClusterHeadRead
     let Step::Next(c1) = o else {
         return ClusterHeadRead::NoClusterHead(step_lost(o));
     };
-    let word = keyword(rest_at(part, base, c1), c1, b"cluster");
-    let Step::Next(c2) = word else {
-        return ClusterHeadRead::NoClusterHead(step_lost(word));
+    let named = keyword_name(rest_at(part, base, c1), c1, b"cluster");
+    let Named::Name(name, end, c2) = named else {
+        return ClusterHeadRead::NoClusterHead(named_lost(named));
     };
-    let gap = gap_at(part, base, c2);
-    let Step::Next(c3) = gap else {
-        return ClusterHeadRead::NoClusterHead(step_lost(gap));
-    };
-    let id = parse_id(rest_at(part, base, c3), c3);
-    let Step::Next(c4) = id else {
-        return ClusterHeadRead::NoClusterHead(step_lost(id));
-    };
-    let equals = tag_behind(part, base, c4, b'=');
-    let Step::Next(c5) = equals else {
-        return ClusterHeadRead::NoClusterHead(step_lost(equals));
-    };
-    let number = integer_behind(part, base, c5);
-    let Number::Value(code, c6) = number else {
+    let number = code_behind(part, base, c2);
+    let Number::Value(code, c3) = number else {
         return ClusterHeadRead::NoClusterHead(number_lost(number));
     };
-    let c7 = blank_at(part, base, c6);
-    ClusterHeadRead::ClusterHead(
-        ClusterHeadParts {
-            name: c3,
-            end: c4,
-            code,
-        },
-        c7,
-    )
+    let c4 = blank_at(part, base, c3);
+    ClusterHeadRead::ClusterHead(ClusterHeadParts { name, end, code }, c4)
 }
 
 pub fn cluster_head_lost(r: ClusterHeadRead) -> Lost

@@ -9,12 +9,19 @@ ghost use Rattle.lexing.specs.answers.{tagReply, numberReply};
 ghost use Rattle.items.specs.layout.{text-limit, layout-20, further-word, catalogue-bytes};
 ghost use Rattle.items.specs.buffers.{put};
 ghost use Rattle.items.specs.records.{each, twos-complement, default-number, default-word, instance-record, part-records, endpoint-records};
-ghost use Rattle.items.specs.endpoints.{name-behind, named-after, device-version, value-tries, default-attribute-value, deep-run, deep-braces, instance-tries, instantiation, instantiation-head, cluster-instantiation, part-tries, endpoint-head, endpoint};
-ghost use Rattle.items.specs.answers.{NameIn, CountTo, Room, Written};
-ghost use Rattle.items.specs.answers.endpoints.{NamedTo, namedLost, DeviceTypeTo, deviceTypeLost, HandlingTo, handlingLost, ValueTo, valueLost, valueOf, SpanIn, optionalValue, DefaultTo, DefaultIn, defaultOf, defaultLost, InstanceIn, AttributeInstanceTo, attributeInstanceLost, triedLost, TriedTo, DeepTo, TryRoom, TryWritten};
+ghost use Rattle.items.specs.endpoints.{name-behind, named-after, device-version, value-tries, default-attribute-value, attribute-instantiation, deep-run, deep-braces, instance-tries, instantiation, instantiation-head, cluster-instantiation, part-tries, endpoint-head, endpoint};
+ghost use Rattle.items.specs.answers.{Skips, NameIn, CountTo, Room, Written};
+ghost use Rattle.items.specs.answers.names.{NamedTo};
+ghost use Rattle.items.specs.answers.endpoints.{DeviceTypeTo, deviceTypeLost, HandlingTo, handlingLost, ValueTo, valueOf, SpanIn, optionalValue, DefaultTo, DefaultIn, defaultOf, defaultLost, InstanceIn, AttributeInstanceTo, triedLost, TriedTo, DeepTo, TryRoom, TryWritten};
+ghost use Rattle.items.specs.declared.endpoints.ValueRead.the-variants.{NoValue};
 ghost use Rattle.items.specs.inner.endpoints.{furtherLost, triedEnd, deep-close, deep-rest, blank-binding, plainWord, name-parts, device-parts, instance-parts, endpoint-first};
 use crate::counts::Count;
 use crate::counts::count_lost;
+use crate::names::Named;
+use crate::names::code_behind;
+use crate::names::keyword_name;
+use crate::names::keyword_number;
+use crate::names::named_lost;
 use crate::steps::blank_at;
 use crate::steps::gap_at;
 use crate::steps::integer_behind;
@@ -41,14 +48,7 @@ use lexing::integers::signed_integer;
 use lexing::parts::rest_at;
 use lexing::strings::default_string;
 use lexing::words::keyword;
-use lexing::words::parse_id;
 use lexing::words::tag;
-
-// Where a name starts and ends, and the offset behind all that was read.
-pub enum Named {
-    Name(usize, usize, usize),
-    NoName(Lost),
-}
 
 // A device type: where its name starts and ends, its code and its version.
 pub struct DeviceTypeParts {
@@ -126,32 +126,15 @@ pub fn name_behind(part: &[u8], base: usize, first: &[u8], second: &[u8]) -> Nam
     let Step::Next(c1) = one else {
         return Named::NoName(step_lost(one));
     };
-    let gap1 = gap_at(part, base, c1);
-    let Step::Next(c2) = gap1 else {
-        return Named::NoName(step_lost(gap1));
+    let gap = gap_at(part, base, c1);
+    let Step::Next(c2) = gap else {
+        return Named::NoName(step_lost(gap));
     };
-    let two = keyword(rest_at(part, base, c2), c2, second);
-    let Step::Next(c3) = two else {
-        return Named::NoName(step_lost(two));
+    let named = keyword_name(rest_at(part, base, c2), c2, second);
+    let Named::Name(name, end, c3) = named else {
+        return Named::NoName(named_lost(named));
     };
-    let gap2 = gap_at(part, base, c3);
-    let Step::Next(c4) = gap2 else {
-        return Named::NoName(step_lost(gap2));
-    };
-    let name = parse_id(rest_at(part, base, c4), c4);
-    let Step::Next(c5) = name else {
-        return Named::NoName(step_lost(name));
-    };
-    Named::Name(c4, c5, c5)
-}
-
-pub fn named_lost(r: Named) -> Lost
-    ensures { λ x. ⌜ x ≡ namedLost r ⌝ }
-{
-    match r {
-        Named::Name(_, _, c) => Lost::Fail(c),
-        Named::NoName(l) => l,
-    }
+    Named::Name(name, end, c3)
 }
 
 // The same with a semicolon.
@@ -202,16 +185,12 @@ pub fn device_type(part: &[u8], base: usize) -> DeviceTypeRead
     let Named::Name(name, end, c1) = named else {
         return DeviceTypeRead::NoDeviceType(named_lost(named));
     };
-    let equals = tag_behind(part, base, c1, b'=');
-    let Step::Next(c2) = equals else {
-        return DeviceTypeRead::NoDeviceType(step_lost(equals));
-    };
-    let number = integer_behind(part, base, c2);
-    let Number::Value(code, c3) = number else {
+    let number = code_behind(part, base, c1);
+    let Number::Value(code, c2) = number else {
         return DeviceTypeRead::NoDeviceType(number_lost(number));
     };
-    let last = device_version(rest_at(part, base, c3), c3);
-    let Number::Value(version, c4) = last else {
+    let last = device_version(rest_at(part, base, c2), c2);
+    let Number::Value(version, c3) = last else {
         return DeviceTypeRead::NoDeviceType(number_lost(last));
     };
     let t = DeviceTypeParts {
@@ -220,7 +199,7 @@ pub fn device_type(part: &[u8], base: usize) -> DeviceTypeRead
         code,
         version,
     };
-    DeviceTypeRead::DeviceType(t, c4)
+    DeviceTypeRead::DeviceType(t, c3)
 }
 
 pub fn device_type_lost(r: DeviceTypeRead) -> Lost
@@ -311,26 +290,23 @@ pub fn default_attribute_value(part: &[u8], base: usize) -> ValueRead
     value_tries(rest_at(part, base, c3), c3)
 }
 
-pub fn value_lost(r: ValueRead) -> Lost
-    ensures { λ x. ⌜ x ≡ valueLost r ⌝ }
+// No value at an offset: where it fails nothing is read, and a stop goes on.
+fn no_default(l: Lost, base: usize) -> DefaultRead
+    ensures { λ x. ⌜ x ≡ optionalValue (NoValue l) base ⌝ }
 {
-    match r {
-        ValueRead::Read(_, c) => Lost::Fail(c),
-        ValueRead::NoValue(l) => l,
-    }
-}
-
-// A value that may be absent, at an offset: where it fails nothing is read, and a stop goes on.
-fn optional_value(r: ValueRead, base: usize) -> DefaultRead
-    ensures { λ x. ⌜ x ≡ optionalValue r base ⌝ }
-{
-    if let ValueRead::Read(v, c) = r {
-        return DefaultRead::Optional(Default::Present(v), c);
-    }
-    let l = value_lost(r);
     match l {
         Lost::Fail(_) => DefaultRead::Optional(Default::Absent, base),
         Lost::Stop(n, p) => DefaultRead::NoDefault(Lost::Stop(n, p)),
+    }
+}
+
+// A value that may be absent, at an offset.
+fn optional_value(r: ValueRead, base: usize) -> DefaultRead
+    ensures { λ x. ⌜ x ≡ optionalValue r base ⌝ }
+{
+    match r {
+        ValueRead::Read(v, c) => DefaultRead::Optional(Default::Present(v), c),
+        ValueRead::NoValue(l) => no_default(l, base),
     }
 }
 
@@ -341,7 +317,7 @@ fn optional_default(part: &[u8], base: usize) -> DefaultRead
 {
     let gap = whitespace1(part, base);
     let Gap::Passed(w) = gap else {
-        return optional_value(ValueRead::NoValue(gap_lost(gap)), base);
+        return no_default(gap_lost(gap), base);
     };
     let c1 = w.next;
     let value = default_attribute_value(rest_at(part, base, c1), c1);
@@ -365,23 +341,15 @@ pub fn attribute_instantiation(part: &[u8], base: usize) -> AttributeInstanceRea
     let HandlingRead::Handling(handling, c1) = held else {
         return AttributeInstanceRead::NoAttributeInstance(handling_lost(held));
     };
-    let gap1 = gap_at(part, base, c1);
-    let Step::Next(c2) = gap1 else {
-        return AttributeInstanceRead::NoAttributeInstance(step_lost(gap1));
+    let gap = gap_at(part, base, c1);
+    let Step::Next(c2) = gap else {
+        return AttributeInstanceRead::NoAttributeInstance(step_lost(gap));
     };
-    let key = keyword(rest_at(part, base, c2), c2, b"attribute");
-    let Step::Next(c3) = key else {
-        return AttributeInstanceRead::NoAttributeInstance(step_lost(key));
+    let named = keyword_name(rest_at(part, base, c2), c2, b"attribute");
+    let Named::Name(name, end, c3) = named else {
+        return AttributeInstanceRead::NoAttributeInstance(named_lost(named));
     };
-    let gap2 = gap_at(part, base, c3);
-    let Step::Next(name) = gap2 else {
-        return AttributeInstanceRead::NoAttributeInstance(step_lost(gap2));
-    };
-    let word = parse_id(rest_at(part, base, name), name);
-    let Step::Next(end) = word else {
-        return AttributeInstanceRead::NoAttributeInstance(step_lost(word));
-    };
-    let optional = optional_default(rest_at(part, base, end), end);
+    let optional = optional_default(rest_at(part, base, c3), c3);
     let DefaultRead::Optional(default, c4) = optional else {
         return AttributeInstanceRead::NoAttributeInstance(default_lost(optional));
     };
@@ -398,12 +366,15 @@ pub fn attribute_instantiation(part: &[u8], base: usize) -> AttributeInstanceRea
     AttributeInstanceRead::AttributeInstance(a, c5)
 }
 
-pub fn attribute_instance_lost(r: AttributeInstanceRead) -> Lost
-    ensures { λ x. ⌜ x ≡ attributeInstanceLost r ⌝ }
+// The end of an attribute's instance.
+fn attribute_instance_end(part: &[u8], base: usize) -> Step
+    requires { ⌜ base + length (now part) ≤ text-limit ⌝ }
+    ensures { λ r. ⌜ Skips attribute-instantiation r base (now (part .entry)) ⌝ }
 {
+    let r = attribute_instantiation(part, base);
     match r {
-        AttributeInstanceRead::AttributeInstance(_, c) => Lost::Fail(c),
-        AttributeInstanceRead::NoAttributeInstance(l) => l,
+        AttributeInstanceRead::AttributeInstance(_, c) => Step::Next(c),
+        AttributeInstanceRead::NoAttributeInstance(l) => Step::Not(l),
     }
 }
 
@@ -465,11 +436,11 @@ fn instance_tries(part: &[u8], base: usize, q: usize) -> Tried
     requires { ⌜ base + length (now part) ≤ text-limit ⌝ }
     ensures { λ r. ⌜ TriedTo (λ i. instance-record i ∷ []) (instance-tries q) r base (now (part .entry)) ⌝ }
 {
-    let attribute = attribute_instantiation(part, base);
-    if let AttributeInstanceRead::AttributeInstance(_, c) = attribute {
+    let attribute = attribute_instance_end(part, base);
+    if let Step::Next(c) = attribute {
         return Tried::Found(2, c, q);
     }
-    let first = further(attribute_instance_lost(attribute), q);
+    let first = further(step_lost(attribute), q);
     let Lost::Fail(q1) = first else {
         return Tried::NotFound(first);
     };
@@ -646,20 +617,13 @@ pub fn endpoint_head(part: &[u8], base: usize) -> Number
     requires { ⌜ base + length (now part) ≤ text-limit ⌝ }
     ensures { λ r. ⌜ numberReply r base (now (part .entry)) ≡ endpoint-head base (now (part .entry)) ⌝ }
 {
-    let key = keyword_behind(part, base, base, b"endpoint");
-    let Step::Next(c1) = key else {
-        return Number::NoNumber(step_lost(key));
-    };
-    let gap = gap_at(part, base, c1);
-    let Step::Next(c2) = gap else {
-        return Number::NoNumber(step_lost(gap));
-    };
-    let number = positive_integer(rest_at(part, base, c2), c2);
-    let Number::Value(id, c3) = number else {
+    let c1 = blank_at(part, base, base);
+    let number = keyword_number(rest_at(part, base, c1), c1, b"endpoint");
+    let Number::Value(id, c2) = number else {
         return Number::NoNumber(number_lost(number));
     };
-    let c4 = blank_at(part, base, c3);
-    Number::Value(id, c4)
+    let c3 = blank_at(part, base, c2);
+    Number::Value(id, c3)
 }
 
 // The first pass over an endpoint: two words, and those of its parts.

@@ -16,9 +16,9 @@ use crate::counts::Count;
 use crate::counts::closed;
 use crate::counts::count_end;
 use crate::maturity::api_maturity;
+use crate::names::code_behind;
 use crate::optional::optional;
 use crate::steps::blank_at;
-use crate::steps::integer_behind;
 use crate::steps::tag_behind;
 use crate::writing::First;
 use crate::writing::Wrote;
@@ -162,15 +162,11 @@ pub fn constant_entry(part: &[u8], base: usize) -> EntryRead
     let Step::Next(c4) = name else {
         return EntryRead::NoEntry(step_lost(name));
     };
-    let equals = tag_behind(part, base, c4, b'=');
-    let Step::Next(c5) = equals else {
-        return EntryRead::NoEntry(step_lost(equals));
-    };
-    let value = integer_behind(part, base, c5);
-    let Number::Value(code, c6) = value else {
+    let value = code_behind(part, base, c4);
+    let Number::Value(code, c5) = value else {
         return EntryRead::NoEntry(number_lost(value));
     };
-    let last = entry_end(rest_at(part, base, c6), c6);
+    let last = entry_end(rest_at(part, base, c5), c5);
     let Step::Next(next) = last else {
         return EntryRead::NoEntry(step_lost(last));
     };
@@ -286,15 +282,12 @@ pub fn write_entries_list(part: &[u8], base: usize, out: &mut [u8], at: usize) -
         return nothing;
     };
     let run = write_entries(rest_at(part, base, c1), c1, out, at);
-    let c2 = run.next;
-    let w = whitespace0(rest_at(part, base, c2), c2);
-    let c3 = w.next;
-    let close = tag(rest_at(part, base, c3), c3, b'}');
-    let Step::Next(c4) = close else {
+    let close = tag_behind(part, base, run.next, b'}');
+    let Step::Next(c2) = close else {
         return nothing;
     };
     Wrote {
-        next: c4,
+        next: c2,
         to: run.to,
     }
 }

@@ -8,6 +8,7 @@ pub mod entries;
 pub mod items;
 pub mod maturity;
 pub mod members;
+pub mod names;
 pub mod optional;
 pub mod steps;
 pub mod structs;

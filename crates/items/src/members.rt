@@ -8,16 +8,20 @@ ghost use Rattle.lexing.specs.answers.{docOf};
 ghost use Rattle.items.specs.layout.{text-limit, layout-20, further-word, catalogue-bytes};
 ghost use Rattle.items.specs.buffers.{put};
 ghost use Rattle.items.specs.records.{spanned, event-records};
-ghost use Rattle.items.specs.members.{access-privilege, event-priority, access-to, invoke-access, parse-event-after-doc-maturity, parse-command-after-doc-maturity};
+ghost use Rattle.items.specs.members.{or-else, access-privilege, event-priority, access-to, invoke-access, parse-event-after-doc-maturity, parse-command-after-doc-maturity};
 ghost use Rattle.items.specs.answers.{CountTo, FrontFits, Room, Written};
 ghost use Rattle.items.specs.answers.members.{levelLost, LevelTo, levelOr, eventQualitiesLost, EventQualitiesTo, eventHeadLost, EventHeadTo, EventCountTo, commandHeadLost, CommandHeadTo, commandTypesLost, CommandTypesTo, commandLost, EventHeadBetween, CommandBetween, CommandTo, command-records};
 ghost use Rattle.items.specs.inner.maturity.{numbered};
-ghost use Rattle.items.specs.inner.members.{extentIf, commandFront, command-parts, event-first};
+ghost use Rattle.items.specs.clusters.{mapped};
+ghost use Rattle.items.specs.inner.members.{event-access, extentIf, commandFront, command-parts, event-first};
 use crate::counts::Count;
+use crate::names::Named;
+use crate::names::code_behind;
+use crate::names::named_lost;
+use crate::names::type_behind;
 use crate::optional::optional;
 use crate::steps::blank_at;
 use crate::steps::gap_at;
-use crate::steps::integer_behind;
 use crate::steps::keyword_behind;
 use crate::steps::tag_behind;
 use crate::structs::struct_fields;
@@ -220,6 +224,26 @@ pub fn access_to(part: &[u8], base: usize, key: &[u8]) -> Level
     Level::Chosen(p, c7)
 }
 
+// The keyword `event`, and the privilege to read the event.
+fn event_access(part: &[u8], base: usize) -> Level
+    requires { ⌜ base + length (now part) ≤ text-limit ⌝ }
+    ensures { λ r. ⌜ LevelTo (mapped event-access (or-else 0)) r base (now (part .entry)) ⌝ }
+{
+    let gap1 = gap_at(part, base, base);
+    let Step::Next(c1) = gap1 else {
+        return Level::NoLevel(step_lost(gap1));
+    };
+    let event = keyword(rest_at(part, base, c1), c1, b"event");
+    let Step::Next(c2) = event else {
+        return Level::NoLevel(step_lost(event));
+    };
+    let gap2 = gap_at(part, base, c2);
+    let Step::Next(c3) = gap2 else {
+        return Level::NoLevel(step_lost(gap2));
+    };
+    level_or(access_to(rest_at(part, base, c3), c3, b"read"), 0, c3)
+}
+
 pub fn event_qualities(part: &[u8], base: usize) -> EventQualitiesRead
     requires { ⌜ base + length (now part) ≤ text-limit ⌝ }
     ensures { λ r. ⌜ EventQualitiesTo r base (now (part .entry)) ⌝ }
@@ -231,20 +255,8 @@ pub fn event_qualities(part: &[u8], base: usize) -> EventQualitiesRead
     let Level::Chosen(rank, c3) = priority else {
         return EventQualitiesRead::NoEventQualities(level_lost(priority));
     };
-    let gap1 = gap_at(part, base, c3);
-    let Step::Next(c4) = gap1 else {
-        return EventQualitiesRead::NoEventQualities(step_lost(gap1));
-    };
-    let event = keyword(rest_at(part, base, c4), c4, b"event");
-    let Step::Next(c5) = event else {
-        return EventQualitiesRead::NoEventQualities(step_lost(event));
-    };
-    let gap2 = gap_at(part, base, c5);
-    let Step::Next(c6) = gap2 else {
-        return EventQualitiesRead::NoEventQualities(step_lost(gap2));
-    };
-    let access = level_or(access_to(rest_at(part, base, c6), c6, b"read"), 0, c6);
-    let Level::Chosen(privilege, c7) = access else {
+    let access = event_access(rest_at(part, base, c3), c3);
+    let Level::Chosen(privilege, c4) = access else {
         return EventQualitiesRead::NoEventQualities(level_lost(access));
     };
     let sensitive = q.flags;
@@ -254,7 +266,7 @@ pub fn event_qualities(part: &[u8], base: usize) -> EventQualitiesRead
             rank,
             privilege,
         },
-        c7,
+        c4,
     )
 }
 
@@ -280,15 +292,11 @@ pub fn event_head(part: &[u8], base: usize) -> EventHeadRead
     let Step::Next(c3) = id else {
         return EventHeadRead::NoEventHead(step_lost(id));
     };
-    let equals = tag_behind(part, base, c3, b'=');
-    let Step::Next(c4) = equals else {
-        return EventHeadRead::NoEventHead(step_lost(equals));
-    };
-    let number = integer_behind(part, base, c4);
-    let Number::Value(code, c5) = number else {
+    let number = code_behind(part, base, c3);
+    let Number::Value(code, c4) = number else {
         return EventHeadRead::NoEventHead(number_lost(number));
     };
-    let c6 = blank_at(part, base, c5);
+    let c5 = blank_at(part, base, c4);
     EventHeadRead::EventHead(
         EventHeadParts {
             sensitive: q.sensitive,
@@ -298,7 +306,7 @@ pub fn event_head(part: &[u8], base: usize) -> EventHeadRead
             end: c3,
             code,
         },
-        c6,
+        c5,
     )
 }
 
@@ -394,14 +402,9 @@ pub fn command_types(part: &[u8], base: usize) -> CommandTypesRead
     let Step::Next(c2) = closing else {
         return CommandTypesRead::NoCommandTypes(step_lost(closing));
     };
-    let colon = tag_behind(part, base, c2, b':');
-    let Step::Next(c3) = colon else {
-        return CommandTypesRead::NoCommandTypes(step_lost(colon));
-    };
-    let output = blank_at(part, base, c3);
-    let to = parse_id(rest_at(part, base, output), output);
-    let Step::Next(output_end) = to else {
-        return CommandTypesRead::NoCommandTypes(step_lost(to));
+    let to = type_behind(rest_at(part, base, c2), c2);
+    let Named::Name(output, output_end, c3) = to else {
+        return CommandTypesRead::NoCommandTypes(named_lost(to));
     };
     CommandTypesRead::CommandTypes(
         CommandTypesParts {
@@ -410,7 +413,7 @@ pub fn command_types(part: &[u8], base: usize) -> CommandTypesRead
             output,
             output_end,
         },
-        output_end,
+        c3,
     )
 }
 
@@ -440,16 +443,12 @@ pub fn parse_command_after_doc_maturity(
     let CommandTypesRead::CommandTypes(t, c2) = types else {
         return CommandRead::NoCommand(command_types_lost(types));
     };
-    let equals = tag_behind(part, base, c2, b'=');
-    let Step::Next(c3) = equals else {
-        return CommandRead::NoCommand(step_lost(equals));
-    };
-    let number = integer_behind(part, base, c3);
-    let Number::Value(code, c4) = number else {
+    let number = code_behind(part, base, c2);
+    let Number::Value(code, c3) = number else {
         return CommandRead::NoCommand(number_lost(number));
     };
-    let semicolon = tag_behind(part, base, c4, b';');
-    let Step::Next(c5) = semicolon else {
+    let semicolon = tag_behind(part, base, c3, b';');
+    let Step::Next(c4) = semicolon else {
         return CommandRead::NoCommand(step_lost(semicolon));
     };
     CommandRead::Command(
@@ -466,7 +465,7 @@ pub fn parse_command_after_doc_maturity(
             output_end: t.output_end,
             code,
         },
-        c5,
+        c4,
     )
 }
 

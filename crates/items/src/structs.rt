@@ -17,10 +17,13 @@ use crate::counts::Count;
 use crate::counts::closed;
 use crate::counts::count_end;
 use crate::maturity::api_maturity;
+use crate::names::Named;
+use crate::names::code_at;
+use crate::names::keyword_name;
+use crate::names::named_lost;
 use crate::steps::blank_at;
 use crate::steps::gap_at;
 use crate::steps::integer_behind;
-use crate::steps::keyword_behind;
 use crate::steps::tag_behind;
 use crate::writing::First;
 use crate::writing::FrontParts;
@@ -205,12 +208,8 @@ pub fn parse_field(part: &[u8], base: usize) -> FieldRead
     let c6 = blank_at(part, base, c5);
     let marker = list_marker(rest_at(part, base, c6), c6);
     let c7 = marker.next;
-    let equals = tag(rest_at(part, base, c7), c7, b'=');
-    let Step::Next(c8) = equals else {
-        return FieldRead::NoField(step_lost(equals));
-    };
-    let number = integer_behind(part, base, c8);
-    let Number::Value(code, c9) = number else {
+    let number = code_at(part, base, c7);
+    let Number::Value(code, c8) = number else {
         return FieldRead::NoField(number_lost(number));
     };
     FieldRead::Field(
@@ -224,7 +223,7 @@ pub fn parse_field(part: &[u8], base: usize) -> FieldRead
             list: marker.list,
             code,
         },
-        c9,
+        c8,
     )
 }
 
@@ -271,7 +270,7 @@ pub fn struct_field_lost(r: StructFieldRead) -> Lost
 }
 
 // A field of a struct and the semicolon behind it.
-fn closed_field(part: &[u8], base: usize) -> StructFieldRead
+pub fn closed_field(part: &[u8], base: usize) -> StructFieldRead
     requires { ⌜ base + length (now part) ≤ text-limit ⌝ }
     ensures { λ r. ⌜ StructFieldTo closed-field r base (now (part .entry)) ⌝ }
 {
@@ -360,16 +359,12 @@ fn response_code(part: &[u8], base: usize) -> Number
     requires { ⌜ base + length (now part) ≤ text-limit ⌝ }
     ensures { λ r. ⌜ responseReply r base (now (part .entry)) ≡ response-code base (now (part .entry)) ⌝ }
 {
-    let equals = tag(part, base, b'=');
-    let Step::Next(c1) = equals else {
-        return Number::NoNumber(step_lost(equals));
-    };
-    let number = integer_behind(part, base, c1);
-    let Number::Value(code, c2) = number else {
+    let number = code_at(part, base, base);
+    let Number::Value(code, c1) = number else {
         return Number::NoNumber(number_lost(number));
     };
-    let c3 = blank_at(part, base, c2);
-    Number::Value(code, c3)
+    let c2 = blank_at(part, base, c1);
+    Number::Value(code, c2)
 }
 
 // The code of a response; other structs have none, and nothing is read.
@@ -396,32 +391,25 @@ pub fn struct_head(part: &[u8], base: usize, from: usize) -> StructHeadRead
     let start = word.next;
     let set = keywords_set(rest_at(part, base, start), start, 1);
     let c1 = set.next;
-    let key = keyword_behind(part, base, c1, b"struct");
-    let Step::Next(c2) = key else {
-        return StructHeadRead::NoHead(step_lost(key));
+    let c2 = blank_at(part, base, c1);
+    let named = keyword_name(rest_at(part, base, c2), c2, b"struct");
+    let Named::Name(name, end, c3) = named else {
+        return StructHeadRead::NoHead(named_lost(named));
     };
-    let gap = gap_at(part, base, c2);
-    let Step::Next(c3) = gap else {
-        return StructHeadRead::NoHead(step_lost(gap));
-    };
-    let name = parse_id(rest_at(part, base, c3), c3);
-    let Step::Next(c4) = name else {
-        return StructHeadRead::NoHead(step_lost(name));
-    };
-    let c5 = blank_at(part, base, c4);
-    let number = struct_code(rest_at(part, base, c5), c5, kind);
-    let Number::Value(code, c6) = number else {
+    let c4 = blank_at(part, base, c3);
+    let number = struct_code(rest_at(part, base, c4), c4, kind);
+    let Number::Value(code, c5) = number else {
         return StructHeadRead::NoHead(number_lost(number));
     };
     StructHeadRead::Head(
         StructHeadParts {
             kind,
             scoped: set.flags,
-            name: c3,
-            end: c4,
+            name,
+            end,
             code,
         },
-        c6,
+        c5,
     )
 }
 
@@ -516,15 +504,12 @@ pub fn write_struct_fields(part: &[u8], base: usize, out: &mut [u8], at: usize) 
         return nothing;
     };
     let run = write_fields(rest_at(part, base, c1), c1, out, at);
-    let c2 = run.next;
-    let w = whitespace0(rest_at(part, base, c2), c2);
-    let c3 = w.next;
-    let close = tag(rest_at(part, base, c3), c3, b'}');
-    let Step::Next(c4) = close else {
+    let close = tag_behind(part, base, run.next, b'}');
+    let Step::Next(c2) = close else {
         return nothing;
     };
     Wrote {
-        next: c4,
+        next: c2,
         to: run.to,
     }
 }

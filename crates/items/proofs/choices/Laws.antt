@@ -10,7 +10,7 @@ use lib.ListN.{length, drop}
 use Rattle.lexing.specs.reply.{ok, opt}
 use Rattle.lexing.specs.words.{Word, parse-id}
 use Rattle.lexing.specs.word_sets.{bit}
-use Rattle.lexing.proofs.Onward.{Onward, parse-id-advances}
+use Rattle.lexing.proofs.Onward.{Onward}
 use Rattle.lexing.proofs.Locality.{chain-opt}
 use Rattle.lexing.proofs.Slicing.{Took, walks, rest-self}
 use Rattle.items.specs.entries.{present, Entry, shared-before, choice-head, constant-entries-list, choice-after-doc-maturity}
@@ -42,10 +42,6 @@ shared-took {b} {f} {u} h = record {
   is = opt-present (walks (shared-before-local .on-chain)) shared-before-consumes b u (h .reads);
   step = skip-took (walks (chain-opt (shared-before-local .on-chain))) (rest-self b u) refl h;
 }
-
--- a word reads a byte or more
-pub name-more : {b n : ℕ} {u : List ℕ} {a : Word} {c : ℕ} → Took parse-id b u n a c → n < c
-name-more {b} {n} {u} {a} {c} t = (rw (t .goes) at (parse-id-advances .reads n (drop (n - b) u))) .2
 
 -- the head, by whether `shared` stands before it
 pub choice-head-is : (k : List ℕ) (b : ℕ) (u : List ℕ) (h : ChoiceHeadParts) (c : ℕ) (s : Option Word) → present s ≡ h .shared

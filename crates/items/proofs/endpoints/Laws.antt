@@ -34,11 +34,9 @@ use Rattle.items.specs.inner.endpoints.{blank-binding, plainWord, name-p
 use Rattle.items.specs.layout.{packed, width, from-top, offset, size, layout-20, further-word, record-words, big-endian, catalogue-words, catalogue-bytes, word-count, text-limit}
 use Rattle.items.specs.buffers.{put}
 use Rattle.items.specs.answers.{NameIn, wordBetween}
-use Rattle.items.specs.answers.endpoints.{NamedTo, deviceTypeAt, InstanceIn, attributeInstanceAt, valueOf, valueLost, valueAnswer, ValueIn, ValueTo, SpanIn, DefaultIn, optionalValue, defaultOf, OptionalTo}
+use Rattle.items.specs.answers.endpoints.{deviceTypeAt, InstanceIn, attributeInstanceAt, valueOf, valueAnswer, ValueIn, ValueTo, SpanIn, DefaultIn, optionalValue, defaultOf, OptionalTo}
 use Rattle.items.specs.declared.endpoints.DeviceTypeParts.{DeviceTypeParts}
 use Rattle.items.specs.declared.endpoints.AttributeInstanceParts.{AttributeInstanceParts}
-use Rattle.items.specs.declared.endpoints.Named.{Named}
-use Rattle.items.specs.declared.endpoints.Named.the-variants.{Name}
 use Rattle.items.specs.declared.endpoints.SpanParts.{SpanParts}
 use Rattle.items.specs.declared.endpoints.DefaultValue.{DefaultValue}
 use Rattle.items.specs.declared.endpoints.DefaultValue.the-variants.{Number as Num, Signed as SignedValue, Truth, Text}
@@ -78,17 +76,9 @@ default-on = walks (default-attribute-value-local .on-chain)
 pub optional-on : Onward (opt (whitespace1 >> default-attribute-value))
 optional-on = walks (chain-opt (chain-then whitespace1-chain (default-attribute-value-local .on-chain)))
 
--- names
-module _ {m : Parser Word} {n : ℕ} {r : List ℕ} {a : Named} {x e c : ℕ} (h : NamedTo m a n r) (d : a ≡ Name x e c) where
-  pub named-in : NameIn n x e c
-  named-in = read-within h d
-
-  pub named-took : (w : Onward m) {b : ℕ} {u : List ℕ} → Rest b u n r → Took m b u n (wordBetween b u x e) c
-  named-took w {b} {u} q = rw (← word-moved b n u r x e q (named-in .from)) (read-took h d w q refl)
-
--- a number that another reader than that of integers gives
-pub number-took : {m : Parser ℕ} (w : Onward m) {b n : ℕ} {u r : List ℕ} {a : Number} {v c : ℕ} → Rest b u n r → a ≡ Value v c → numberReply a n r ≡ m n r → Took m b u n v c
-number-took {m} w {b} {n} {u} {r} q e h = took w q (subst (λ (x : Number). numberReply x n r ≡ m n r) e h)
+-- some instance of an attribute: where none is read there is no value
+pub no-instance : AttributeInstanceOf
+no-instance = record { handling = 0; name = word 0 []; default = none }
 
 -- the tries of a default's value
 module _ (b : ℕ) (u : List ℕ) {a : Number} (h : numberReply a b u ≡ positive-integer b u) where
@@ -148,14 +138,8 @@ module _ (b : ℕ) (u : List ℕ) {a : Step} (h : stringReply a b u ≡ default-
     text-past = string-past (default-string b u) (string-place default-escape b u) l' lost-string
 
 -- a value that may be absent
-value-told : (r : ValueRead) (l k x : Lost) → r ≡ NoValue k → l ≡ valueLost r → l ≡ x → r ≡ NoValue x
-value-told r l k x e d z = e ∙ ap NoValue (sym (d ∙ ap valueLost e) ∙ z)
-
 pub optional-at : (r : ValueRead) (b : ℕ) {x : ValueRead} → r ≡ x → optionalValue x b ≡ optionalValue r b
 optional-at r b e = sym (ap (λ (y : ValueRead). optionalValue y b) e)
-
-pub optional-told : (r : ValueRead) (b : ℕ) (l k x : Lost) → r ≡ NoValue k → l ≡ valueLost r → l ≡ x → optionalValue (NoValue x) b ≡ optionalValue r b
-optional-told r b l k x e d z = optional-at r b (value-told r l k x e d z)
 
 optional-to : {m : Parser DefaultOf} (a : ValueRead) (b : ℕ) (u : List ℕ) → ValueTo m a b u → OptionalTo m (optionalValue a b) b u
 optional-to {m} (Read v c) b u h = record { reads = opt-ok m b u (valueOf v) c (drop (c - b) u) (h .reads); within = h .within }

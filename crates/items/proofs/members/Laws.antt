@@ -8,7 +8,8 @@ use native.Mathlib.Omega.{arith}
 use lib.Dec.{ltb}
 use lib.ListN.{length, drop}
 use borrow.Author.Tests.{lt-ltb, le-ltb}
-use Rattle.lexing.specs.reply.{ok, fail, Parser, _>>_, opt}
+use Rattle.lexing.specs.bytes.{ascii}
+use Rattle.lexing.specs.reply.{Reply, ok, fail, Parser, _>>_, opt}
 use Rattle.lexing.specs.words.{Word, parse-id}
 use Rattle.lexing.specs.answers.{Rest, lostReply, reply, lostOf, wordAt, wordReply, docOf}
 use Rattle.lexing.specs.word_sets.{bit}
@@ -19,7 +20,7 @@ use Rattle.lexing.specs.declared.answers.Step.the-variants.{Next, Not}
 use Rattle.lexing.specs.declared.blanks.DocSpan.{DocSpan}
 use Rattle.lexing.proofs.Onward.{Onward, parse-id-advances}
 use Rattle.lexing.proofs.Locality.{OnChain, chain-opt, chain-inside}
-use Rattle.lexing.proofs.TokenLocality.{parse-id-chain}
+use Rattle.lexing.proofs.TokenLocality.{parse-id-chain, keyword-chain, whitespace1-chain}
 use Rattle.lexing.proofs.Slicing.{Took, took, walks, begin, on}
 use Rattle.items.specs.structs.{struct-fields, StructField as StructFieldOf}
 use Rattle.items.specs.members.{or-else, event-qualities, event-head, parse-event-after-doc-maturity, command-head, CommandTypes as CommandTypesOf, command-types, Command as CommandOf, parse-command-after-doc-maturity}
@@ -45,14 +46,17 @@ use Rattle.items.specs.declared.members.CommandTypesRead.the-variants.{C
 use Rattle.items.specs.declared.members.CommandParts.{CommandParts}
 use Rattle.items.specs.declared.members.CommandRead.{CommandRead}
 use Rattle.items.specs.declared.members.CommandRead.the-variants.{Command}
-use Rattle.items.proofs.Answers.{read-within, read-took, read-lost}
+use Rattle.items.proofs.Answers.{read-within, read-took, read-lost, last-lost}
+use Rattle.items.proofs.Mapped.{mapped-ok, mapped-not}
+use Rattle.items.proofs.Onward.{onward-then}
 use Rattle.items.proofs.WordBetween.{word-moved, extent-between}
 use Rattle.items.proofs.writing.Laws.{put-next, documented-bytes, documented-put}
 use Rattle.items.proofs.structs.Laws.{present-is}
 use Rattle.items.proofs.optional.Laws.{opt-ok, opt-fail, opt-stop}
-use Rattle.items.proofs.Locality.{command-types-inside, event-head-inside, parse-command-consumes}
+use Rattle.items.proofs.Locality.{access-to-inside, command-types-inside, event-head-inside, parse-command-consumes}
 use Rattle.items.specs.buffers.{put}
-use Rattle.items.specs.inner.members.{event-first, extentIf, command-parts}
+use Rattle.items.specs.clusters.{mapped}
+use Rattle.items.specs.inner.members.{event-access, event-first, extentIf, command-parts}
 use Rattle.items.specs.declared.writing.FrontParts.{FrontParts}
 use Rattle.items.proofs.Headed.{Headed}
 use Rattle.items.proofs.counts.Laws.{read-counted}
@@ -111,6 +115,21 @@ module _ {m : Parser ℕ} (z : ℕ) {a t : Level} {n : ℕ} {r : List ℕ} (h : 
   level-or-lost {l} {l'} e f =
       let x : l' ≡ l = e ∙ ap levelLost f in
       ap (λ (y : Lost). lostReply y) x ∙ level-or-not m z a n r l (h .reads) (sym d ∙ f)
+
+-- as the last step of M, by what is chosen
+pub level-or-ends : {m : Parser ℕ} (z : ℕ) {a : Level} {n : ℕ} {r : List ℕ} → LevelTo m a n r → (t : Level) → t ≡ levelOr a z n → OnChain m → z < 4 → (M : Parser (Option ℕ)) {b : ℕ} {u : List ℕ} → Rest b u n r
+    → ((X : Reply (Option ℕ)) → X ≡ opt m n (drop (n - b) u) → X ≡ M b u) → LevelTo (mapped M (or-else z)) t b u
+level-or-ends z h (Chosen v c) d w l M {b} {u} q g =
+    let s : TookOr _ z b u _ v c = level-or-took z h d w l q refl in
+    record { reads = mapped-ok (or-else z) M b u (s .granted) c (drop (c - b) u) (s .is) (g _ (sym (s .step .goes))); within = s .small }
+level-or-ends {m} z h (NoLevel l') d w l M {b} {u} q g = record { reads = mapped-not (or-else z) M b u l' (g _ (last-lost (opt m) l' q (level-or-lost z h d refl refl))); within = tt }
+
+pub level-not : (z : ℕ) (M : Parser (Option ℕ)) (l : Lost) {b : ℕ} {u : List ℕ} → lostReply l ≡ M b u → LevelTo (mapped M (or-else z)) (NoLevel l) b u
+level-not z M l {b} {u} e = record { reads = mapped-not (or-else z) M b u l e; within = tt }
+
+pub event-access-on : Onward event-access
+event-access-on =
+    onward-then (walks whitespace1-chain) (onward-then (walks (keyword-chain (ascii "event"))) (onward-then (walks whitespace1-chain) (walks (chain-opt (chain-inside (access-to-inside (ascii "read")))))))
 
 -- a level behind another step
 pub level-after : {A : Type 0} {m : Parser A} {k : Parser ℕ} → Onward k → (a : Level) {x : A} {b n : ℕ} {u r : List ℕ} → Took m b u b x n → Rest b u n r → LevelTo k a n r → LevelTo (m >> k) a b u

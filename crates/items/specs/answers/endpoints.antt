@@ -4,7 +4,6 @@ use mathlib.Core.Path.{_≡_}
 use mathlib.Core.List.{List}
 use mathlib.Core.Option.{Option, none, some}
 use Rattle.lexing.specs.reply.{Parser, _>>_, opt}
-use Rattle.lexing.specs.words.{Word}
 use Rattle.lexing.specs.integers.{signed}
 use Rattle.lexing.specs.blanks.{whitespace1}
 use Rattle.lexing.specs.strings.{span}
@@ -17,8 +16,6 @@ use Rattle.items.specs.layout.{word-count}
 use Rattle.items.specs.endpoints.{Tried as TriedOf, Deep, DeviceType as DeviceTypeOf, device-type, Default as DefaultOf, number, signed-number, truth, text, default-attribute-value, attribute-handling-type, AttributeInstance as AttributeInstanceOf, attribute-instantiation}
 use Rattle.items.specs.answers.{ReadTo, NameIn, wordBetween, Room, Written}
 use Rattle.items.specs.declared.writing.Wrote.{Wrote}
-use Rattle.items.specs.declared.endpoints.Named.{Named}
-use Rattle.items.specs.declared.endpoints.Named.the-variants.{Name, NoName}
 use Rattle.items.specs.declared.endpoints.DeviceTypeParts.{DeviceTypeParts}
 use Rattle.items.specs.declared.endpoints.DeviceTypeRead.{DeviceTypeRead}
 use Rattle.items.specs.declared.endpoints.DeviceTypeRead.the-variants.{DeviceType, NoDeviceType}
@@ -37,22 +34,6 @@ use Rattle.items.specs.declared.endpoints.AttributeInstanceRead.{Attribu
 use Rattle.items.specs.declared.endpoints.AttributeInstanceRead.the-variants.{AttributeInstance, NoAttributeInstance}
 use Rattle.items.specs.declared.endpoints.Tried.{Tried}
 use Rattle.items.specs.declared.endpoints.Tried.the-variants.{Found, NotFound}
-
--- names
-abbrev pub namedAnswer : ℕ → List ℕ → Named → Answer Word
-namedAnswer b u (Name n e c) = got (wordBetween b u n e) c
-namedAnswer b u (NoName l) = lost l
-
-abbrev pub namedLost : Named → Lost
-namedLost (Name n e c) = Fail c
-namedLost (NoName l) = l
-
-abbrev pub NamedIn : ℕ → Named → Type 0
-NamedIn b (Name n e c) = NameIn b n e c
-NamedIn b (NoName l) = Unit {0}
-
-abbrev pub NamedTo : Parser Word → Named → ℕ → List ℕ → Type 0
-NamedTo m r b u = ReadTo namedAnswer NamedIn m r b u
 
 -- device types
 abbrev pub deviceTypeAt : ℕ → List ℕ → DeviceTypeParts → DeviceTypeOf
@@ -106,10 +87,6 @@ SpanIn (Text s) c = s .start + s .length < c
 abbrev pub valueAnswer : ℕ → List ℕ → ValueRead → Answer DefaultOf
 valueAnswer b u (Read v c) = got (valueOf v) c
 valueAnswer b u (NoValue l) = lost l
-
-abbrev pub valueLost : ValueRead → Lost
-valueLost (Read v c) = Fail c
-valueLost (NoValue l) = l
 
 abbrev pub ValueIn : ℕ → ValueRead → Type 0
 ValueIn b (Read v c) = SpanIn v c

@@ -1,13 +1,27 @@
--- What the private functions of the writers of events and commands promise.
+-- What the private functions of the readers and writers of events and commands promise.
 use Prim.Native.Nat.{ℕ, _-_}
 use mathlib.Core.Bool.{Bool, true, false}
 use mathlib.Core.List.{[], _∷_}
+use mathlib.Core.Option.{Option}
 use lib.Dec.{ltb}
+use Rattle.lexing.specs.bytes.{ascii}
+use Rattle.lexing.specs.reply.{Parser, _>>_, opt}
+use Rattle.lexing.specs.words.{keyword}
+use Rattle.lexing.specs.blanks.{whitespace1}
 use Rattle.lexing.specs.answers.{docOf}
+use Rattle.items.specs.members.{access-to}
 use Rattle.items.specs.records.{Extent, absent, at, Record, bits, value, spanned, flag, documented}
 use Rattle.items.specs.declared.members.EventHeadParts.{EventHeadParts}
 use Rattle.items.specs.declared.members.CommandParts.{CommandParts}
 use Rattle.items.specs.declared.writing.FrontParts.{FrontParts}
+
+-- an event from the blanks behind its priority up to those before its name
+abbrev pub event-access : Parser (Option ℕ)
+event-access = do
+  whitespace1
+  keyword (ascii "event")
+  whitespace1
+  opt (access-to (ascii "read"))
 
 -- the first record of an event, by offsets
 abbrev pub event-first : FrontParts → EventHeadParts → Record

@@ -5,14 +5,15 @@ use Rattle.lexing.specs.answers.{docOf}
 use Rattle.items.specs.members.{parse-attribute-after-doc-maturity}
 use Rattle.items.proofs.SetSizes.{fits}
 use Rattle.items.proofs.attributes.Laws.{privileges-small, attribute-access-onward}
-use Rattle.items.proofs.structs.Laws.{struct-field-between, between-wider, parse-struct-field-on, struct-field-took, struct-field-none}
+use Rattle.items.specs.structs.{closed-field}
+use Rattle.items.proofs.structs.Laws.{closed-field-on, struct-field-between, between-wider, struct-field-took, struct-field-none}
 use mathlib.Core.Path.{refl}
 use native.Mathlib.Omega.{arith}
 use Rattle.lexing.specs.bytes.{ascii}
 use Rattle.lexing.proofs.Slicing.{rest-self, begin, go, on, lose, fall, done, set-took}
-use Rattle.items.proofs.Answers.{read-is, read-not, read-took, read-lost}
-use Rattle.items.proofs.Pairs.{pair-on, pair-fall}
-use Rattle.items.proofs.steps.Laws.{blank-at-took, gap-at-took, tag-behind-took, keyword-behind-took, skips-lost}
+use Rattle.items.proofs.Answers.{read-is, read-not, read-lost, read-took}
+use Rattle.items.proofs.Pairs.{pair-on, pair-fall, closed-go, closed-lose}
+use Rattle.items.proofs.steps.Laws.{gap-at-took, keyword-behind-took, skips-lost}
 use Rattle.items.specs.answers.attributes.{privilegesLost}
 
 keywords-set-requires : tie.Need-keywords-set-requires
@@ -34,7 +35,7 @@ step-lost-requires : tie.Need-step-lost-requires
 step-lost-requires c κs = tt
 
 returns : tie.Need-returns
-unfolding parse-attribute-after-doc-maturity
+unfolding parse-attribute-after-doc-maturity closed-field
 returns c = read-not _ refl tt (begin (parse-attribute-after-doc-maturity (docOf (c .before .before .before .before .before .before .before .args .doc)) (c .before .before .before .before .before .before .before .args .maturity)) _ _ (go _ (set-took (rest-self _ _) (c .before .before .before .before .before .keywords-set .ensures)) (pair-fall _ _ _ (c .step-lost .result) (c .before .before .before .keyword-behind .ensures .at) (skips-lost (c .step-lost .ensures) (c .before .enum-told .given .1) (c .before .before .before .keyword-behind .ensures)))))
 
 gap-at-requires : tie.Need-gap-at-requires
@@ -50,7 +51,7 @@ step-lost-requires-2 : tie.Need-step-lost-requires-2
 step-lost-requires-2 c κs = tt
 
 returns-2 : tie.Need-returns-2
-unfolding parse-attribute-after-doc-maturity
+unfolding parse-attribute-after-doc-maturity closed-field
 returns-2 c = read-not _ refl tt (begin (parse-attribute-after-doc-maturity (docOf (c .before .before .before .before .before .before .before .before .before .before .before .args .doc)) (c .before .before .before .before .before .before .before .before .before .before .before .args .maturity)) _ _ (go _ (set-took (rest-self _ _) (c .before .before .before .before .before .before .before .before .before .keywords-set .ensures)) (pair-on _ _ _ (keyword-behind-took (ascii "attribute") (c .before .before .before .before .before .attribute .given .1) (c .before .before .before .before .before .before .before .keyword-behind .ensures)) (fall _ _ (c .step-lost2 .result) (c .before .before .before .gap-at .ensures .at) (skips-lost (c .step-lost2 .ensures) (c .before .enum-told2 .given .1) (c .before .before .before .gap-at .ensures))))))
 
 rest-at-requires : tie.Need-rest-at-requires
@@ -69,17 +70,14 @@ privileges-lost-requires : tie.Need-privileges-lost-requires
 privileges-lost-requires c κs = tt
 
 returns-3 : tie.Need-returns-3
-unfolding parse-attribute-after-doc-maturity
+unfolding parse-attribute-after-doc-maturity closed-field
 returns-3 c = read-not _ refl tt (begin (parse-attribute-after-doc-maturity (docOf (c .before .before .before .before .before .before .before .before .before .before .before .before .before .before .before .before .args .doc)) (c .before .before .before .before .before .before .before .before .before .before .before .before .before .before .before .before .args .maturity)) _ _ (go _ (set-took (rest-self _ _) (c .before .before .before .before .before .before .before .before .before .before .before .before .before .before .keywords-set .ensures)) (pair-on _ _ _ (keyword-behind-took (ascii "attribute") (c .before .before .before .before .before .before .before .before .before .before .attribute .given .1) (c .before .before .before .before .before .before .before .before .before .before .before .before .keyword-behind .ensures)) (on _ (gap-at-took (c .before .before .before .before .before .before .gap .given .1) (c .before .before .before .before .before .before .before .before .gap-at .ensures)) (lose _ _ (c .privileges-lost .result) (c .before .before .before .before .rest-at .ensures) (read-lost (c .before .before .before .attribute-access .ensures) (c .before .enum-told3 .given .1) privilegesLost (c .privileges-lost .ensures) refl))))))
 
-blank-at-requires : tie.Need-blank-at-requires
-blank-at-requires c κs = let t = read-took (c .before .before .before .attribute-access .ensures) (c .before .access .given .1) attribute-access-onward (c .before .before .before .before .rest-at .ensures) refl in omega (arith, t .up, t .inside, c .before .before .before .before .rest-at .ensures .from, c .before .before .before .before .before .before .before .before .before .before .before .before .before .before .before .before .pre)
-
 rest-at-requires-2 : tie.Need-rest-at-requires-2
-rest-at-requires-2 c κs = let t = blank-at-took (c .blank-at .ensures) in omega (arith, t .up, t .inside, c .blank-at .ensures .at .from)
+rest-at-requires-2 c κs = let t = read-took (c .before .before .before .attribute-access .ensures) (c .before .access .given .1) attribute-access-onward (c .before .before .before .before .rest-at .ensures) refl in omega (arith, t .up, t .inside, c .before .before .before .before .rest-at .ensures .from)
 
-parse-struct-field-requires : tie.Need-parse-struct-field-requires
-parse-struct-field-requires c κs = omega (arith, c .rest-at2 .ensures .size, c .before .before .before .before .before .before .before .before .before .before .before .before .before .before .before .before .before .before .pre)
+closed-field-requires : tie.Need-closed-field-requires
+closed-field-requires c κs = omega (arith, c .rest-at2 .ensures .size, c .before .before .before .before .before .before .before .before .before .before .before .before .before .before .before .before .before .pre)
 
 enum-known-r : tie.Need-enum-known-r
 enum-known-r c = c .match4 .keys1
@@ -91,28 +89,39 @@ struct-field-lost-requires : tie.Need-struct-field-lost-requires
 struct-field-lost-requires c κs = tt
 
 returns-4 : tie.Need-returns-4
-unfolding parse-attribute-after-doc-maturity
-returns-4 c = read-not _ refl tt (begin (parse-attribute-after-doc-maturity (docOf (c .before .before .before .before .before .before .before .before .before .before .before .before .before .before .before .before .before .before .before .before .before .before .args .doc)) (c .before .before .before .before .before .before .before .before .before .before .before .before .before .before .before .before .before .before .before .before .before .before .args .maturity)) _ _ (go _ (set-took (rest-self _ _) (c .before .before .before .before .before .before .before .before .before .before .before .before .before .before .before .before .before .before .before .before .keywords-set .ensures)) (pair-on _ _ _ (keyword-behind-took (ascii "attribute") (c .before .before .before .before .before .before .before .before .before .before .before .before .before .before .before .before .attribute .given .1) (c .before .before .before .before .before .before .before .before .before .before .before .before .before .before .before .before .before .before .keyword-behind .ensures)) (on _ (gap-at-took (c .before .before .before .before .before .before .before .before .before .before .before .before .gap .given .1) (c .before .before .before .before .before .before .before .before .before .before .before .before .before .before .gap-at .ensures)) (go _ (read-took (c .before .before .before .before .before .before .before .before .before .attribute-access .ensures) (c .before .before .before .before .before .before .before .access .given .1) attribute-access-onward (c .before .before .before .before .before .before .before .before .before .before .rest-at .ensures) refl) (on _ (blank-at-took (c .before .before .before .before .before .blank-at .ensures)) (lose _ _ (c .struct-field-lost .result) (c .before .before .before .before .rest-at2 .ensures) (struct-field-none parse-struct-field-on (c .before .before .before .before .rest-at2 .ensures) (c .before .before .before .parse-struct-field .ensures) (c .struct-field-lost .ensures) (c .before .enum-told4 .given .1)))))))))
-
-tag-behind-requires : tie.Need-tag-behind-requires
-tag-behind-requires c κs = let t = struct-field-took parse-struct-field-on (c .before .before .before .before .rest-at2 .ensures) (c .before .before .before .parse-struct-field .ensures) (c .before .r .given .1) in omega (arith, t .up, t .inside, c .before .before .before .before .rest-at2 .ensures .from, c .before .before .before .before .before .before .before .before .before .before .before .before .before .before .before .before .before .before .before .before .before .before .pre)
-
-enum-known-semicolon : tie.Need-enum-known-semicolon
-enum-known-semicolon c = c .match5 .keys1
-
-enum-told-5 : tie.Need-enum-told-5
-enum-told-5 c = c .match5 .keys2
-
-step-lost-requires-3 : tie.Need-step-lost-requires-3
-step-lost-requires-3 c κs = tt
+unfolding parse-attribute-after-doc-maturity closed-field
+returns-4 c = read-not _ refl tt (begin (parse-attribute-after-doc-maturity (docOf (c .before .before .before .before .before .before .before .before .before .before .before .before .before .before .before .before .before .before .before .before .before .args .doc)) (c .before .before .before .before .before .before .before .before .before .before .before .before .before .before .before .before .before .before .before .before .before .args .maturity)) _ _ (go _ (set-took (rest-self _ _) (c .before .before .before .before .before .before .before .before .before .before .before .before .before .before .before .before .before .before .before .keywords-set .ensures)) (pair-on _ _ _ (keyword-behind-took (ascii "attribute") (c .before .before .before .before .before .before .before .before .before .before .before .before .before .before .before .attribute .given .1) (c .before .before .before .before .before .before .before .before .before .before .before .before .before .before .before .before .before .keyword-behind .ensures)) (on _ (gap-at-took (c .before .before .before .before .before .before .before .before .before .before .before .gap .given .1) (c .before .before .before .before .before .before .before .before .before .before .before .before .before .gap-at .ensures)) (go _ (read-took (c .before .before .before .before .before .before .before .before .attribute-access .ensures) (c .before .before .before .before .before .before .access .given .1) attribute-access-onward (c .before .before .before .before .before .before .before .before .before .rest-at .ensures) refl) (closed-lose _ _ _ _ _ (c .struct-field-lost .result) (c .before .before .before .before .rest-at2 .ensures) (struct-field-none closed-field-on (c .before .before .before .before .rest-at2 .ensures) (c .before .before .before .closed-field .ensures) (c .struct-field-lost .ensures) (c .before .enum-told4 .given .1))))))))
 
 returns-5 : tie.Need-returns-5
-unfolding parse-attribute-after-doc-maturity
-returns-5 c = read-not _ refl tt (begin (parse-attribute-after-doc-maturity (docOf (c .before .before .before .before .before .before .before .before .before .before .before .before .before .before .before .before .before .before .before .before .before .before .before .before .before .before .args .doc)) (c .before .before .before .before .before .before .before .before .before .before .before .before .before .before .before .before .before .before .before .before .before .before .before .before .before .before .args .maturity)) _ _ (go _ (set-took (rest-self _ _) (c .before .before .before .before .before .before .before .before .before .before .before .before .before .before .before .before .before .before .before .before .before .before .before .before .keywords-set .ensures)) (pair-on _ _ _ (keyword-behind-took (ascii "attribute") (c .before .before .before .before .before .before .before .before .before .before .before .before .before .before .before .before .before .before .before .before .attribute .given .1) (c .before .before .before .before .before .before .before .before .before .before .before .before .before .before .before .before .before .before .before .before .before .before .keyword-behind .ensures)) (on _ (gap-at-took (c .before .before .before .before .before .before .before .before .before .before .before .before .before .before .before .before .gap .given .1) (c .before .before .before .before .before .before .before .before .before .before .before .before .before .before .before .before .before .before .gap-at .ensures)) (go _ (read-took (c .before .before .before .before .before .before .before .before .before .before .before .before .before .attribute-access .ensures) (c .before .before .before .before .before .before .before .before .before .before .before .access .given .1) attribute-access-onward (c .before .before .before .before .before .before .before .before .before .before .before .before .before .before .rest-at .ensures) refl) (on _ (blank-at-took (c .before .before .before .before .before .before .before .before .before .blank-at .ensures)) (go _ (struct-field-took parse-struct-field-on (c .before .before .before .before .before .before .before .before .rest-at2 .ensures) (c .before .before .before .before .before .before .before .parse-struct-field .ensures) (c .before .before .before .before .before .r .given .1)) (pair-fall _ _ _ (c .step-lost3 .result) (c .before .before .before .tag-behind .ensures .at) (skips-lost (c .step-lost3 .ensures) (c .before .enum-told5 .given .1) (c .before .before .before .tag-behind .ensures))))))))))
-
-returns-6 : tie.Need-returns-6
-unfolding parse-attribute-after-doc-maturity
-returns-6 c = read-is refl (begin (parse-attribute-after-doc-maturity (docOf (c .before .before .before .before .before .before .before .before .before .before .before .before .before .before .before .before .before .before .before .before .before .before .before .before .before .before .args .doc)) (c .before .before .before .before .before .before .before .before .before .before .before .before .before .before .before .before .before .before .before .before .before .before .before .before .before .before .args .maturity)) _ _ (go _ (set-took (rest-self _ _) (c .before .before .before .before .before .before .before .before .before .before .before .before .before .before .before .before .before .before .before .before .before .before .before .before .keywords-set .ensures)) (pair-on _ _ _ (keyword-behind-took (ascii "attribute") (c .before .before .before .before .before .before .before .before .before .before .before .before .before .before .before .before .before .before .before .before .attribute .given .1) (c .before .before .before .before .before .before .before .before .before .before .before .before .before .before .before .before .before .before .before .before .before .before .keyword-behind .ensures)) (on _ (gap-at-took (c .before .before .before .before .before .before .before .before .before .before .before .before .before .before .before .before .gap .given .1) (c .before .before .before .before .before .before .before .before .before .before .before .before .before .before .before .before .before .before .gap-at .ensures)) (go _ (read-took (c .before .before .before .before .before .before .before .before .before .before .before .before .before .attribute-access .ensures) (c .before .before .before .before .before .before .before .before .before .before .before .access .given .1) attribute-access-onward (c .before .before .before .before .before .before .before .before .before .before .before .before .before .before .rest-at .ensures) refl) (on _ (blank-at-took (c .before .before .before .before .before .before .before .before .before .blank-at .ensures)) (go _ (struct-field-took parse-struct-field-on (c .before .before .before .before .before .before .before .before .rest-at2 .ensures) (c .before .before .before .before .before .before .before .parse-struct-field .ensures) (c .before .before .before .before .before .r .given .1)) (pair-on _ _ _ (tag-behind-took 59 (c .before .semicolon .given .1) (c .before .before .before .tag-behind .ensures)) (done _ _ _ _))))))))) (let w = struct-field-between parse-struct-field-on (c .before .before .before .before .before .before .before .before .rest-at2 .ensures) (c .before .before .before .before .before .before .before .parse-struct-field .ensures) (c .before .before .before .before .before .r .given .1) in record { doc = refl; maturity = refl; between = record { flags = fits 4 (c .before .before .before .before .before .before .before .before .before .before .before .before .before .before .before .before .before .before .before .before .before .before .before .before .keywords-set .ensures); privileges = privileges-small (c .before .before .before .before .before .before .before .before .before .before .before .before .before .attribute-access .ensures) (c .before .before .before .before .before .before .before .before .before .before .before .access .given .1); field = record { between = between-wider (c .before .before .before .before .before .before .before .before .rest-at2 .ensures .from) (omega (arith, (tag-behind-took 59 (c .before .semicolon .given .1) (c .before .before .before .tag-behind .ensures)) .up)) (w .between); few-maturities = w .few-maturities; few-flags = w .few-flags } } })
+unfolding parse-attribute-after-doc-maturity closed-field
+returns-5 c = read-is refl (begin (parse-attribute-after-doc-maturity (docOf (c .before .before .before .before .before .before .before .before .before .before .before .before .before .before .before .before .before .before .before .before .before .args .doc)) (c .before .before .before .before .before .before .before .before .before .before .before .before .before .before .before .before .before .before .before .before .before .args .maturity)) _ _ (go _ (set-took (rest-self _ _) (c .before .before .before .before .before .before .before .before .before .before .before .before .before .before .before .before .before .before .before .keywords-set .ensures)) (pair-on _ _ _ (keyword-behind-took (ascii "attribute") (c .before .before .before .before .before .before .before .before .before .before .before .before .before .before .before .attribute .given .1) (c .before .before .before .before .before .before .before .before .before .before .before .before .before .before .before .before .before .keyword-behind .ensures)) (on _ (gap-at-took (c .before .before .before .before .before .before .before .before .before .before .before .gap .given .1) (c .before .before .before .before .before .before .before .before .before .before .before .before .before .gap-at .ensures)) (go _ (read-took (c .before .before .before .before .before .before .before .before .attribute-access .ensures) (c .before .before .before .before .before .before .access .given .1) attribute-access-onward (c .before .before .before .before .before .before .before .before .before .rest-at .ensures) refl) (closed-go _ _ _ _ _ (struct-field-took closed-field-on (c .before .before .before .before .rest-at2 .ensures) (c .before .before .before .closed-field .ensures) (c .before .r .given .1)) (done _ _ _ _))))))) (let w = struct-field-between closed-field-on (c .before .before .before .before .rest-at2 .ensures) (c .before .before .before .closed-field .ensures) (c .before .r .given .1) in record { doc = refl; maturity = refl; between = record { flags = fits 4 (c .before .before .before .before .before .before .before .before .before .before .before .before .before .before .before .before .before .before .before .keywords-set .ensures); privileges = privileges-small (c .before .before .before .before .before .before .before .before .attribute-access .ensures) (c .before .before .before .before .before .before .access .given .1); field = record { between = between-wider (c .before .before .before .before .rest-at2 .ensures .from) (omega arith) (w .between); few-maturities = w .few-maturities; few-flags = w .few-flags } } })
 
 pub parse-attribute-after-doc-maturity-spec : {M : Type 1} → statement M
-parse-attribute-after-doc-maturity-spec = tie.close (tie.spec keywords-set-requires slice-aggregate-keyword-behind keyword-behind-requires enum-known-attribute enum-told step-lost-requires returns gap-at-requires enum-known-gap enum-told-2 step-lost-requires-2 returns-2 rest-at-requires attribute-access-requires enum-known-access enum-told-3 privileges-lost-requires returns-3 blank-at-requires rest-at-requires-2 parse-struct-field-requires enum-known-r enum-told-4 struct-field-lost-requires returns-4 tag-behind-requires enum-known-semicolon enum-told-5 step-lost-requires-3 returns-5 returns-6)
+parse-attribute-after-doc-maturity-spec =
+    tie.close
+    (tie.spec
+    keywords-set-requires
+    slice-aggregate-keyword-behind
+    keyword-behind-requires
+    enum-known-attribute
+    enum-told
+    step-lost-requires
+    returns
+    gap-at-requires
+    enum-known-gap
+    enum-told-2
+    step-lost-requires-2
+    returns-2
+    rest-at-requires
+    attribute-access-requires
+    enum-known-access
+    enum-told-3
+    privileges-lost-requires
+    returns-3
+    rest-at-requires-2
+    closed-field-requires
+    enum-known-r
+    enum-told-4
+    struct-field-lost-requires
+    returns-4
+    returns-5)

@@ -3,14 +3,15 @@ use Rattle.items.proofs.endpoints.blank_binding.Statement.{statement}
 use Rattle.items.proofs.endpoints.blank_binding.Tie as tie
 use Rattle.items.specs.endpoints.{named-after}
 use Rattle.items.specs.inner.endpoints.{blank-binding}
-use Rattle.items.proofs.endpoints.Laws.{named-in, named-took, named-after-on}
+use Rattle.items.proofs.names.Laws.{named-wider, named-took}
 use mathlib.Core.Path.{refl, sym}
 use native.Mathlib.Omega.{arith}
 use Rattle.lexing.specs.bytes.{ascii}
 use Rattle.lexing.proofs.Slicing.{begin, on}
 use Rattle.items.proofs.Answers.{read-is, read-not, last-lost, read-lost}
 use Rattle.items.proofs.steps.Laws.{blank-at-took}
-use Rattle.items.specs.answers.endpoints.{namedLost}
+use Rattle.items.specs.answers.names.{namedLost}
+use Rattle.items.proofs.endpoints.Laws.{named-after-on}
 
 blank-at-requires : tie.Need-blank-at-requires
 blank-at-requires c κs = omega (arith, c .before .pre)
@@ -42,7 +43,7 @@ returns c = read-not _ refl tt (begin (blank-binding) _ _ (on _ (blank-at-took (
 
 returns-2 : tie.Need-returns-2
 unfolding blank-binding
-returns-2 c = read-is refl (begin (blank-binding) _ _ (on _ (blank-at-took (c .before .before .before .before .before .before .before .blank-at .ensures)) (sym ((named-took (c .before .before .before .named-after .ensures) (c .before .named .given .1) (named-after-on _ _) (c .before .before .before .before .before .before .rest-at .ensures)) .goes)))) (let w = named-in (c .before .before .before .named-after .ensures) (c .before .named .given .1) in record { from = omega (arith, w .from, c .before .before .before .before .before .before .rest-at .ensures .from); up = w .up; inside = w .inside })
+returns-2 c = read-is refl (begin (blank-binding) _ _ (on _ (blank-at-took (c .before .before .before .before .before .before .before .blank-at .ensures)) (sym ((named-took (c .before .before .before .named-after .ensures) (c .before .named .given .1) (named-after-on _ _) (c .before .before .before .before .before .before .rest-at .ensures)) .goes)))) (named-wider (c .before .before .before .named-after .ensures) (c .before .named .given .1) (c .before .before .before .before .before .before .rest-at .ensures .from) (omega arith))
 
 pub blank-binding-spec : {M : Type 1} → statement M
 blank-binding-spec = tie.close (tie.spec blank-at-requires rest-at-requires slice-aggregate-named-after slice-aggregate-named-after-2 named-after-requires enum-known-named enum-told named-lost-requires returns returns-2)

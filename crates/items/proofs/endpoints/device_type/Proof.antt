@@ -2,15 +2,15 @@ use borrow.Author.Needs.{needs}
 use Rattle.items.proofs.endpoints.device_type.Statement.{statement}
 use Rattle.items.proofs.endpoints.device_type.Tie as tie
 use Rattle.items.specs.endpoints.{device-type}
-use Rattle.items.proofs.endpoints.Laws.{named-in, named-took, name-behind-on, number-took, device-version-on}
+use Rattle.items.proofs.names.Laws.{named-in, named-took, number-took, code-behind-on, number-at-took, number-at-lost}
 use mathlib.Core.Path.{refl}
 use native.Mathlib.Omega.{arith}
 use Rattle.lexing.specs.bytes.{ascii}
 use Rattle.lexing.proofs.Slicing.{rest-self, begin, go, lose, done, integer-lost}
 use Rattle.items.proofs.Answers.{read-is, read-not, read-lost}
-use Rattle.items.proofs.Pairs.{pair-go, pair-on, pair-lose, pair-fall}
-use Rattle.items.proofs.steps.Laws.{tag-behind-took, integer-behind-took, skips-lost, integer-behind-lost}
-use Rattle.items.specs.answers.endpoints.{namedLost}
+use Rattle.items.proofs.Pairs.{four-go, four-lose}
+use Rattle.items.specs.answers.names.{namedLost}
+use Rattle.items.proofs.endpoints.Laws.{name-behind-on, device-version-on}
 
 slice-aggregate-name-behind : tie.Need-slice-aggregate-name-behind
 slice-aggregate-name-behind c = search needs
@@ -34,60 +34,65 @@ returns : tie.Need-returns
 unfolding device-type
 returns c = read-not _ refl tt (begin (device-type) _ _ (lose _ _ (c .named-lost .result) (rest-self _ _) (read-lost (c .before .before .before .name-behind .ensures) (c .before .enum-told .given .1) namedLost (c .named-lost .ensures) refl)))
 
-tag-behind-requires : tie.Need-tag-behind-requires
-tag-behind-requires c κs = let t = named-took (c .before .before .before .name-behind .ensures) (c .before .named .given .1) (name-behind-on (ascii "device") (ascii "type")) (rest-self _ _) in omega (arith, t .up, t .inside, c .before .before .before .before .before .before .before .pre)
+code-behind-requires : tie.Need-code-behind-requires
+code-behind-requires c κs = let t = named-took (c .before .before .before .name-behind .ensures) (c .before .named .given .1) (name-behind-on (ascii "device") (ascii "type")) (rest-self _ _) in omega (arith, t .up, t .inside, c .before .before .before .before .before .before .before .pre)
 
-enum-known-equals : tie.Need-enum-known-equals
-enum-known-equals c = c .match2 .keys1
+enum-known-number : tie.Need-enum-known-number
+enum-known-number c = c .match2 .keys1
 
 enum-told-2 : tie.Need-enum-told-2
 enum-told-2 c = c .match2 .keys2
 
-step-lost-requires : tie.Need-step-lost-requires
-step-lost-requires c κs = tt
+number-lost-requires : tie.Need-number-lost-requires
+number-lost-requires c κs = tt
 
 returns-2 : tie.Need-returns-2
 unfolding device-type
-returns-2 c = read-not _ refl tt (begin (device-type) _ _ (go _ (named-took (c .before .before .before .before .before .before .before .name-behind .ensures) (c .before .before .before .before .before .named .given .1) (name-behind-on (ascii "device") (ascii "type")) (rest-self _ _)) (pair-fall _ _ _ (c .step-lost .result) (c .before .before .before .tag-behind .ensures .at) (skips-lost (c .step-lost .ensures) (c .before .enum-told2 .given .1) (c .before .before .before .tag-behind .ensures)))))
+returns-2 c = read-not _ refl tt (begin (device-type) _ _ (go _ (named-took (c .before .before .before .before .before .before .before .name-behind .ensures) (c .before .before .before .before .before .named .given .1) (name-behind-on (ascii "device") (ascii "type")) (rest-self _ _)) (four-lose _ _ _ _ _ (c .number-lost .result) (c .before .before .before .code-behind .ensures .at) (number-at-lost (c .before .before .before .code-behind .ensures) (c .number-lost .ensures) (c .before .enum-told2 .given .1)))))
 
-integer-behind-requires : tie.Need-integer-behind-requires
-integer-behind-requires c κs = let t = tag-behind-took 61 (c .before .equals .given .1) (c .before .before .before .tag-behind .ensures) in omega (arith, t .up, t .inside, c .before .before .before .tag-behind .ensures .at .from, c .before .before .before .before .before .before .before .before .before .before .before .pre)
+rest-at-requires : tie.Need-rest-at-requires
+rest-at-requires c κs = let t = number-at-took (c .before .before .before .code-behind .ensures) code-behind-on (c .before .number .given .1) in omega (arith, t .up, t .inside, c .before .before .before .code-behind .ensures .at .from)
 
-enum-known-number : tie.Need-enum-known-number
-enum-known-number c = c .match3 .keys1
+device-version-requires : tie.Need-device-version-requires
+device-version-requires c κs = omega (arith, c .rest-at .ensures .size, c .before .before .before .before .before .before .before .before .before .before .before .before .pre)
+
+enum-known-last : tie.Need-enum-known-last
+enum-known-last c = c .match3 .keys1
 
 enum-told-3 : tie.Need-enum-told-3
 enum-told-3 c = c .match3 .keys2
 
-number-lost-requires : tie.Need-number-lost-requires
-number-lost-requires c κs = tt
-
-returns-3 : tie.Need-returns-3
-unfolding device-type
-returns-3 c = read-not _ refl tt (begin (device-type) _ _ (go _ (named-took (c .before .before .before .before .before .before .before .before .before .before .before .name-behind .ensures) (c .before .before .before .before .before .before .before .before .before .named .given .1) (name-behind-on (ascii "device") (ascii "type")) (rest-self _ _)) (pair-on _ _ _ (tag-behind-took 61 (c .before .before .before .before .before .equals .given .1) (c .before .before .before .before .before .before .before .tag-behind .ensures)) (pair-lose _ _ _ (c .number-lost .result) (c .before .before .before .integer-behind .ensures .at) (integer-behind-lost (c .before .before .before .integer-behind .ensures) (c .number-lost .ensures) (c .before .enum-told3 .given .1))))))
-
-rest-at-requires : tie.Need-rest-at-requires
-rest-at-requires c κs = let t = integer-behind-took (c .before .before .before .integer-behind .ensures) (c .before .number .given .1) in omega (arith, t .up, t .inside, c .before .before .before .integer-behind .ensures .at .from)
-
-device-version-requires : tie.Need-device-version-requires
-device-version-requires c κs = omega (arith, c .rest-at .ensures .size, c .before .before .before .before .before .before .before .before .before .before .before .before .before .before .before .before .pre)
-
-enum-known-last : tie.Need-enum-known-last
-enum-known-last c = c .match4 .keys1
-
-enum-told-4 : tie.Need-enum-told-4
-enum-told-4 c = c .match4 .keys2
-
 number-lost-requires-2 : tie.Need-number-lost-requires-2
 number-lost-requires-2 c κs = tt
 
+returns-3 : tie.Need-returns-3
+unfolding device-type
+returns-3 c = read-not _ refl tt (begin (device-type) _ _ (go _ (named-took (c .before .before .before .before .before .before .before .before .before .before .before .before .name-behind .ensures) (c .before .before .before .before .before .before .before .before .before .before .named .given .1) (name-behind-on (ascii "device") (ascii "type")) (rest-self _ _)) (four-go _ _ _ _ _ (number-at-took (c .before .before .before .before .before .before .before .before .code-behind .ensures) code-behind-on (c .before .before .before .before .before .before .number .given .1)) (lose _ _ (c .number-lost2 .result) (c .before .before .before .before .rest-at .ensures) (integer-lost (c .number-lost2 .ensures) (c .before .enum-told3 .given .1) _ _ _ (c .before .before .before .device-version .ensures))))))
+
 returns-4 : tie.Need-returns-4
 unfolding device-type
-returns-4 c = read-not _ refl tt (begin (device-type) _ _ (go _ (named-took (c .before .before .before .before .before .before .before .before .before .before .before .before .before .before .before .before .name-behind .ensures) (c .before .before .before .before .before .before .before .before .before .before .before .before .before .before .named .given .1) (name-behind-on (ascii "device") (ascii "type")) (rest-self _ _)) (pair-on _ _ _ (tag-behind-took 61 (c .before .before .before .before .before .before .before .before .before .before .equals .given .1) (c .before .before .before .before .before .before .before .before .before .before .before .before .tag-behind .ensures)) (pair-go _ _ _ (integer-behind-took (c .before .before .before .before .before .before .before .before .integer-behind .ensures) (c .before .before .before .before .before .before .number .given .1)) (lose _ _ (c .number-lost2 .result) (c .before .before .before .before .rest-at .ensures) (integer-lost (c .number-lost2 .ensures) (c .before .enum-told4 .given .1) _ _ _ (c .before .before .before .device-version .ensures)))))))
-
-returns-5 : tie.Need-returns-5
-unfolding device-type
-returns-5 c = read-is refl (begin (device-type) _ _ (go _ (named-took (c .before .before .before .before .before .before .before .before .before .before .before .before .before .before .before .before .name-behind .ensures) (c .before .before .before .before .before .before .before .before .before .before .before .before .before .before .named .given .1) (name-behind-on (ascii "device") (ascii "type")) (rest-self _ _)) (pair-on _ _ _ (tag-behind-took 61 (c .before .before .before .before .before .before .before .before .before .before .equals .given .1) (c .before .before .before .before .before .before .before .before .before .before .before .before .tag-behind .ensures)) (pair-go _ _ _ (integer-behind-took (c .before .before .before .before .before .before .before .before .integer-behind .ensures) (c .before .before .before .before .before .before .number .given .1)) (go _ (number-took device-version-on (c .before .before .before .before .rest-at .ensures) (c .before .last .given .1) (c .before .before .before .device-version .ensures)) (done _ _ _ _)))))) (let w = named-in (c .before .before .before .before .before .before .before .before .before .before .before .before .before .before .before .before .name-behind .ensures) (c .before .before .before .before .before .before .before .before .before .before .before .before .before .before .named .given .1) in record { from = w .from; up = w .up; inside = omega (arith, w .inside, (tag-behind-took 61 (c .before .before .before .before .before .before .before .before .before .before .equals .given .1) (c .before .before .before .before .before .before .before .before .before .before .before .before .tag-behind .ensures)) .up, (integer-behind-took (c .before .before .before .before .before .before .before .before .integer-behind .ensures) (c .before .before .before .before .before .before .number .given .1)) .up, (number-took device-version-on (c .before .before .before .before .rest-at .ensures) (c .before .last .given .1) (c .before .before .before .device-version .ensures)) .up) })
+returns-4 c = read-is refl (begin (device-type) _ _ (go _ (named-took (c .before .before .before .before .before .before .before .before .before .before .before .before .name-behind .ensures) (c .before .before .before .before .before .before .before .before .before .before .named .given .1) (name-behind-on (ascii "device") (ascii "type")) (rest-self _ _)) (four-go _ _ _ _ _ (number-at-took (c .before .before .before .before .before .before .before .before .code-behind .ensures) code-behind-on (c .before .before .before .before .before .before .number .given .1)) (go _ (number-took device-version-on (c .before .before .before .before .rest-at .ensures) (c .before .last .given .1) (c .before .before .before .device-version .ensures)) (done _ _ _ _))))) (let w = named-in (c .before .before .before .before .before .before .before .before .before .before .before .before .name-behind .ensures) (c .before .before .before .before .before .before .before .before .before .before .named .given .1) in record { from = w .from; up = w .up; inside = omega (arith, w .inside, (number-at-took (c .before .before .before .before .before .before .before .before .code-behind .ensures) code-behind-on (c .before .before .before .before .before .before .number .given .1)) .up, (number-took device-version-on (c .before .before .before .before .rest-at .ensures) (c .before .last .given .1) (c .before .before .before .device-version .ensures)) .up) })
 
 pub device-type-spec : {M : Type 1} → statement M
-device-type-spec = tie.close (tie.spec slice-aggregate-name-behind slice-aggregate-name-behind-2 name-behind-requires enum-known-named enum-told named-lost-requires returns tag-behind-requires enum-known-equals enum-told-2 step-lost-requires returns-2 integer-behind-requires enum-known-number enum-told-3 number-lost-requires returns-3 rest-at-requires device-version-requires enum-known-last enum-told-4 number-lost-requires-2 returns-4 returns-5)
+device-type-spec =
+    tie.close
+    (tie.spec
+    slice-aggregate-name-behind
+    slice-aggregate-name-behind-2
+    name-behind-requires
+    enum-known-named
+    enum-told
+    named-lost-requires
+    returns
+    code-behind-requires
+    enum-known-number
+    enum-told-2
+    number-lost-requires
+    returns-2
+    rest-at-requires
+    device-version-requires
+    enum-known-last
+    enum-told-3
+    number-lost-requires-2
+    returns-3
+    returns-4)

@@ -2,14 +2,15 @@ use borrow.Author.Needs.{needs}
 use Rattle.items.proofs.endpoints.instantiation_head.Statement.{statement}
 use Rattle.items.proofs.endpoints.instantiation_head.Tie as tie
 use Rattle.items.specs.endpoints.{instantiation-head}
-use Rattle.items.proofs.endpoints.Laws.{named-in, named-took, name-behind-on}
+use Rattle.items.proofs.names.Laws.{named-wider, named-took}
 use mathlib.Core.Path.{refl}
 use native.Mathlib.Omega.{arith}
 use Rattle.lexing.specs.bytes.{ascii}
 use Rattle.lexing.proofs.Slicing.{begin, go, on, lose, done}
 use Rattle.items.proofs.Answers.{read-is, read-not, read-lost}
 use Rattle.items.proofs.steps.Laws.{blank-at-took}
-use Rattle.items.specs.answers.endpoints.{namedLost}
+use Rattle.items.specs.answers.names.{namedLost}
+use Rattle.items.proofs.endpoints.Laws.{name-behind-on}
 
 blank-at-requires : tie.Need-blank-at-requires
 blank-at-requires c κs = omega (arith, c .before .pre)
@@ -44,7 +45,7 @@ blank-at-requires-2 c κs = let t = named-took (c .before .before .before .name-
 
 returns-2 : tie.Need-returns-2
 unfolding instantiation-head
-returns-2 c = read-is refl (begin (instantiation-head) _ _ (on _ (blank-at-took (c .before .before .before .before .before .before .before .before .blank-at .ensures)) (go _ (named-took (c .before .before .before .before .name-behind .ensures) (c .before .before .named .given .1) (name-behind-on (ascii "server") (ascii "cluster")) (c .before .before .before .before .before .before .before .rest-at .ensures)) (on _ (blank-at-took (c .blank-at2 .ensures)) (done _ _ _ _))))) (let w = named-in (c .before .before .before .before .name-behind .ensures) (c .before .before .named .given .1) in record { from = omega (arith, w .from, c .before .before .before .before .before .before .before .rest-at .ensures .from); up = w .up; inside = omega (arith, w .inside, (blank-at-took (c .blank-at2 .ensures)) .up) })
+returns-2 c = read-is refl (begin (instantiation-head) _ _ (on _ (blank-at-took (c .before .before .before .before .before .before .before .before .blank-at .ensures)) (go _ (named-took (c .before .before .before .before .name-behind .ensures) (c .before .before .named .given .1) (name-behind-on (ascii "server") (ascii "cluster")) (c .before .before .before .before .before .before .before .rest-at .ensures)) (on _ (blank-at-took (c .blank-at2 .ensures)) (done _ _ _ _))))) (named-wider (c .before .before .before .before .name-behind .ensures) (c .before .before .named .given .1) (c .before .before .before .before .before .before .before .rest-at .ensures .from) ((blank-at-took (c .blank-at2 .ensures)) .up))
 
 pub instantiation-head-spec : {M : Type 1} → statement M
 instantiation-head-spec = tie.close (tie.spec blank-at-requires rest-at-requires slice-aggregate-name-behind slice-aggregate-name-behind-2 name-behind-requires enum-known-named enum-told named-lost-requires returns blank-at-requires-2 returns-2)

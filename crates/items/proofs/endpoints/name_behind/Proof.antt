@@ -1,13 +1,14 @@
 use borrow.Author.Needs.{needs}
 use Rattle.items.proofs.endpoints.name_behind.Statement.{statement}
 use Rattle.items.proofs.endpoints.name_behind.Tie as tie
-use Rattle.lexing.specs.words.{parse-id}
 use Rattle.items.specs.endpoints.{name-behind}
+use Rattle.items.specs.answers.names.{keyword-name, namedLost}
+use Rattle.items.proofs.names.Laws.{named-wider, named-took, keyword-name-on}
 use mathlib.Core.Path.{refl, sym}
 use native.Mathlib.Omega.{arith}
 use Rattle.lexing.specs.answers.{wordAt}
-use Rattle.lexing.proofs.Slicing.{rest-self, begin, on, fall, word-took, keyword-took, step-lost}
-use Rattle.items.proofs.Answers.{read-is, read-not, last-lost}
+use Rattle.lexing.proofs.Slicing.{rest-self, begin, on, fall, keyword-took, step-lost}
+use Rattle.items.proofs.Answers.{read-is, read-not, last-lost, read-lost}
 use Rattle.items.proofs.steps.Laws.{gap-at-took, skips-lost}
 
 keyword-requires : tie.Need-keyword-requires
@@ -29,8 +30,8 @@ returns c = read-not _ refl tt (begin (name-behind _ _) _ _ (fall _ _ (c .step-l
 gap-at-requires : tie.Need-gap-at-requires
 gap-at-requires c κs = let t = keyword-took (rest-self _ _) (c .before .one .given .1) _ (c .before .before .before .keyword .ensures) in omega (arith, t .up, t .inside, c .before .before .before .before .before .before .before .pre)
 
-enum-known-gap1 : tie.Need-enum-known-gap1
-enum-known-gap1 c = c .match2 .keys1
+enum-known-gap : tie.Need-enum-known-gap
+enum-known-gap c = c .match2 .keys1
 
 enum-told-2 : tie.Need-enum-told-2
 enum-told-2 c = c .match2 .keys2
@@ -43,62 +44,46 @@ unfolding name-behind
 returns-2 c = read-not _ refl tt (begin (name-behind _ _) _ _ (on _ (keyword-took (rest-self _ _) (c .before .before .before .before .before .one .given .1) _ (c .before .before .before .before .before .before .before .keyword .ensures)) (fall _ _ (c .step-lost2 .result) (c .before .before .before .gap-at .ensures .at) (skips-lost (c .step-lost2 .ensures) (c .before .enum-told2 .given .1) (c .before .before .before .gap-at .ensures)))))
 
 rest-at-requires : tie.Need-rest-at-requires
-rest-at-requires c κs = let t = gap-at-took (c .before .gap1 .given .1) (c .before .before .before .gap-at .ensures) in omega (arith, t .up, t .inside, c .before .before .before .gap-at .ensures .at .from)
+rest-at-requires c κs = let t = gap-at-took (c .before .gap .given .1) (c .before .before .before .gap-at .ensures) in omega (arith, t .up, t .inside, c .before .before .before .gap-at .ensures .at .from)
 
-keyword-requires-2 : tie.Need-keyword-requires-2
-keyword-requires-2 c κs = omega (arith, c .rest-at .ensures .size, c .before .before .before .before .before .before .before .before .before .before .before .before .pre)
+keyword-name-requires : tie.Need-keyword-name-requires
+keyword-name-requires c κs = omega (arith, c .rest-at .ensures .size, c .before .before .before .before .before .before .before .before .before .before .before .before .pre)
 
-enum-known-two : tie.Need-enum-known-two
-enum-known-two c = c .match3 .keys1
+enum-known-named : tie.Need-enum-known-named
+enum-known-named c = c .match3 .keys1
 
 enum-told-3 : tie.Need-enum-told-3
 enum-told-3 c = c .match3 .keys2
 
-step-lost-requires-3 : tie.Need-step-lost-requires-3
-step-lost-requires-3 c κs = tt
+named-lost-requires : tie.Need-named-lost-requires
+named-lost-requires c κs = tt
 
 returns-3 : tie.Need-returns-3
 unfolding name-behind
-returns-3 c = read-not _ refl tt (begin (name-behind _ _) _ _ (on _ (keyword-took (rest-self _ _) (c .before .before .before .before .before .before .before .before .before .before .one .given .1) _ (c .before .before .before .before .before .before .before .before .before .before .before .before .keyword .ensures)) (on _ (gap-at-took (c .before .before .before .before .before .before .gap1 .given .1) (c .before .before .before .before .before .before .before .before .gap-at .ensures)) (fall _ _ (c .step-lost3 .result) (c .before .before .before .before .rest-at .ensures) (step-lost (wordAt _ _) (c .step-lost3 .ensures) (c .before .enum-told3 .given .1) _ _ _ (c .before .before .before .keyword2 .ensures))))))
-
-gap-at-requires-2 : tie.Need-gap-at-requires-2
-gap-at-requires-2 c κs = let t = keyword-took (c .before .before .before .before .rest-at .ensures) (c .before .two .given .1) _ (c .before .before .before .keyword2 .ensures) in omega (arith, t .up, t .inside, c .before .before .before .before .rest-at .ensures .from, c .before .before .before .before .before .before .before .before .before .before .before .before .before .before .before .before .pre)
-
-enum-known-gap2 : tie.Need-enum-known-gap2
-enum-known-gap2 c = c .match4 .keys1
-
-enum-told-4 : tie.Need-enum-told-4
-enum-told-4 c = c .match4 .keys2
-
-step-lost-requires-4 : tie.Need-step-lost-requires-4
-step-lost-requires-4 c κs = tt
+returns-3 c = read-not _ refl tt (begin (name-behind _ _) _ _ (on _ (keyword-took (rest-self _ _) (c .before .before .before .before .before .before .before .before .before .before .one .given .1) _ (c .before .before .before .before .before .before .before .before .before .before .before .before .keyword .ensures)) (on _ (gap-at-took (c .before .before .before .before .before .before .gap .given .1) (c .before .before .before .before .before .before .before .before .gap-at .ensures)) (last-lost (keyword-name _) (c .named-lost .result) (c .before .before .before .before .rest-at .ensures) (read-lost (c .before .before .before .keyword-name .ensures) (c .before .enum-told3 .given .1) namedLost (c .named-lost .ensures) refl)))))
 
 returns-4 : tie.Need-returns-4
 unfolding name-behind
-returns-4 c = read-not _ refl tt (begin (name-behind _ _) _ _ (on _ (keyword-took (rest-self _ _) (c .before .before .before .before .before .before .before .before .before .before .before .before .before .before .one .given .1) _ (c .before .before .before .before .before .before .before .before .before .before .before .before .before .before .before .before .keyword .ensures)) (on _ (gap-at-took (c .before .before .before .before .before .before .before .before .before .before .gap1 .given .1) (c .before .before .before .before .before .before .before .before .before .before .before .before .gap-at .ensures)) (on _ (keyword-took (c .before .before .before .before .before .before .before .before .rest-at .ensures) (c .before .before .before .before .before .two .given .1) _ (c .before .before .before .before .before .before .before .keyword2 .ensures)) (fall _ _ (c .step-lost4 .result) (c .before .before .before .gap-at2 .ensures .at) (skips-lost (c .step-lost4 .ensures) (c .before .enum-told4 .given .1) (c .before .before .before .gap-at2 .ensures)))))))
-
-rest-at-requires-2 : tie.Need-rest-at-requires-2
-rest-at-requires-2 c κs = let t = gap-at-took (c .before .gap2 .given .1) (c .before .before .before .gap-at2 .ensures) in omega (arith, t .up, t .inside, c .before .before .before .gap-at2 .ensures .at .from)
-
-parse-id-requires : tie.Need-parse-id-requires
-parse-id-requires c κs = omega (arith, c .rest-at2 .ensures .size, c .before .before .before .before .before .before .before .before .before .before .before .before .before .before .before .before .before .before .before .before .before .pre)
-
-enum-known-name : tie.Need-enum-known-name
-enum-known-name c = c .match5 .keys1
-
-enum-told-5 : tie.Need-enum-told-5
-enum-told-5 c = c .match5 .keys2
-
-step-lost-requires-5 : tie.Need-step-lost-requires-5
-step-lost-requires-5 c κs = tt
-
-returns-5 : tie.Need-returns-5
-unfolding name-behind
-returns-5 c = read-not _ refl tt (begin (name-behind _ _) _ _ (on _ (keyword-took (rest-self _ _) (c .before .before .before .before .before .before .before .before .before .before .before .before .before .before .before .before .before .before .before .one .given .1) _ (c .before .before .before .before .before .before .before .before .before .before .before .before .before .before .before .before .before .before .before .before .before .keyword .ensures)) (on _ (gap-at-took (c .before .before .before .before .before .before .before .before .before .before .before .before .before .before .before .gap1 .given .1) (c .before .before .before .before .before .before .before .before .before .before .before .before .before .before .before .before .before .gap-at .ensures)) (on _ (keyword-took (c .before .before .before .before .before .before .before .before .before .before .before .before .before .rest-at .ensures) (c .before .before .before .before .before .before .before .before .before .before .two .given .1) _ (c .before .before .before .before .before .before .before .before .before .before .before .before .keyword2 .ensures)) (on _ (gap-at-took (c .before .before .before .before .before .before .gap2 .given .1) (c .before .before .before .before .before .before .before .before .gap-at2 .ensures)) (last-lost parse-id (c .step-lost5 .result) (c .before .before .before .before .rest-at2 .ensures) (step-lost (wordAt _ _) (c .step-lost5 .ensures) (c .before .enum-told5 .given .1) _ _ _ (c .before .before .before .parse-id .ensures))))))))
-
-returns-6 : tie.Need-returns-6
-unfolding name-behind
-returns-6 c = read-is refl (begin (name-behind _ _) _ _ (on _ (keyword-took (rest-self _ _) (c .before .before .before .before .before .before .before .before .before .before .before .before .before .before .before .before .before .before .before .one .given .1) _ (c .before .before .before .before .before .before .before .before .before .before .before .before .before .before .before .before .before .before .before .before .before .keyword .ensures)) (on _ (gap-at-took (c .before .before .before .before .before .before .before .before .before .before .before .before .before .before .before .gap1 .given .1) (c .before .before .before .before .before .before .before .before .before .before .before .before .before .before .before .before .before .gap-at .ensures)) (on _ (keyword-took (c .before .before .before .before .before .before .before .before .before .before .before .before .before .rest-at .ensures) (c .before .before .before .before .before .before .before .before .before .before .two .given .1) _ (c .before .before .before .before .before .before .before .before .before .before .before .before .keyword2 .ensures)) (on _ (gap-at-took (c .before .before .before .before .before .before .gap2 .given .1) (c .before .before .before .before .before .before .before .before .gap-at2 .ensures)) (sym ((word-took (c .before .before .before .before .rest-at2 .ensures) (c .before .name .given .1) (c .before .before .before .parse-id .ensures)) .goes))))))) (record { from = omega (arith, (gap-at-took (c .before .before .before .before .before .before .gap2 .given .1) (c .before .before .before .before .before .before .before .before .gap-at2 .ensures)) .up, c .before .before .before .before .before .before .before .before .gap-at2 .ensures .at .from); up = (word-took (c .before .before .before .before .rest-at2 .ensures) (c .before .name .given .1) (c .before .before .before .parse-id .ensures)) .up; inside = omega arith })
+returns-4 c = read-is refl (begin (name-behind _ _) _ _ (on _ (keyword-took (rest-self _ _) (c .before .before .before .before .before .before .before .before .before .before .one .given .1) _ (c .before .before .before .before .before .before .before .before .before .before .before .before .keyword .ensures)) (on _ (gap-at-took (c .before .before .before .before .before .before .gap .given .1) (c .before .before .before .before .before .before .before .before .gap-at .ensures)) (sym ((named-took (c .before .before .before .keyword-name .ensures) (c .before .named .given .1) (keyword-name-on _) (c .before .before .before .before .rest-at .ensures)) .goes))))) (named-wider (c .before .before .before .keyword-name .ensures) (c .before .named .given .1) (c .before .before .before .before .rest-at .ensures .from) (omega arith))
 
 pub name-behind-spec : {M : Type 1} → statement M
-name-behind-spec = tie.close (tie.spec keyword-requires enum-known-one enum-told step-lost-requires returns gap-at-requires enum-known-gap1 enum-told-2 step-lost-requires-2 returns-2 rest-at-requires keyword-requires-2 enum-known-two enum-told-3 step-lost-requires-3 returns-3 gap-at-requires-2 enum-known-gap2 enum-told-4 step-lost-requires-4 returns-4 rest-at-requires-2 parse-id-requires enum-known-name enum-told-5 step-lost-requires-5 returns-5 returns-6)
+name-behind-spec =
+    tie.close
+    (tie.spec
+    keyword-requires
+    enum-known-one
+    enum-told
+    step-lost-requires
+    returns
+    gap-at-requires
+    enum-known-gap
+    enum-told-2
+    step-lost-requires-2
+    returns-2
+    rest-at-requires
+    keyword-name-requires
+    enum-known-named
+    enum-told-3
+    named-lost-requires
+    returns-3
+    returns-4)

@@ -2,14 +2,15 @@ use borrow.Author.Needs.{needs}
 use Rattle.items.proofs.endpoints.named_after.Statement.{statement}
 use Rattle.items.proofs.endpoints.named_after.Tie as tie
 use Rattle.items.specs.endpoints.{named-after}
-use Rattle.items.proofs.endpoints.Laws.{named-in, named-took, name-behind-on}
+use Rattle.items.proofs.names.Laws.{named-wider, named-took}
 use mathlib.Core.Path.{refl}
 use native.Mathlib.Omega.{arith}
 use Rattle.lexing.proofs.Slicing.{rest-self, begin, go, lose, done}
 use Rattle.items.proofs.Answers.{read-is, read-not, read-lost}
 use Rattle.items.proofs.Pairs.{pair-on, pair-fall}
 use Rattle.items.proofs.steps.Laws.{tag-behind-took, skips-lost}
-use Rattle.items.specs.answers.endpoints.{namedLost}
+use Rattle.items.specs.answers.names.{namedLost}
+use Rattle.items.proofs.endpoints.Laws.{name-behind-on}
 
 name-behind-requires : tie.Need-name-behind-requires
 name-behind-requires c κs = search needs
@@ -45,7 +46,7 @@ returns-2 c = read-not _ refl tt (begin (named-after _ _) _ _ (go _ (named-took 
 
 returns-3 : tie.Need-returns-3
 unfolding named-after
-returns-3 c = read-is refl (begin (named-after _ _) _ _ (go _ (named-took (c .before .before .before .before .before .before .before .name-behind .ensures) (c .before .before .before .before .before .named .given .1) (name-behind-on _ _) (rest-self _ _)) (pair-on _ _ _ (tag-behind-took 59 (c .before .semicolon .given .1) (c .before .before .before .tag-behind .ensures)) (done _ _ _ _)))) (let w = named-in (c .before .before .before .before .before .before .before .name-behind .ensures) (c .before .before .before .before .before .named .given .1) in record { from = w .from; up = w .up; inside = omega (arith, w .inside, (tag-behind-took 59 (c .before .semicolon .given .1) (c .before .before .before .tag-behind .ensures)) .up) })
+returns-3 c = read-is refl (begin (named-after _ _) _ _ (go _ (named-took (c .before .before .before .before .before .before .before .name-behind .ensures) (c .before .before .before .before .before .named .given .1) (name-behind-on _ _) (rest-self _ _)) (pair-on _ _ _ (tag-behind-took 59 (c .before .semicolon .given .1) (c .before .before .before .tag-behind .ensures)) (done _ _ _ _)))) (named-wider (c .before .before .before .before .before .before .before .name-behind .ensures) (c .before .before .before .before .before .named .given .1) (omega arith) ((tag-behind-took 59 (c .before .semicolon .given .1) (c .before .before .before .tag-behind .ensures)) .up))
 
 pub named-after-spec : {M : Type 1} → statement M
 named-after-spec = tie.close (tie.spec name-behind-requires enum-known-named enum-told named-lost-requires returns tag-behind-requires enum-known-semicolon enum-told-2 step-lost-requires returns-2 returns-3)

@@ -23,11 +23,11 @@ enum-told c = c .match .keys2
 gap-lost-requires : tie.Need-gap-lost-requires
 gap-lost-requires c κs = tt
 
-optional-value-requires : tie.Need-optional-value-requires
-optional-value-requires c κs = tt
+no-default-requires : tie.Need-no-default-requires
+no-default-requires c κs = tt
 
 returns : tie.Need-returns
-returns c = optional-is (NoValue (c .before .gap-lost .result)) _ _ _ (c .optional-value .ensures) (read-not _ refl tt (begin (whitespace1 >> default-attribute-value) _ _ (fall _ _ (c .before .gap-lost .result) (rest-self _ _) (gap-lost (c .before .gap-lost .ensures) (c .before .before .enum-told .given .1) _ _ _ (c .before .before .before .before .whitespace1 .ensures)))))
+returns c = optional-is (NoValue (c .before .gap-lost .result)) _ _ _ (c .no-default .ensures) (read-not _ refl tt (begin (whitespace1 >> default-attribute-value) _ _ (fall _ _ (c .before .gap-lost .result) (rest-self _ _) (gap-lost (c .before .gap-lost .ensures) (c .before .before .enum-told .given .1) _ _ _ (c .before .before .before .before .whitespace1 .ensures)))))
 
 rest-at-requires : tie.Need-rest-at-requires
 rest-at-requires c κs = omega (arith, (gap-took (rest-self _ _) (c .before .gap .given .1) (c .before .before .before .whitespace1 .ensures)) .up, (gap-took (rest-self _ _) (c .before .gap .given .1) (c .before .before .before .whitespace1 .ensures)) .inside)
@@ -35,11 +35,11 @@ rest-at-requires c κs = omega (arith, (gap-took (rest-self _ _) (c .before .gap
 default-attribute-value-requires : tie.Need-default-attribute-value-requires
 default-attribute-value-requires c κs = omega (arith, c .rest-at .ensures .size, c .before .before .before .before .before .before .pre)
 
-optional-value-requires-2 : tie.Need-optional-value-requires-2
-optional-value-requires-2 c κs = tt
+optional-value-requires : tie.Need-optional-value-requires
+optional-value-requires c κs = tt
 
 returns-2 : tie.Need-returns-2
-returns-2 c = optional-is (c .before .default-attribute-value .result) _ _ _ (c .optional-value2 .ensures) (value-behind (c .before .default-attribute-value .result) (gap-took (rest-self _ _) (c .before .before .before .before .gap .given .1) (c .before .before .before .before .before .before .whitespace1 .ensures)) (c .before .before .rest-at .ensures) (c .before .default-attribute-value .ensures))
+returns-2 c = optional-is (c .before .default-attribute-value .result) _ _ _ (c .optional-value .ensures) (value-behind (c .before .default-attribute-value .result) (gap-took (rest-self _ _) (c .before .before .before .before .gap .given .1) (c .before .before .before .before .before .before .whitespace1 .ensures)) (c .before .before .rest-at .ensures) (c .before .default-attribute-value .ensures))
 
 pub optional-default-spec : {M : Type 1} → statement M
 optional-default-spec =
@@ -49,9 +49,9 @@ optional-default-spec =
     enum-known-gap
     enum-told
     gap-lost-requires
-    optional-value-requires
+    no-default-requires
     returns
     rest-at-requires
     default-attribute-value-requires
-    optional-value-requires-2
+    optional-value-requires
     returns-2)

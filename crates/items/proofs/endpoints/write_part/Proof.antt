@@ -12,11 +12,13 @@ use Rattle.items.specs.records.{Record, part-records}
 use Rattle.items.specs.clusters.{mapped}
 use Rattle.items.specs.endpoints.{device-type, cluster-instantiation, device, binding, instantiation, part-tries}
 use Rattle.items.specs.inner.endpoints.{blank-binding}
-use Rattle.items.specs.answers.endpoints.{namedLost, deviceTypeLost}
+use Rattle.items.specs.answers.names.{namedLost}
+use Rattle.items.specs.answers.endpoints.{deviceTypeLost}
 use Rattle.items.proofs.Answers.{read-took, read-within, read-lost}
 use Rattle.items.proofs.Mapped.{mapped-ok, mapped-not}
 use Rattle.items.proofs.endpoints.Placed.{try-took, try-fits, try-written, try-passed, mapped-room, first-found, second-found, third-found, first-missed, second-missed, third-room}
-use Rattle.items.proofs.endpoints.Laws.{named-in, named-took, device-type-on, blank-binding-on, device-words, binding-words, name-parts-is, device-parts-is, name-in-limit}
+use Rattle.items.proofs.names.Laws.{named-in, named-took}
+use Rattle.items.proofs.endpoints.Laws.{device-type-on, blank-binding-on, device-words, binding-words, name-parts-is, device-parts-is, name-in-limit}
 
 device-type-requires : tie.Need-device-type-requires
 device-type-requires c κs = search needs

@@ -8,9 +8,10 @@ use native.Mathlib.Omega.{arith}
 use Rattle.lexing.specs.answers.{wordAt}
 use Rattle.lexing.proofs.Slicing.{begin, go, on, lose, word-took, step-lost}
 use Rattle.items.proofs.Answers.{read-is, read-not, last-lost}
-use Rattle.items.proofs.Pairs.{pair-go, pair-on, pair-lose, pair-fall}
+use Rattle.items.proofs.Pairs.{four-go, four-lose}
 use Rattle.items.proofs.maturity.Laws.{maturity-took}
-use Rattle.items.proofs.steps.Laws.{blank-at-took, tag-behind-took, integer-behind-took, skips-lost, integer-behind-lost}
+use Rattle.items.proofs.steps.Laws.{blank-at-took}
+use Rattle.items.proofs.names.Laws.{code-behind-on, number-at-took, number-at-lost}
 
 blank-at-requires : tie.Need-blank-at-requires
 blank-at-requires c κs = omega (arith, c .before .pre)
@@ -43,60 +44,68 @@ returns : tie.Need-returns
 unfolding constant-entry entry-end
 returns c = read-not _ refl tt (begin (constant-entry) _ _ (on _ (blank-at-took (c .before .before .before .before .before .before .before .before .blank-at .ensures)) (go _ (maturity-took (c .before .before .before .before .before .before .before .rest-at .ensures) (c .before .before .before .before .before .before .api-maturity .ensures)) (on _ (blank-at-took (c .before .before .before .before .before .blank-at2 .ensures)) (lose _ _ (c .step-lost .result) (c .before .before .before .before .rest-at2 .ensures) (step-lost (wordAt _ _) (c .step-lost .ensures) (c .before .enum-told .given .1) _ _ _ (c .before .before .before .parse-id .ensures)))))))
 
-tag-behind-requires : tie.Need-tag-behind-requires
-tag-behind-requires c κs = let t = word-took (c .before .before .before .before .rest-at2 .ensures) (c .before .name .given .1) (c .before .before .before .parse-id .ensures) in omega (arith, t .up, t .inside, c .before .before .before .before .rest-at2 .ensures .from, c .before .before .before .before .before .before .before .before .before .before .pre)
+code-behind-requires : tie.Need-code-behind-requires
+code-behind-requires c κs = let t = word-took (c .before .before .before .before .rest-at2 .ensures) (c .before .name .given .1) (c .before .before .before .parse-id .ensures) in omega (arith, t .up, t .inside, c .before .before .before .before .rest-at2 .ensures .from, c .before .before .before .before .before .before .before .before .before .before .pre)
 
-enum-known-equals : tie.Need-enum-known-equals
-enum-known-equals c = c .match2 .keys1
+enum-known-value : tie.Need-enum-known-value
+enum-known-value c = c .match2 .keys1
 
 enum-told-2 : tie.Need-enum-told-2
 enum-told-2 c = c .match2 .keys2
 
-step-lost-requires-2 : tie.Need-step-lost-requires-2
-step-lost-requires-2 c κs = tt
+number-lost-requires : tie.Need-number-lost-requires
+number-lost-requires c κs = tt
 
 returns-2 : tie.Need-returns-2
 unfolding constant-entry entry-end
-returns-2 c = read-not _ refl tt (begin (constant-entry) _ _ (on _ (blank-at-took (c .before .before .before .before .before .before .before .before .before .before .before .before .blank-at .ensures)) (go _ (maturity-took (c .before .before .before .before .before .before .before .before .before .before .before .rest-at .ensures) (c .before .before .before .before .before .before .before .before .before .before .api-maturity .ensures)) (on _ (blank-at-took (c .before .before .before .before .before .before .before .before .before .blank-at2 .ensures)) (go _ (word-took (c .before .before .before .before .before .before .before .before .rest-at2 .ensures) (c .before .before .before .before .before .name .given .1) (c .before .before .before .before .before .before .before .parse-id .ensures)) (pair-fall _ _ _ (c .step-lost2 .result) (c .before .before .before .tag-behind .ensures .at) (skips-lost (c .step-lost2 .ensures) (c .before .enum-told2 .given .1) (c .before .before .before .tag-behind .ensures))))))))
+returns-2 c = read-not _ refl tt (begin (constant-entry) _ _ (on _ (blank-at-took (c .before .before .before .before .before .before .before .before .before .before .before .before .blank-at .ensures)) (go _ (maturity-took (c .before .before .before .before .before .before .before .before .before .before .before .rest-at .ensures) (c .before .before .before .before .before .before .before .before .before .before .api-maturity .ensures)) (on _ (blank-at-took (c .before .before .before .before .before .before .before .before .before .blank-at2 .ensures)) (go _ (word-took (c .before .before .before .before .before .before .before .before .rest-at2 .ensures) (c .before .before .before .before .before .name .given .1) (c .before .before .before .before .before .before .before .parse-id .ensures)) (four-lose _ _ _ _ _ (c .number-lost .result) (c .before .before .before .code-behind .ensures .at) (number-at-lost (c .before .before .before .code-behind .ensures) (c .number-lost .ensures) (c .before .enum-told2 .given .1))))))))
 
-integer-behind-requires : tie.Need-integer-behind-requires
-integer-behind-requires c κs = let t = tag-behind-took 61 (c .before .equals .given .1) (c .before .before .before .tag-behind .ensures) in omega (arith, t .up, t .inside, c .before .before .before .tag-behind .ensures .at .from, c .before .before .before .before .before .before .before .before .before .before .before .before .before .before .pre)
+rest-at-requires-3 : tie.Need-rest-at-requires-3
+rest-at-requires-3 c κs = let t = number-at-took (c .before .before .before .code-behind .ensures) code-behind-on (c .before .value .given .1) in omega (arith, t .up, t .inside, c .before .before .before .code-behind .ensures .at .from)
 
-enum-known-value : tie.Need-enum-known-value
-enum-known-value c = c .match3 .keys1
+entry-end-requires : tie.Need-entry-end-requires
+entry-end-requires c κs = omega (arith, c .rest-at3 .ensures .size, c .before .before .before .before .before .before .before .before .before .before .before .before .before .before .before .pre)
+
+enum-known-last : tie.Need-enum-known-last
+enum-known-last c = c .match3 .keys1
 
 enum-told-3 : tie.Need-enum-told-3
 enum-told-3 c = c .match3 .keys2
 
-number-lost-requires : tie.Need-number-lost-requires
-number-lost-requires c κs = tt
+step-lost-requires-2 : tie.Need-step-lost-requires-2
+step-lost-requires-2 c κs = tt
 
 returns-3 : tie.Need-returns-3
 unfolding constant-entry entry-end
-returns-3 c = read-not _ refl tt (begin (constant-entry) _ _ (on _ (blank-at-took (c .before .before .before .before .before .before .before .before .before .before .before .before .before .before .before .before .blank-at .ensures)) (go _ (maturity-took (c .before .before .before .before .before .before .before .before .before .before .before .before .before .before .before .rest-at .ensures) (c .before .before .before .before .before .before .before .before .before .before .before .before .before .before .api-maturity .ensures)) (on _ (blank-at-took (c .before .before .before .before .before .before .before .before .before .before .before .before .before .blank-at2 .ensures)) (go _ (word-took (c .before .before .before .before .before .before .before .before .before .before .before .before .rest-at2 .ensures) (c .before .before .before .before .before .before .before .before .before .name .given .1) (c .before .before .before .before .before .before .before .before .before .before .before .parse-id .ensures)) (pair-on _ _ _ (tag-behind-took 61 (c .before .before .before .before .before .equals .given .1) (c .before .before .before .before .before .before .before .tag-behind .ensures)) (pair-lose _ _ _ (c .number-lost .result) (c .before .before .before .integer-behind .ensures .at) (integer-behind-lost (c .before .before .before .integer-behind .ensures) (c .number-lost .ensures) (c .before .enum-told3 .given .1)))))))))
-
-rest-at-requires-3 : tie.Need-rest-at-requires-3
-rest-at-requires-3 c κs = let t = integer-behind-took (c .before .before .before .integer-behind .ensures) (c .before .value .given .1) in omega (arith, t .up, t .inside, c .before .before .before .integer-behind .ensures .at .from)
-
-entry-end-requires : tie.Need-entry-end-requires
-entry-end-requires c κs = omega (arith, c .rest-at3 .ensures .size, c .before .before .before .before .before .before .before .before .before .before .before .before .before .before .before .before .before .before .before .pre)
-
-enum-known-last : tie.Need-enum-known-last
-enum-known-last c = c .match4 .keys1
-
-enum-told-4 : tie.Need-enum-told-4
-enum-told-4 c = c .match4 .keys2
-
-step-lost-requires-3 : tie.Need-step-lost-requires-3
-step-lost-requires-3 c κs = tt
+returns-3 c = read-not _ refl tt (begin (constant-entry) _ _ (on _ (blank-at-took (c .before .before .before .before .before .before .before .before .before .before .before .before .before .before .before .before .before .blank-at .ensures)) (go _ (maturity-took (c .before .before .before .before .before .before .before .before .before .before .before .before .before .before .before .before .rest-at .ensures) (c .before .before .before .before .before .before .before .before .before .before .before .before .before .before .before .api-maturity .ensures)) (on _ (blank-at-took (c .before .before .before .before .before .before .before .before .before .before .before .before .before .before .blank-at2 .ensures)) (go _ (word-took (c .before .before .before .before .before .before .before .before .before .before .before .before .before .rest-at2 .ensures) (c .before .before .before .before .before .before .before .before .before .before .name .given .1) (c .before .before .before .before .before .before .before .before .before .before .before .before .parse-id .ensures)) (four-go _ _ _ _ _ (number-at-took (c .before .before .before .before .before .before .before .before .code-behind .ensures) code-behind-on (c .before .before .before .before .before .before .value .given .1)) (last-lost (entry-end _) (c .step-lost2 .result) (c .before .before .before .before .rest-at3 .ensures) (end-none _ (c .step-lost2 .ensures) (c .before .enum-told3 .given .1) (c .before .before .before .entry-end .ensures)))))))))
 
 returns-4 : tie.Need-returns-4
 unfolding constant-entry entry-end
-returns-4 c = read-not _ refl tt (begin (constant-entry) _ _ (on _ (blank-at-took (c .before .before .before .before .before .before .before .before .before .before .before .before .before .before .before .before .before .before .before .before .before .blank-at .ensures)) (go _ (maturity-took (c .before .before .before .before .before .before .before .before .before .before .before .before .before .before .before .before .before .before .before .before .rest-at .ensures) (c .before .before .before .before .before .before .before .before .before .before .before .before .before .before .before .before .before .before .before .api-maturity .ensures)) (on _ (blank-at-took (c .before .before .before .before .before .before .before .before .before .before .before .before .before .before .before .before .before .before .blank-at2 .ensures)) (go _ (word-took (c .before .before .before .before .before .before .before .before .before .before .before .before .before .before .before .before .before .rest-at2 .ensures) (c .before .before .before .before .before .before .before .before .before .before .before .before .before .before .name .given .1) (c .before .before .before .before .before .before .before .before .before .before .before .before .before .before .before .before .parse-id .ensures)) (pair-on _ _ _ (tag-behind-took 61 (c .before .before .before .before .before .before .before .before .before .before .equals .given .1) (c .before .before .before .before .before .before .before .before .before .before .before .before .tag-behind .ensures)) (pair-go _ _ _ (integer-behind-took (c .before .before .before .before .before .before .before .before .integer-behind .ensures) (c .before .before .before .before .before .before .value .given .1)) (last-lost (entry-end _) (c .step-lost3 .result) (c .before .before .before .before .rest-at3 .ensures) (end-none _ (c .step-lost3 .ensures) (c .before .enum-told4 .given .1) (c .before .before .before .entry-end .ensures))))))))))
-
-returns-5 : tie.Need-returns-5
-unfolding constant-entry entry-end
-returns-5 c = read-is refl (begin (constant-entry) _ _ (on _ (blank-at-took (c .before .before .before .before .before .before .before .before .before .before .before .before .before .before .before .before .before .before .before .before .before .blank-at .ensures)) (go _ (maturity-took (c .before .before .before .before .before .before .before .before .before .before .before .before .before .before .before .before .before .before .before .before .rest-at .ensures) (c .before .before .before .before .before .before .before .before .before .before .before .before .before .before .before .before .before .before .before .api-maturity .ensures)) (on _ (blank-at-took (c .before .before .before .before .before .before .before .before .before .before .before .before .before .before .before .before .before .before .blank-at2 .ensures)) (go _ (word-took (c .before .before .before .before .before .before .before .before .before .before .before .before .before .before .before .before .before .rest-at2 .ensures) (c .before .before .before .before .before .before .before .before .before .before .before .before .before .before .name .given .1) (c .before .before .before .before .before .before .before .before .before .before .before .before .before .before .before .before .parse-id .ensures)) (pair-on _ _ _ (tag-behind-took 61 (c .before .before .before .before .before .before .before .before .before .before .equals .given .1) (c .before .before .before .before .before .before .before .before .before .before .before .before .tag-behind .ensures)) (pair-go _ _ _ (integer-behind-took (c .before .before .before .before .before .before .before .before .integer-behind .ensures) (c .before .before .before .before .before .before .value .given .1)) (sym ((end-took _ (c .before .before .before .before .rest-at3 .ensures) (c .before .last .given .1) (c .before .before .before .entry-end .ensures)) .goes))))))))) (record { from = omega (arith, (blank-at-took (c .before .before .before .before .before .before .before .before .before .before .before .before .before .before .before .before .before .before .blank-at2 .ensures)) .up, c .before .before .before .before .before .before .before .before .before .before .before .before .before .before .before .before .before .before .blank-at2 .ensures .at .from); up = (word-took (c .before .before .before .before .before .before .before .before .before .before .before .before .before .before .before .before .before .rest-at2 .ensures) (c .before .before .before .before .before .before .before .before .before .before .before .before .before .before .name .given .1) (c .before .before .before .before .before .before .before .before .before .before .before .before .before .before .before .before .parse-id .ensures)) .up; inside = omega (arith, (tag-behind-took 61 (c .before .before .before .before .before .before .before .before .before .before .equals .given .1) (c .before .before .before .before .before .before .before .before .before .before .before .before .tag-behind .ensures)) .up, (integer-behind-took (c .before .before .before .before .before .before .before .before .integer-behind .ensures) (c .before .before .before .before .before .before .value .given .1)) .up, end-up (c .before .last .given .1) (c .before .before .before .entry-end .ensures)); small = c .before .before .before .before .before .before .before .before .before .before .before .before .before .before .before .before .before .before .before .api-maturity .ensures .small })
+returns-4 c = read-is refl (begin (constant-entry) _ _ (on _ (blank-at-took (c .before .before .before .before .before .before .before .before .before .before .before .before .before .before .before .before .before .blank-at .ensures)) (go _ (maturity-took (c .before .before .before .before .before .before .before .before .before .before .before .before .before .before .before .before .rest-at .ensures) (c .before .before .before .before .before .before .before .before .before .before .before .before .before .before .before .api-maturity .ensures)) (on _ (blank-at-took (c .before .before .before .before .before .before .before .before .before .before .before .before .before .before .blank-at2 .ensures)) (go _ (word-took (c .before .before .before .before .before .before .before .before .before .before .before .before .before .rest-at2 .ensures) (c .before .before .before .before .before .before .before .before .before .before .name .given .1) (c .before .before .before .before .before .before .before .before .before .before .before .before .parse-id .ensures)) (four-go _ _ _ _ _ (number-at-took (c .before .before .before .before .before .before .before .before .code-behind .ensures) code-behind-on (c .before .before .before .before .before .before .value .given .1)) (sym ((end-took _ (c .before .before .before .before .rest-at3 .ensures) (c .before .last .given .1) (c .before .before .before .entry-end .ensures)) .goes)))))))) (record { from = omega (arith, (blank-at-took (c .before .before .before .before .before .before .before .before .before .before .before .before .before .before .blank-at2 .ensures)) .up, c .before .before .before .before .before .before .before .before .before .before .before .before .before .before .blank-at2 .ensures .at .from); up = (word-took (c .before .before .before .before .before .before .before .before .before .before .before .before .before .rest-at2 .ensures) (c .before .before .before .before .before .before .before .before .before .before .name .given .1) (c .before .before .before .before .before .before .before .before .before .before .before .before .parse-id .ensures)) .up; inside = omega (arith, (number-at-took (c .before .before .before .before .before .before .before .before .code-behind .ensures) code-behind-on (c .before .before .before .before .before .before .value .given .1)) .up, end-up (c .before .last .given .1) (c .before .before .before .entry-end .ensures)); small = c .before .before .before .before .before .before .before .before .before .before .before .before .before .before .before .api-maturity .ensures .small })
 
 pub constant-entry-spec : {M : Type 1} → statement M
-constant-entry-spec = tie.close (tie.spec blank-at-requires rest-at-requires api-maturity-requires blank-at-requires-2 rest-at-requires-2 parse-id-requires enum-known-name enum-told step-lost-requires returns tag-behind-requires enum-known-equals enum-told-2 step-lost-requires-2 returns-2 integer-behind-requires enum-known-value enum-told-3 number-lost-requires returns-3 rest-at-requires-3 entry-end-requires enum-known-last enum-told-4 step-lost-requires-3 returns-4 returns-5)
+constant-entry-spec =
+    tie.close
+    (tie.spec
+    blank-at-requires
+    rest-at-requires
+    api-maturity-requires
+    blank-at-requires-2
+    rest-at-requires-2
+    parse-id-requires
+    enum-known-name
+    enum-told
+    step-lost-requires
+    returns
+    code-behind-requires
+    enum-known-value
+    enum-told-2
+    number-lost-requires
+    returns-2
+    rest-at-requires-3
+    entry-end-requires
+    enum-known-last
+    enum-told-3
+    step-lost-requires-2
+    returns-3
+    returns-4)

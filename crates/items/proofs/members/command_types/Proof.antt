@@ -1,14 +1,15 @@
 use Rattle.items.proofs.members.command_types.Statement.{statement}
 use Rattle.items.proofs.members.command_types.Tie as tie
 use Rattle.items.specs.members.{command-types}
+use Rattle.items.proofs.names.Laws.{named-in, named-took, type-behind-on}
 use mathlib.Core.Path.{refl}
 use native.Mathlib.Omega.{arith}
-use Rattle.lexing.specs.answers.{wordAt}
-use Rattle.lexing.proofs.Slicing.{begin, go, on, lose, done, word-took, step-lost}
-use Rattle.items.proofs.Answers.{read-is, read-not}
-use Rattle.items.proofs.Pairs.{pair-on, pair-fall}
+use Rattle.lexing.proofs.Slicing.{begin, go, on, lose, done}
+use Rattle.items.proofs.Answers.{read-is, read-not, read-lost}
+use Rattle.items.proofs.Pairs.{pair-on, pair-fall, four-go, four-lose}
 use Rattle.items.proofs.members.Laws.{optional-word-took, optional-word-lost}
 use Rattle.items.proofs.steps.Laws.{blank-at-took, tag-behind-took, skips-lost}
+use Rattle.items.specs.answers.names.{namedLost}
 
 tag-behind-requires : tie.Need-tag-behind-requires
 tag-behind-requires c κs = omega (arith, c .before .pre)
@@ -67,47 +68,55 @@ returns-3 : tie.Need-returns-3
 unfolding command-types
 returns-3 c = read-not _ refl tt (begin (command-types) _ _ (pair-on _ _ _ (tag-behind-took 40 (c .before .before .before .before .before .before .before .before .before .before .before .before .opening .given .1) (c .before .before .before .before .before .before .before .before .before .before .before .before .before .before .tag-behind .ensures)) (on _ (blank-at-took (c .before .before .before .before .before .before .before .before .before .before .blank-at .ensures)) (go _ (optional-word-took (c .before .before .before .before .before .before .before .before .parse-id .result) _ _ (c .before .before .before .before .before .before .before .before .parse-id .ensures) (c .before .before .before .before .before .before .before .optional .ensures) (c .before .before .before .before .before .before .before .before .before .rest-at .ensures) (c .before .before .before .before .before .from .given .1)) (pair-fall _ _ _ (c .step-lost3 .result) (c .before .before .before .tag-behind2 .ensures .at) (skips-lost (c .step-lost3 .ensures) (c .before .enum-told3 .given .1) (c .before .before .before .tag-behind2 .ensures)))))))
 
-tag-behind-requires-3 : tie.Need-tag-behind-requires-3
-tag-behind-requires-3 c κs = let t = tag-behind-took 41 (c .before .closing .given .1) (c .before .before .before .tag-behind2 .ensures) in omega (arith, t .up, t .inside, c .before .before .before .tag-behind2 .ensures .at .from, c .before .before .before .before .before .before .before .before .before .before .before .before .before .before .before .before .pre)
+rest-at-requires-2 : tie.Need-rest-at-requires-2
+rest-at-requires-2 c κs = let t = tag-behind-took 41 (c .before .closing .given .1) (c .before .before .before .tag-behind2 .ensures) in omega (arith, t .up, t .inside, c .before .before .before .tag-behind2 .ensures .at .from)
 
-enum-known-colon : tie.Need-enum-known-colon
-enum-known-colon c = c .match4 .keys1
+type-behind-requires : tie.Need-type-behind-requires
+type-behind-requires c κs = omega (arith, c .rest-at2 .ensures .size, c .before .before .before .before .before .before .before .before .before .before .before .before .before .before .before .before .before .pre)
+
+enum-known-to : tie.Need-enum-known-to
+enum-known-to c = c .match4 .keys1
 
 enum-told-4 : tie.Need-enum-told-4
 enum-told-4 c = c .match4 .keys2
 
-step-lost-requires-4 : tie.Need-step-lost-requires-4
-step-lost-requires-4 c κs = tt
+named-lost-requires : tie.Need-named-lost-requires
+named-lost-requires c κs = tt
 
 returns-4 : tie.Need-returns-4
 unfolding command-types
-returns-4 c = read-not _ refl tt (begin (command-types) _ _ (pair-on _ _ _ (tag-behind-took 40 (c .before .before .before .before .before .before .before .before .before .before .before .before .before .before .before .before .opening .given .1) (c .before .before .before .before .before .before .before .before .before .before .before .before .before .before .before .before .before .before .tag-behind .ensures)) (on _ (blank-at-took (c .before .before .before .before .before .before .before .before .before .before .before .before .before .before .blank-at .ensures)) (go _ (optional-word-took (c .before .before .before .before .before .before .before .before .before .before .before .before .parse-id .result) _ _ (c .before .before .before .before .before .before .before .before .before .before .before .before .parse-id .ensures) (c .before .before .before .before .before .before .before .before .before .before .before .optional .ensures) (c .before .before .before .before .before .before .before .before .before .before .before .before .before .rest-at .ensures) (c .before .before .before .before .before .before .before .before .before .from .given .1)) (pair-on _ _ _ (tag-behind-took 41 (c .before .before .before .before .before .closing .given .1) (c .before .before .before .before .before .before .before .tag-behind2 .ensures)) (pair-fall _ _ _ (c .step-lost4 .result) (c .before .before .before .tag-behind3 .ensures .at) (skips-lost (c .step-lost4 .ensures) (c .before .enum-told4 .given .1) (c .before .before .before .tag-behind3 .ensures))))))))
-
-blank-at-requires-2 : tie.Need-blank-at-requires-2
-blank-at-requires-2 c κs = let t = tag-behind-took 58 (c .before .colon .given .1) (c .before .before .before .tag-behind3 .ensures) in omega (arith, t .up, t .inside, c .before .before .before .tag-behind3 .ensures .at .from, c .before .before .before .before .before .before .before .before .before .before .before .before .before .before .before .before .before .before .before .before .pre)
-
-rest-at-requires-2 : tie.Need-rest-at-requires-2
-rest-at-requires-2 c κs = let t = blank-at-took (c .blank-at2 .ensures) in omega (arith, t .up, t .inside, c .blank-at2 .ensures .at .from)
-
-parse-id-requires-2 : tie.Need-parse-id-requires-2
-parse-id-requires-2 c κs = omega (arith, c .rest-at2 .ensures .size, c .before .before .before .before .before .before .before .before .before .before .before .before .before .before .before .before .before .before .before .before .before .before .pre)
-
-enum-known-to : tie.Need-enum-known-to
-enum-known-to c = c .match5 .keys1
-
-enum-told-5 : tie.Need-enum-told-5
-enum-told-5 c = c .match5 .keys2
-
-step-lost-requires-5 : tie.Need-step-lost-requires-5
-step-lost-requires-5 c κs = tt
+returns-4 c = read-not _ refl tt (begin (command-types) _ _ (pair-on _ _ _ (tag-behind-took 40 (c .before .before .before .before .before .before .before .before .before .before .before .before .before .before .before .before .before .opening .given .1) (c .before .before .before .before .before .before .before .before .before .before .before .before .before .before .before .before .before .before .before .tag-behind .ensures)) (on _ (blank-at-took (c .before .before .before .before .before .before .before .before .before .before .before .before .before .before .before .blank-at .ensures)) (go _ (optional-word-took (c .before .before .before .before .before .before .before .before .before .before .before .before .before .parse-id .result) _ _ (c .before .before .before .before .before .before .before .before .before .before .before .before .before .parse-id .ensures) (c .before .before .before .before .before .before .before .before .before .before .before .before .optional .ensures) (c .before .before .before .before .before .before .before .before .before .before .before .before .before .before .rest-at .ensures) (c .before .before .before .before .before .before .before .before .before .before .from .given .1)) (pair-on _ _ _ (tag-behind-took 41 (c .before .before .before .before .before .before .closing .given .1) (c .before .before .before .before .before .before .before .before .tag-behind2 .ensures)) (four-lose _ _ _ _ _ (c .named-lost .result) (c .before .before .before .before .rest-at2 .ensures) (read-lost (c .before .before .before .type-behind .ensures) (c .before .enum-told4 .given .1) namedLost (c .named-lost .ensures) refl)))))))
 
 returns-5 : tie.Need-returns-5
 unfolding command-types
-returns-5 c = read-not _ refl tt (begin (command-types) _ _ (pair-on _ _ _ (tag-behind-took 40 (c .before .before .before .before .before .before .before .before .before .before .before .before .before .before .before .before .before .before .before .before .before .before .opening .given .1) (c .before .before .before .before .before .before .before .before .before .before .before .before .before .before .before .before .before .before .before .before .before .before .before .before .tag-behind .ensures)) (on _ (blank-at-took (c .before .before .before .before .before .before .before .before .before .before .before .before .before .before .before .before .before .before .before .before .blank-at .ensures)) (go _ (optional-word-took (c .before .before .before .before .before .before .before .before .before .before .before .before .before .before .before .before .before .before .parse-id .result) _ _ (c .before .before .before .before .before .before .before .before .before .before .before .before .before .before .before .before .before .before .parse-id .ensures) (c .before .before .before .before .before .before .before .before .before .before .before .before .before .before .before .before .before .optional .ensures) (c .before .before .before .before .before .before .before .before .before .before .before .before .before .before .before .before .before .before .before .rest-at .ensures) (c .before .before .before .before .before .before .before .before .before .before .before .before .before .before .before .from .given .1)) (pair-on _ _ _ (tag-behind-took 41 (c .before .before .before .before .before .before .before .before .before .before .before .closing .given .1) (c .before .before .before .before .before .before .before .before .before .before .before .before .before .tag-behind2 .ensures)) (pair-on _ _ _ (tag-behind-took 58 (c .before .before .before .before .before .before .before .colon .given .1) (c .before .before .before .before .before .before .before .before .before .tag-behind3 .ensures)) (on _ (blank-at-took (c .before .before .before .before .before .blank-at2 .ensures)) (lose _ _ (c .step-lost5 .result) (c .before .before .before .before .rest-at2 .ensures) (step-lost (wordAt _ _) (c .step-lost5 .ensures) (c .before .enum-told5 .given .1) _ _ _ (c .before .before .before .parse-id2 .ensures))))))))))
-
-returns-6 : tie.Need-returns-6
-unfolding command-types
-returns-6 c = read-is refl (begin (command-types) _ _ (pair-on _ _ _ (tag-behind-took 40 (c .before .before .before .before .before .before .before .before .before .before .before .before .before .before .before .before .before .before .before .before .before .before .opening .given .1) (c .before .before .before .before .before .before .before .before .before .before .before .before .before .before .before .before .before .before .before .before .before .before .before .before .tag-behind .ensures)) (on _ (blank-at-took (c .before .before .before .before .before .before .before .before .before .before .before .before .before .before .before .before .before .before .before .before .blank-at .ensures)) (go _ (optional-word-took (c .before .before .before .before .before .before .before .before .before .before .before .before .before .before .before .before .before .before .parse-id .result) _ _ (c .before .before .before .before .before .before .before .before .before .before .before .before .before .before .before .before .before .before .parse-id .ensures) (c .before .before .before .before .before .before .before .before .before .before .before .before .before .before .before .before .before .optional .ensures) (c .before .before .before .before .before .before .before .before .before .before .before .before .before .before .before .before .before .before .before .rest-at .ensures) (c .before .before .before .before .before .before .before .before .before .before .before .before .before .before .before .from .given .1)) (pair-on _ _ _ (tag-behind-took 41 (c .before .before .before .before .before .before .before .before .before .before .before .closing .given .1) (c .before .before .before .before .before .before .before .before .before .before .before .before .before .tag-behind2 .ensures)) (pair-on _ _ _ (tag-behind-took 58 (c .before .before .before .before .before .before .before .colon .given .1) (c .before .before .before .before .before .before .before .before .before .tag-behind3 .ensures)) (on _ (blank-at-took (c .before .before .before .before .before .blank-at2 .ensures)) (go _ (word-took (c .before .before .before .before .rest-at2 .ensures) (c .before .to .given .1) (c .before .before .before .parse-id2 .ensures)) (done _ _ _ _))))))))) (record { input-from = omega (arith, (blank-at-took (c .before .before .before .before .before .before .before .before .before .before .before .before .before .before .before .before .before .before .before .before .blank-at .ensures)) .up, c .before .before .before .before .before .before .before .before .before .before .before .before .before .before .before .before .before .before .before .before .blank-at .ensures .at .from); input-to = (optional-word-took (c .before .before .before .before .before .before .before .before .before .before .before .before .before .before .before .before .before .before .parse-id .result) _ _ (c .before .before .before .before .before .before .before .before .before .before .before .before .before .before .before .before .before .before .parse-id .ensures) (c .before .before .before .before .before .before .before .before .before .before .before .before .before .before .before .before .before .optional .ensures) (c .before .before .before .before .before .before .before .before .before .before .before .before .before .before .before .before .before .before .before .rest-at .ensures) (c .before .before .before .before .before .before .before .before .before .before .before .before .before .before .before .from .given .1)) .up; output-from = omega (arith, (tag-behind-took 41 (c .before .before .before .before .before .before .before .before .before .before .before .closing .given .1) (c .before .before .before .before .before .before .before .before .before .before .before .before .before .tag-behind2 .ensures)) .up, (tag-behind-took 58 (c .before .before .before .before .before .before .before .colon .given .1) (c .before .before .before .before .before .before .before .before .before .tag-behind3 .ensures)) .up, (blank-at-took (c .before .before .before .before .before .blank-at2 .ensures)) .up); output-to = (word-took (c .before .before .before .before .rest-at2 .ensures) (c .before .to .given .1) (c .before .before .before .parse-id2 .ensures)) .up; before = omega arith })
+returns-5 c = read-is refl (begin (command-types) _ _ (pair-on _ _ _ (tag-behind-took 40 (c .before .before .before .before .before .before .before .before .before .before .before .before .before .before .before .before .before .opening .given .1) (c .before .before .before .before .before .before .before .before .before .before .before .before .before .before .before .before .before .before .before .tag-behind .ensures)) (on _ (blank-at-took (c .before .before .before .before .before .before .before .before .before .before .before .before .before .before .before .blank-at .ensures)) (go _ (optional-word-took (c .before .before .before .before .before .before .before .before .before .before .before .before .before .parse-id .result) _ _ (c .before .before .before .before .before .before .before .before .before .before .before .before .before .parse-id .ensures) (c .before .before .before .before .before .before .before .before .before .before .before .before .optional .ensures) (c .before .before .before .before .before .before .before .before .before .before .before .before .before .before .rest-at .ensures) (c .before .before .before .before .before .before .before .before .before .before .from .given .1)) (pair-on _ _ _ (tag-behind-took 41 (c .before .before .before .before .before .before .closing .given .1) (c .before .before .before .before .before .before .before .before .tag-behind2 .ensures)) (four-go _ _ _ _ _ (named-took (c .before .before .before .type-behind .ensures) (c .before .to .given .1) type-behind-on (c .before .before .before .before .rest-at2 .ensures)) (done _ _ _ _))))))) (let w = named-in (c .before .before .before .type-behind .ensures) (c .before .to .given .1) in record { input-from = omega (arith, (blank-at-took (c .before .before .before .before .before .before .before .before .before .before .before .before .before .before .before .blank-at .ensures)) .up, c .before .before .before .before .before .before .before .before .before .before .before .before .before .before .before .blank-at .ensures .at .from); input-to = (optional-word-took (c .before .before .before .before .before .before .before .before .before .before .before .before .before .parse-id .result) _ _ (c .before .before .before .before .before .before .before .before .before .before .before .before .before .parse-id .ensures) (c .before .before .before .before .before .before .before .before .before .before .before .before .optional .ensures) (c .before .before .before .before .before .before .before .before .before .before .before .before .before .before .rest-at .ensures) (c .before .before .before .before .before .before .before .before .before .before .from .given .1)) .up; output-from = omega (arith, (tag-behind-took 41 (c .before .before .before .before .before .before .closing .given .1) (c .before .before .before .before .before .before .before .before .tag-behind2 .ensures)) .up, w .from); output-to = w .up; before = w .inside })
 
 pub command-types-spec : {M : Type 1} → statement M
-command-types-spec = tie.close (tie.spec tag-behind-requires enum-known-opening enum-told step-lost-requires returns blank-at-requires rest-at-requires parse-id-requires optional-requires enum-known-from enum-told-2 step-lost-requires-2 returns-2 tag-behind-requires-2 enum-known-closing enum-told-3 step-lost-requires-3 returns-3 tag-behind-requires-3 enum-known-colon enum-told-4 step-lost-requires-4 returns-4 blank-at-requires-2 rest-at-requires-2 parse-id-requires-2 enum-known-to enum-told-5 step-lost-requires-5 returns-5 returns-6)
+command-types-spec =
+    tie.close
+    (tie.spec
+    tag-behind-requires
+    enum-known-opening
+    enum-told
+    step-lost-requires
+    returns
+    blank-at-requires
+    rest-at-requires
+    parse-id-requires
+    optional-requires
+    enum-known-from
+    enum-told-2
+    step-lost-requires-2
+    returns-2
+    tag-behind-requires-2
+    enum-known-closing
+    enum-told-3
+    step-lost-requires-3
+    returns-3
+    rest-at-requires-2
+    type-behind-requires
+    enum-known-to
+    enum-told-4
+    named-lost-requires
+    returns-4
+    returns-5)

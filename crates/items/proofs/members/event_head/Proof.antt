@@ -7,10 +7,11 @@ use mathlib.Core.Path.{refl}
 use native.Mathlib.Omega.{arith}
 use Rattle.lexing.specs.answers.{wordAt}
 use Rattle.lexing.proofs.Slicing.{walks, rest-self, begin, go, on, lose, done, word-took, step-lost}
-use Rattle.items.proofs.Answers.{read-is, read-not, read-took, read-lost}
-use Rattle.items.proofs.Pairs.{pair-go, pair-on, pair-lose, pair-fall}
+use Rattle.items.proofs.Answers.{read-is, read-not, read-lost, read-took}
+use Rattle.items.proofs.Pairs.{four-go, four-lose}
 use Rattle.items.proofs.Locality.{event-qualities-inside}
-use Rattle.items.proofs.steps.Laws.{blank-at-took, tag-behind-took, integer-behind-took, skips-lost, integer-behind-lost}
+use Rattle.items.proofs.steps.Laws.{blank-at-took}
+use Rattle.items.proofs.names.Laws.{code-behind-on, number-at-took, number-at-lost}
 use Rattle.lexing.proofs.Locality.{chain-inside}
 use Rattle.items.specs.answers.members.{eventQualitiesLost}
 
@@ -52,44 +53,49 @@ returns-2 : tie.Need-returns-2
 unfolding event-head
 returns-2 c = read-not _ refl tt (begin (event-head) _ _ (go _ (read-took (c .before .before .before .before .before .before .before .before .before .event-qualities .ensures) (c .before .before .before .before .before .before .before .qualities .given .1) (walks (chain-inside event-qualities-inside)) (rest-self _ _) refl) (on _ (blank-at-took (c .before .before .before .before .before .blank-at .ensures)) (lose _ _ (c .step-lost .result) (c .before .before .before .before .rest-at .ensures) (step-lost (wordAt _ _) (c .step-lost .ensures) (c .before .enum-told2 .given .1) _ _ _ (c .before .before .before .parse-id .ensures))))))
 
-tag-behind-requires : tie.Need-tag-behind-requires
-tag-behind-requires c κs = let t = word-took (c .before .before .before .before .rest-at .ensures) (c .before .id .given .1) (c .before .before .before .parse-id .ensures) in omega (arith, t .up, t .inside, c .before .before .before .before .rest-at .ensures .from, c .before .before .before .before .before .before .before .before .before .before .before .pre)
+code-behind-requires : tie.Need-code-behind-requires
+code-behind-requires c κs = let t = word-took (c .before .before .before .before .rest-at .ensures) (c .before .id .given .1) (c .before .before .before .parse-id .ensures) in omega (arith, t .up, t .inside, c .before .before .before .before .rest-at .ensures .from, c .before .before .before .before .before .before .before .before .before .before .before .pre)
 
-enum-known-equals : tie.Need-enum-known-equals
-enum-known-equals c = c .match3 .keys1
+enum-known-number : tie.Need-enum-known-number
+enum-known-number c = c .match3 .keys1
 
 enum-told-3 : tie.Need-enum-told-3
 enum-told-3 c = c .match3 .keys2
 
-step-lost-requires-2 : tie.Need-step-lost-requires-2
-step-lost-requires-2 c κs = tt
-
-returns-3 : tie.Need-returns-3
-unfolding event-head
-returns-3 c = read-not _ refl tt (begin (event-head) _ _ (go _ (read-took (c .before .before .before .before .before .before .before .before .before .before .before .before .before .event-qualities .ensures) (c .before .before .before .before .before .before .before .before .before .before .before .qualities .given .1) (walks (chain-inside event-qualities-inside)) (rest-self _ _) refl) (on _ (blank-at-took (c .before .before .before .before .before .before .before .before .before .blank-at .ensures)) (go _ (word-took (c .before .before .before .before .before .before .before .before .rest-at .ensures) (c .before .before .before .before .before .id .given .1) (c .before .before .before .before .before .before .before .parse-id .ensures)) (pair-fall _ _ _ (c .step-lost2 .result) (c .before .before .before .tag-behind .ensures .at) (skips-lost (c .step-lost2 .ensures) (c .before .enum-told3 .given .1) (c .before .before .before .tag-behind .ensures)))))))
-
-integer-behind-requires : tie.Need-integer-behind-requires
-integer-behind-requires c κs = let t = tag-behind-took 61 (c .before .equals .given .1) (c .before .before .before .tag-behind .ensures) in omega (arith, t .up, t .inside, c .before .before .before .tag-behind .ensures .at .from, c .before .before .before .before .before .before .before .before .before .before .before .before .before .before .before .pre)
-
-enum-known-number : tie.Need-enum-known-number
-enum-known-number c = c .match4 .keys1
-
-enum-told-4 : tie.Need-enum-told-4
-enum-told-4 c = c .match4 .keys2
-
 number-lost-requires : tie.Need-number-lost-requires
 number-lost-requires c κs = tt
 
-returns-4 : tie.Need-returns-4
+returns-3 : tie.Need-returns-3
 unfolding event-head
-returns-4 c = read-not _ refl tt (begin (event-head) _ _ (go _ (read-took (c .before .before .before .before .before .before .before .before .before .before .before .before .before .before .before .before .before .event-qualities .ensures) (c .before .before .before .before .before .before .before .before .before .before .before .before .before .before .before .qualities .given .1) (walks (chain-inside event-qualities-inside)) (rest-self _ _) refl) (on _ (blank-at-took (c .before .before .before .before .before .before .before .before .before .before .before .before .before .blank-at .ensures)) (go _ (word-took (c .before .before .before .before .before .before .before .before .before .before .before .before .rest-at .ensures) (c .before .before .before .before .before .before .before .before .before .id .given .1) (c .before .before .before .before .before .before .before .before .before .before .before .parse-id .ensures)) (pair-on _ _ _ (tag-behind-took 61 (c .before .before .before .before .before .equals .given .1) (c .before .before .before .before .before .before .before .tag-behind .ensures)) (pair-lose _ _ _ (c .number-lost .result) (c .before .before .before .integer-behind .ensures .at) (integer-behind-lost (c .before .before .before .integer-behind .ensures) (c .number-lost .ensures) (c .before .enum-told4 .given .1))))))))
+returns-3 c = read-not _ refl tt (begin (event-head) _ _ (go _ (read-took (c .before .before .before .before .before .before .before .before .before .before .before .before .before .event-qualities .ensures) (c .before .before .before .before .before .before .before .before .before .before .before .qualities .given .1) (walks (chain-inside event-qualities-inside)) (rest-self _ _) refl) (on _ (blank-at-took (c .before .before .before .before .before .before .before .before .before .blank-at .ensures)) (go _ (word-took (c .before .before .before .before .before .before .before .before .rest-at .ensures) (c .before .before .before .before .before .id .given .1) (c .before .before .before .before .before .before .before .parse-id .ensures)) (four-lose _ _ _ _ _ (c .number-lost .result) (c .before .before .before .code-behind .ensures .at) (number-at-lost (c .before .before .before .code-behind .ensures) (c .number-lost .ensures) (c .before .enum-told3 .given .1)))))))
 
 blank-at-requires-2 : tie.Need-blank-at-requires-2
-blank-at-requires-2 c κs = let t = integer-behind-took (c .before .before .before .integer-behind .ensures) (c .before .number .given .1) in omega (arith, t .up, t .inside, c .before .before .before .integer-behind .ensures .at .from, c .before .before .before .before .before .before .before .before .before .before .before .before .before .before .before .before .before .before .before .pre)
+blank-at-requires-2 c κs = let t = number-at-took (c .before .before .before .code-behind .ensures) code-behind-on (c .before .number .given .1) in omega (arith, t .up, t .inside, c .before .before .before .code-behind .ensures .at .from, c .before .before .before .before .before .before .before .before .before .before .before .before .before .before .before .pre)
 
-returns-5 : tie.Need-returns-5
+returns-4 : tie.Need-returns-4
 unfolding event-head
-returns-5 c = read-is refl (begin (event-head) _ _ (go _ (read-took (c .before .before .before .before .before .before .before .before .before .before .before .before .before .before .before .before .before .before .event-qualities .ensures) (c .before .before .before .before .before .before .before .before .before .before .before .before .before .before .before .before .qualities .given .1) (walks (chain-inside event-qualities-inside)) (rest-self _ _) refl) (on _ (blank-at-took (c .before .before .before .before .before .before .before .before .before .before .before .before .before .before .blank-at .ensures)) (go _ (word-took (c .before .before .before .before .before .before .before .before .before .before .before .before .before .rest-at .ensures) (c .before .before .before .before .before .before .before .before .before .before .id .given .1) (c .before .before .before .before .before .before .before .before .before .before .before .before .parse-id .ensures)) (pair-on _ _ _ (tag-behind-took 61 (c .before .before .before .before .before .before .equals .given .1) (c .before .before .before .before .before .before .before .before .tag-behind .ensures)) (pair-go _ _ _ (integer-behind-took (c .before .before .before .before .integer-behind .ensures) (c .before .before .number .given .1)) (on _ (blank-at-took (c .blank-at2 .ensures)) (done _ _ _ _)))))))) (let w = event-qualities-small (c .before .before .before .before .before .before .before .before .before .before .before .before .before .before .before .before .before .before .event-qualities .ensures) (c .before .before .before .before .before .before .before .before .before .before .before .before .before .before .before .before .qualities .given .1) in record { sensitive = w .sensitive; rank = w .rank; privilege = w .privilege; name-from = omega (arith, (read-took (c .before .before .before .before .before .before .before .before .before .before .before .before .before .before .before .before .before .before .event-qualities .ensures) (c .before .before .before .before .before .before .before .before .before .before .before .before .before .before .before .before .qualities .given .1) (walks (chain-inside event-qualities-inside)) (rest-self _ _) refl) .up, (blank-at-took (c .before .before .before .before .before .before .before .before .before .before .before .before .before .before .blank-at .ensures)) .up); name-to = (word-took (c .before .before .before .before .before .before .before .before .before .before .before .before .before .rest-at .ensures) (c .before .before .before .before .before .before .before .before .before .before .id .given .1) (c .before .before .before .before .before .before .before .before .before .before .before .before .parse-id .ensures)) .up; before = omega (arith, (tag-behind-took 61 (c .before .before .before .before .before .before .equals .given .1) (c .before .before .before .before .before .before .before .before .tag-behind .ensures)) .up, (integer-behind-took (c .before .before .before .before .integer-behind .ensures) (c .before .before .number .given .1)) .up, (blank-at-took (c .blank-at2 .ensures)) .up) })
+returns-4 c = read-is refl (begin (event-head) _ _ (go _ (read-took (c .before .before .before .before .before .before .before .before .before .before .before .before .before .before .event-qualities .ensures) (c .before .before .before .before .before .before .before .before .before .before .before .before .qualities .given .1) (walks (chain-inside event-qualities-inside)) (rest-self _ _) refl) (on _ (blank-at-took (c .before .before .before .before .before .before .before .before .before .before .blank-at .ensures)) (go _ (word-took (c .before .before .before .before .before .before .before .before .before .rest-at .ensures) (c .before .before .before .before .before .before .id .given .1) (c .before .before .before .before .before .before .before .before .parse-id .ensures)) (four-go _ _ _ _ _ (number-at-took (c .before .before .before .before .code-behind .ensures) code-behind-on (c .before .before .number .given .1)) (on _ (blank-at-took (c .blank-at2 .ensures)) (done _ _ _ _))))))) (let w = event-qualities-small (c .before .before .before .before .before .before .before .before .before .before .before .before .before .before .event-qualities .ensures) (c .before .before .before .before .before .before .before .before .before .before .before .before .qualities .given .1) in record { sensitive = w .sensitive; rank = w .rank; privilege = w .privilege; name-from = omega (arith, (read-took (c .before .before .before .before .before .before .before .before .before .before .before .before .before .before .event-qualities .ensures) (c .before .before .before .before .before .before .before .before .before .before .before .before .qualities .given .1) (walks (chain-inside event-qualities-inside)) (rest-self _ _) refl) .up, (blank-at-took (c .before .before .before .before .before .before .before .before .before .before .blank-at .ensures)) .up); name-to = (word-took (c .before .before .before .before .before .before .before .before .before .rest-at .ensures) (c .before .before .before .before .before .before .id .given .1) (c .before .before .before .before .before .before .before .before .parse-id .ensures)) .up; before = omega (arith, (number-at-took (c .before .before .before .before .code-behind .ensures) code-behind-on (c .before .before .number .given .1)) .up, (blank-at-took (c .blank-at2 .ensures)) .up) })
 
 pub event-head-spec : {M : Type 1} → statement M
-event-head-spec = tie.close (tie.spec event-qualities-requires enum-known-qualities enum-told event-qualities-lost-requires returns blank-at-requires rest-at-requires parse-id-requires enum-known-id enum-told-2 step-lost-requires returns-2 tag-behind-requires enum-known-equals enum-told-3 step-lost-requires-2 returns-3 integer-behind-requires enum-known-number enum-told-4 number-lost-requires returns-4 blank-at-requires-2 returns-5)
+event-head-spec =
+    tie.close
+    (tie.spec
+    event-qualities-requires
+    enum-known-qualities
+    enum-told
+    event-qualities-lost-requires
+    returns
+    blank-at-requires
+    rest-at-requires
+    parse-id-requires
+    enum-known-id
+    enum-told-2
+    step-lost-requires
+    returns-2
+    code-behind-requires
+    enum-known-number
+    enum-told-3
+    number-lost-requires
+    returns-3
+    blank-at-requires-2
+    returns-4)

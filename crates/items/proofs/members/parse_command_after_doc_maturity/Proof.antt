@@ -7,10 +7,11 @@ use Rattle.items.proofs.members.Laws.{command-head-within, command-type
 use mathlib.Core.Path.{refl}
 use native.Mathlib.Omega.{arith}
 use Rattle.lexing.proofs.Slicing.{walks, rest-self, begin, go, lose, done}
-use Rattle.items.proofs.Answers.{read-not, read-took, read-lost}
-use Rattle.items.proofs.Pairs.{pair-go, pair-on, pair-lose, pair-fall}
+use Rattle.items.proofs.Answers.{read-not, read-lost, read-took}
+use Rattle.items.proofs.Pairs.{pair-on, pair-fall, four-go, four-lose}
 use Rattle.items.proofs.Locality.{command-head-inside}
-use Rattle.items.proofs.steps.Laws.{tag-behind-took, integer-behind-took, skips-lost, integer-behind-lost}
+use Rattle.items.proofs.steps.Laws.{tag-behind-took, skips-lost}
+use Rattle.items.proofs.names.Laws.{code-behind-on, number-at-took, number-at-lost}
 use Rattle.lexing.proofs.Locality.{chain-inside}
 use Rattle.items.specs.answers.members.{commandHeadLost, commandTypesLost}
 
@@ -49,57 +50,65 @@ returns-2 : tie.Need-returns-2
 unfolding parse-command-after-doc-maturity
 returns-2 c = read-not _ refl tt (begin (parse-command-after-doc-maturity (docOf (c .before .before .before .before .before .before .before .before .before .before .args .doc)) (c .before .before .before .before .before .before .before .before .before .before .args .maturity)) _ _ (go _ (read-took (c .before .before .before .before .before .before .before .before .command-head .ensures) (c .before .before .before .before .before .before .head .given .1) (walks (chain-inside command-head-inside)) (rest-self _ _) refl) (lose _ _ (c .command-types-lost .result) (c .before .before .before .before .rest-at .ensures) (read-lost (c .before .before .before .command-types .ensures) (c .before .enum-told2 .given .1) commandTypesLost (c .command-types-lost .ensures) refl))))
 
-tag-behind-requires : tie.Need-tag-behind-requires
-tag-behind-requires c κs = let t = command-types-took (c .before .before .before .command-types .ensures) (c .before .types .given .1) (c .before .before .before .before .rest-at .ensures) in omega (arith, t .up, t .inside, c .before .before .before .before .rest-at .ensures .from, c .before .before .before .before .before .before .before .before .before .before .pre)
+code-behind-requires : tie.Need-code-behind-requires
+code-behind-requires c κs = let t = command-types-took (c .before .before .before .command-types .ensures) (c .before .types .given .1) (c .before .before .before .before .rest-at .ensures) in omega (arith, t .up, t .inside, c .before .before .before .before .rest-at .ensures .from, c .before .before .before .before .before .before .before .before .before .before .pre)
 
-enum-known-equals : tie.Need-enum-known-equals
-enum-known-equals c = c .match3 .keys1
+enum-known-number : tie.Need-enum-known-number
+enum-known-number c = c .match3 .keys1
 
 enum-told-3 : tie.Need-enum-told-3
 enum-told-3 c = c .match3 .keys2
 
-step-lost-requires : tie.Need-step-lost-requires
-step-lost-requires c κs = tt
+number-lost-requires : tie.Need-number-lost-requires
+number-lost-requires c κs = tt
 
 returns-3 : tie.Need-returns-3
 unfolding parse-command-after-doc-maturity
-returns-3 c = read-not _ refl tt (begin (parse-command-after-doc-maturity (docOf (c .before .before .before .before .before .before .before .before .before .before .before .before .before .before .args .doc)) (c .before .before .before .before .before .before .before .before .before .before .before .before .before .before .args .maturity)) _ _ (go _ (read-took (c .before .before .before .before .before .before .before .before .before .before .before .before .command-head .ensures) (c .before .before .before .before .before .before .before .before .before .before .head .given .1) (walks (chain-inside command-head-inside)) (rest-self _ _) refl) (go _ (command-types-took (c .before .before .before .before .before .before .before .command-types .ensures) (c .before .before .before .before .before .types .given .1) (c .before .before .before .before .before .before .before .before .rest-at .ensures)) (pair-fall _ _ _ (c .step-lost .result) (c .before .before .before .tag-behind .ensures .at) (skips-lost (c .step-lost .ensures) (c .before .enum-told3 .given .1) (c .before .before .before .tag-behind .ensures))))))
+returns-3 c = read-not _ refl tt (begin (parse-command-after-doc-maturity (docOf (c .before .before .before .before .before .before .before .before .before .before .before .before .before .before .args .doc)) (c .before .before .before .before .before .before .before .before .before .before .before .before .before .before .args .maturity)) _ _ (go _ (read-took (c .before .before .before .before .before .before .before .before .before .before .before .before .command-head .ensures) (c .before .before .before .before .before .before .before .before .before .before .head .given .1) (walks (chain-inside command-head-inside)) (rest-self _ _) refl) (go _ (command-types-took (c .before .before .before .before .before .before .before .command-types .ensures) (c .before .before .before .before .before .types .given .1) (c .before .before .before .before .before .before .before .before .rest-at .ensures)) (four-lose _ _ _ _ _ (c .number-lost .result) (c .before .before .before .code-behind .ensures .at) (number-at-lost (c .before .before .before .code-behind .ensures) (c .number-lost .ensures) (c .before .enum-told3 .given .1))))))
 
-integer-behind-requires : tie.Need-integer-behind-requires
-integer-behind-requires c κs = let t = tag-behind-took 61 (c .before .equals .given .1) (c .before .before .before .tag-behind .ensures) in omega (arith, t .up, t .inside, c .before .before .before .tag-behind .ensures .at .from, c .before .before .before .before .before .before .before .before .before .before .before .before .before .before .pre)
+tag-behind-requires : tie.Need-tag-behind-requires
+tag-behind-requires c κs = let t = number-at-took (c .before .before .before .code-behind .ensures) code-behind-on (c .before .number .given .1) in omega (arith, t .up, t .inside, c .before .before .before .code-behind .ensures .at .from, c .before .before .before .before .before .before .before .before .before .before .before .before .before .before .pre)
 
-enum-known-number : tie.Need-enum-known-number
-enum-known-number c = c .match4 .keys1
+enum-known-semicolon : tie.Need-enum-known-semicolon
+enum-known-semicolon c = c .match4 .keys1
 
 enum-told-4 : tie.Need-enum-told-4
 enum-told-4 c = c .match4 .keys2
 
-number-lost-requires : tie.Need-number-lost-requires
-number-lost-requires c κs = tt
+step-lost-requires : tie.Need-step-lost-requires
+step-lost-requires c κs = tt
 
 returns-4 : tie.Need-returns-4
 unfolding parse-command-after-doc-maturity
-returns-4 c = read-not _ refl tt (begin (parse-command-after-doc-maturity (docOf (c .before .before .before .before .before .before .before .before .before .before .before .before .before .before .before .before .before .before .args .doc)) (c .before .before .before .before .before .before .before .before .before .before .before .before .before .before .before .before .before .before .args .maturity)) _ _ (go _ (read-took (c .before .before .before .before .before .before .before .before .before .before .before .before .before .before .before .before .command-head .ensures) (c .before .before .before .before .before .before .before .before .before .before .before .before .before .before .head .given .1) (walks (chain-inside command-head-inside)) (rest-self _ _) refl) (go _ (command-types-took (c .before .before .before .before .before .before .before .before .before .before .before .command-types .ensures) (c .before .before .before .before .before .before .before .before .before .types .given .1) (c .before .before .before .before .before .before .before .before .before .before .before .before .rest-at .ensures)) (pair-on _ _ _ (tag-behind-took 61 (c .before .before .before .before .before .equals .given .1) (c .before .before .before .before .before .before .before .tag-behind .ensures)) (pair-lose _ _ _ (c .number-lost .result) (c .before .before .before .integer-behind .ensures .at) (integer-behind-lost (c .before .before .before .integer-behind .ensures) (c .number-lost .ensures) (c .before .enum-told4 .given .1)))))))
-
-tag-behind-requires-2 : tie.Need-tag-behind-requires-2
-tag-behind-requires-2 c κs = let t = integer-behind-took (c .before .before .before .integer-behind .ensures) (c .before .number .given .1) in omega (arith, t .up, t .inside, c .before .before .before .integer-behind .ensures .at .from, c .before .before .before .before .before .before .before .before .before .before .before .before .before .before .before .before .before .before .pre)
-
-enum-known-semicolon : tie.Need-enum-known-semicolon
-enum-known-semicolon c = c .match5 .keys1
-
-enum-told-5 : tie.Need-enum-told-5
-enum-told-5 c = c .match5 .keys2
-
-step-lost-requires-2 : tie.Need-step-lost-requires-2
-step-lost-requires-2 c κs = tt
+returns-4 c = read-not _ refl tt (begin (parse-command-after-doc-maturity (docOf (c .before .before .before .before .before .before .before .before .before .before .before .before .before .before .before .before .before .before .args .doc)) (c .before .before .before .before .before .before .before .before .before .before .before .before .before .before .before .before .before .before .args .maturity)) _ _ (go _ (read-took (c .before .before .before .before .before .before .before .before .before .before .before .before .before .before .before .before .command-head .ensures) (c .before .before .before .before .before .before .before .before .before .before .before .before .before .before .head .given .1) (walks (chain-inside command-head-inside)) (rest-self _ _) refl) (go _ (command-types-took (c .before .before .before .before .before .before .before .before .before .before .before .command-types .ensures) (c .before .before .before .before .before .before .before .before .before .types .given .1) (c .before .before .before .before .before .before .before .before .before .before .before .before .rest-at .ensures)) (four-go _ _ _ _ _ (number-at-took (c .before .before .before .before .before .before .before .code-behind .ensures) code-behind-on (c .before .before .before .before .before .number .given .1)) (pair-fall _ _ _ (c .step-lost .result) (c .before .before .before .tag-behind .ensures .at) (skips-lost (c .step-lost .ensures) (c .before .enum-told4 .given .1) (c .before .before .before .tag-behind .ensures)))))))
 
 returns-5 : tie.Need-returns-5
 unfolding parse-command-after-doc-maturity
-returns-5 c = read-not _ refl tt (begin (parse-command-after-doc-maturity (docOf (c .before .before .before .before .before .before .before .before .before .before .before .before .before .before .before .before .before .before .before .before .before .before .args .doc)) (c .before .before .before .before .before .before .before .before .before .before .before .before .before .before .before .before .before .before .before .before .before .before .args .maturity)) _ _ (go _ (read-took (c .before .before .before .before .before .before .before .before .before .before .before .before .before .before .before .before .before .before .before .before .command-head .ensures) (c .before .before .before .before .before .before .before .before .before .before .before .before .before .before .before .before .before .before .head .given .1) (walks (chain-inside command-head-inside)) (rest-self _ _) refl) (go _ (command-types-took (c .before .before .before .before .before .before .before .before .before .before .before .before .before .before .before .command-types .ensures) (c .before .before .before .before .before .before .before .before .before .before .before .before .before .types .given .1) (c .before .before .before .before .before .before .before .before .before .before .before .before .before .before .before .before .rest-at .ensures)) (pair-on _ _ _ (tag-behind-took 61 (c .before .before .before .before .before .before .before .before .before .equals .given .1) (c .before .before .before .before .before .before .before .before .before .before .before .tag-behind .ensures)) (pair-go _ _ _ (integer-behind-took (c .before .before .before .before .before .before .before .integer-behind .ensures) (c .before .before .before .before .before .number .given .1)) (pair-fall _ _ _ (c .step-lost2 .result) (c .before .before .before .tag-behind2 .ensures .at) (skips-lost (c .step-lost2 .ensures) (c .before .enum-told5 .given .1) (c .before .before .before .tag-behind2 .ensures))))))))
-
-returns-6 : tie.Need-returns-6
-unfolding parse-command-after-doc-maturity
-returns-6 c = command-is (c .before .before .before .before .before .before .before .before .before .before .before .before .before .before .before .before .before .before .before .before .before .before .args .doc) _ _ _ _ _ _ _ _ _ (command-head-within (c .before .before .before .before .before .before .before .before .before .before .before .before .before .before .before .before .before .before .before .before .command-head .ensures) (c .before .before .before .before .before .before .before .before .before .before .before .before .before .before .before .before .before .before .head .given .1)) (command-types-within (c .before .before .before .before .before .before .before .before .before .before .before .before .before .before .before .command-types .ensures) (c .before .before .before .before .before .before .before .before .before .before .before .before .before .types .given .1)) (omega (arith, (tag-behind-took 61 (c .before .before .before .before .before .before .before .before .before .equals .given .1) (c .before .before .before .before .before .before .before .before .before .before .before .tag-behind .ensures)) .up, (integer-behind-took (c .before .before .before .before .before .before .before .integer-behind .ensures) (c .before .before .before .before .before .number .given .1)) .up, (tag-behind-took 59 (c .before .semicolon .given .1) (c .before .before .before .tag-behind2 .ensures)) .up)) (begin (parse-command-after-doc-maturity (docOf (c .before .before .before .before .before .before .before .before .before .before .before .before .before .before .before .before .before .before .before .before .before .before .args .doc)) (c .before .before .before .before .before .before .before .before .before .before .before .before .before .before .before .before .before .before .before .before .before .before .args .maturity)) _ _ (go _ (read-took (c .before .before .before .before .before .before .before .before .before .before .before .before .before .before .before .before .before .before .before .before .command-head .ensures) (c .before .before .before .before .before .before .before .before .before .before .before .before .before .before .before .before .before .before .head .given .1) (walks (chain-inside command-head-inside)) (rest-self _ _) refl) (go _ (command-types-took (c .before .before .before .before .before .before .before .before .before .before .before .before .before .before .before .command-types .ensures) (c .before .before .before .before .before .before .before .before .before .before .before .before .before .types .given .1) (c .before .before .before .before .before .before .before .before .before .before .before .before .before .before .before .before .rest-at .ensures)) (pair-on _ _ _ (tag-behind-took 61 (c .before .before .before .before .before .before .before .before .before .equals .given .1) (c .before .before .before .before .before .before .before .before .before .before .before .tag-behind .ensures)) (pair-go _ _ _ (integer-behind-took (c .before .before .before .before .before .before .before .integer-behind .ensures) (c .before .before .before .before .before .number .given .1)) (pair-on _ _ _ (tag-behind-took 59 (c .before .semicolon .given .1) (c .before .before .before .tag-behind2 .ensures)) (done _ _ _ _)))))))
+returns-5 c = command-is (c .before .before .before .before .before .before .before .before .before .before .before .before .before .before .before .before .before .before .args .doc) _ _ _ _ _ _ _ _ _ (command-head-within (c .before .before .before .before .before .before .before .before .before .before .before .before .before .before .before .before .command-head .ensures) (c .before .before .before .before .before .before .before .before .before .before .before .before .before .before .head .given .1)) (command-types-within (c .before .before .before .before .before .before .before .before .before .before .before .command-types .ensures) (c .before .before .before .before .before .before .before .before .before .types .given .1)) (omega (arith, (number-at-took (c .before .before .before .before .before .before .before .code-behind .ensures) code-behind-on (c .before .before .before .before .before .number .given .1)) .up, (tag-behind-took 59 (c .before .semicolon .given .1) (c .before .before .before .tag-behind .ensures)) .up)) (begin (parse-command-after-doc-maturity (docOf (c .before .before .before .before .before .before .before .before .before .before .before .before .before .before .before .before .before .before .args .doc)) (c .before .before .before .before .before .before .before .before .before .before .before .before .before .before .before .before .before .before .args .maturity)) _ _ (go _ (read-took (c .before .before .before .before .before .before .before .before .before .before .before .before .before .before .before .before .command-head .ensures) (c .before .before .before .before .before .before .before .before .before .before .before .before .before .before .head .given .1) (walks (chain-inside command-head-inside)) (rest-self _ _) refl) (go _ (command-types-took (c .before .before .before .before .before .before .before .before .before .before .before .command-types .ensures) (c .before .before .before .before .before .before .before .before .before .types .given .1) (c .before .before .before .before .before .before .before .before .before .before .before .before .rest-at .ensures)) (four-go _ _ _ _ _ (number-at-took (c .before .before .before .before .before .before .before .code-behind .ensures) code-behind-on (c .before .before .before .before .before .number .given .1)) (pair-on _ _ _ (tag-behind-took 59 (c .before .semicolon .given .1) (c .before .before .before .tag-behind .ensures)) (done _ _ _ _))))))
 
 pub parse-command-after-doc-maturity-spec : {M : Type 1} → statement M
-parse-command-after-doc-maturity-spec = tie.close (tie.spec command-head-requires enum-known-head enum-told command-head-lost-requires returns rest-at-requires command-types-requires enum-known-types enum-told-2 command-types-lost-requires returns-2 tag-behind-requires enum-known-equals enum-told-3 step-lost-requires returns-3 integer-behind-requires enum-known-number enum-told-4 number-lost-requires returns-4 tag-behind-requires-2 enum-known-semicolon enum-told-5 step-lost-requires-2 returns-5 returns-6)
+parse-command-after-doc-maturity-spec =
+    tie.close
+    (tie.spec
+    command-head-requires
+    enum-known-head
+    enum-told
+    command-head-lost-requires
+    returns
+    rest-at-requires
+    command-types-requires
+    enum-known-types
+    enum-told-2
+    command-types-lost-requires
+    returns-2
+    code-behind-requires
+    enum-known-number
+    enum-told-3
+    number-lost-requires
+    returns-3
+    tag-behind-requires
+    enum-known-semicolon
+    enum-told-4
+    step-lost-requires
+    returns-4
+    returns-5)

@@ -4,10 +4,11 @@ use Rattle.items.specs.structs.{parse-field}
 use mathlib.Core.Path.{refl}
 use native.Mathlib.Omega.{arith}
 use Rattle.lexing.specs.answers.{wordAt}
-use Rattle.lexing.proofs.Slicing.{begin, go, on, lose, fall, done, word-took, tag-took, step-lost}
+use Rattle.lexing.proofs.Slicing.{begin, go, on, lose, fall, done, word-took, step-lost}
 use Rattle.items.proofs.Answers.{read-not}
-use Rattle.items.proofs.Pairs.{pair-go, pair-lose}
-use Rattle.items.proofs.steps.Laws.{blank-at-took, gap-at-took, integer-behind-took, skips-lost, integer-behind-lost}
+use Rattle.items.proofs.Pairs.{three-go, three-lose}
+use Rattle.items.proofs.steps.Laws.{blank-at-took, gap-at-took, skips-lost}
+use Rattle.items.proofs.names.Laws.{equals-code-on, number-at-took, number-at-lost}
 use Rattle.items.proofs.structs.Laws.{length-took, length-none, marker-took, field-is}
 
 blank-at-requires : tie.Need-blank-at-requires
@@ -98,44 +99,61 @@ rest-at-requires-4 c κs = let t = blank-at-took (c .blank-at2 .ensures) in omeg
 list-marker-requires : tie.Need-list-marker-requires
 list-marker-requires c κs = omega (arith, c .rest-at4 .ensures .size, c .before .before .before .before .before .before .before .before .before .before .before .before .before .before .before .before .before .before .before .before .before .before .before .before .pre)
 
-rest-at-requires-5 : tie.Need-rest-at-requires-5
-rest-at-requires-5 c κs = let t = marker-took (c .before .rest-at4 .ensures) (c .list-marker .ensures) in omega (arith, t .up, t .inside, c .before .rest-at4 .ensures .from)
+code-at-requires : tie.Need-code-at-requires
+code-at-requires c κs = let t = marker-took (c .before .rest-at4 .ensures) (c .list-marker .ensures) in omega (arith, t .up, t .inside, c .before .rest-at4 .ensures .from, c .before .before .before .before .before .before .before .before .before .before .before .before .before .before .before .before .before .before .before .before .before .before .before .before .before .pre)
 
-tag-requires : tie.Need-tag-requires
-tag-requires c κs = omega (arith, c .rest-at5 .ensures .size, c .before .before .before .before .before .before .before .before .before .before .before .before .before .before .before .before .before .before .before .before .before .before .before .before .before .before .pre)
-
-enum-known-equals : tie.Need-enum-known-equals
-enum-known-equals c = c .match5 .keys1
+enum-known-number : tie.Need-enum-known-number
+enum-known-number c = c .match5 .keys1
 
 enum-told-5 : tie.Need-enum-told-5
 enum-told-5 c = c .match5 .keys2
 
-step-lost-requires-4 : tie.Need-step-lost-requires-4
-step-lost-requires-4 c κs = tt
-
-returns-5 : tie.Need-returns-5
-unfolding parse-field
-returns-5 c = read-not _ refl tt (begin (parse-field) _ _ (on _ (blank-at-took (c .before .before .before .before .before .before .before .before .before .before .before .before .before .before .before .before .before .before .before .before .before .before .before .before .before .before .before .before .blank-at .ensures)) (go _ (word-took (c .before .before .before .before .before .before .before .before .before .before .before .before .before .before .before .before .before .before .before .before .before .before .before .before .before .before .before .rest-at .ensures) (c .before .before .before .before .before .before .before .before .before .before .before .before .before .before .before .before .before .before .before .before .before .before .before .before .data-type .given .1) (c .before .before .before .before .before .before .before .before .before .before .before .before .before .before .before .before .before .before .before .before .before .before .before .before .before .before .parse-id .ensures)) (go _ (length-took _ _ (c .before .before .before .before .before .before .before .before .before .before .before .before .before .before .before .before .before .before .before .before .before .max-length .result) (c .before .before .before .before .before .before .before .before .before .before .before .before .before .before .before .before .before .before .before .before .before .max-length .ensures) (c .before .before .before .before .before .before .before .before .before .before .before .before .before .before .before .before .before .before .before .before .optional-length .ensures) (c .before .before .before .before .before .before .before .before .before .before .before .before .before .before .before .before .before .before .before .before .before .before .rest-at2 .ensures) (c .before .before .before .before .before .before .before .before .before .before .before .before .before .before .before .before .before .before .length .given .1)) (on _ (gap-at-took (c .before .before .before .before .before .before .before .before .before .before .before .before .before .before .gap .given .1) (c .before .before .before .before .before .before .before .before .before .before .before .before .before .before .before .before .gap-at .ensures)) (go _ (word-took (c .before .before .before .before .before .before .before .before .before .before .before .before .rest-at3 .ensures) (c .before .before .before .before .before .before .before .before .before .name .given .1) (c .before .before .before .before .before .before .before .before .before .before .before .parse-id2 .ensures)) (on _ (blank-at-took (c .before .before .before .before .before .before .before .blank-at2 .ensures)) (go _ (marker-took (c .before .before .before .before .before .before .rest-at4 .ensures) (c .before .before .before .before .before .list-marker .ensures)) (fall _ _ (c .step-lost4 .result) (c .before .before .before .before .rest-at5 .ensures) (step-lost (λ c. tt) (c .step-lost4 .ensures) (c .before .enum-told5 .given .1) _ _ _ (c .before .before .before .tag .ensures)))))))))))
-
-integer-behind-requires : tie.Need-integer-behind-requires
-integer-behind-requires c κs = let t = tag-took (c .before .before .before .before .rest-at5 .ensures) (c .before .equals .given .1) 61 (c .before .before .before .tag .ensures) in omega (arith, t .up, t .inside, c .before .before .before .before .rest-at5 .ensures .from, c .before .before .before .before .before .before .before .before .before .before .before .before .before .before .before .before .before .before .before .before .before .before .before .before .before .before .before .before .before .before .pre)
-
-enum-known-number : tie.Need-enum-known-number
-enum-known-number c = c .match6 .keys1
-
-enum-told-6 : tie.Need-enum-told-6
-enum-told-6 c = c .match6 .keys2
-
 number-lost-requires : tie.Need-number-lost-requires
 number-lost-requires c κs = tt
 
+returns-5 : tie.Need-returns-5
+unfolding parse-field
+returns-5 c = read-not _ refl tt (begin (parse-field) _ _ (on _ (blank-at-took (c .before .before .before .before .before .before .before .before .before .before .before .before .before .before .before .before .before .before .before .before .before .before .before .before .before .before .before .blank-at .ensures)) (go _ (word-took (c .before .before .before .before .before .before .before .before .before .before .before .before .before .before .before .before .before .before .before .before .before .before .before .before .before .before .rest-at .ensures) (c .before .before .before .before .before .before .before .before .before .before .before .before .before .before .before .before .before .before .before .before .before .before .before .data-type .given .1) (c .before .before .before .before .before .before .before .before .before .before .before .before .before .before .before .before .before .before .before .before .before .before .before .before .before .parse-id .ensures)) (go _ (length-took _ _ (c .before .before .before .before .before .before .before .before .before .before .before .before .before .before .before .before .before .before .before .before .max-length .result) (c .before .before .before .before .before .before .before .before .before .before .before .before .before .before .before .before .before .before .before .before .max-length .ensures) (c .before .before .before .before .before .before .before .before .before .before .before .before .before .before .before .before .before .before .before .optional-length .ensures) (c .before .before .before .before .before .before .before .before .before .before .before .before .before .before .before .before .before .before .before .before .before .rest-at2 .ensures) (c .before .before .before .before .before .before .before .before .before .before .before .before .before .before .before .before .before .length .given .1)) (on _ (gap-at-took (c .before .before .before .before .before .before .before .before .before .before .before .before .before .gap .given .1) (c .before .before .before .before .before .before .before .before .before .before .before .before .before .before .before .gap-at .ensures)) (go _ (word-took (c .before .before .before .before .before .before .before .before .before .before .before .rest-at3 .ensures) (c .before .before .before .before .before .before .before .before .name .given .1) (c .before .before .before .before .before .before .before .before .before .before .parse-id2 .ensures)) (on _ (blank-at-took (c .before .before .before .before .before .before .blank-at2 .ensures)) (go _ (marker-took (c .before .before .before .before .before .rest-at4 .ensures) (c .before .before .before .before .list-marker .ensures)) (three-lose _ _ _ _ (c .number-lost .result) (c .before .before .before .code-at .ensures .at) (number-at-lost (c .before .before .before .code-at .ensures) (c .number-lost .ensures) (c .before .enum-told5 .given .1)))))))))))
+
 returns-6 : tie.Need-returns-6
 unfolding parse-field
-returns-6 c = read-not _ refl tt (begin (parse-field) _ _ (on _ (blank-at-took (c .before .before .before .before .before .before .before .before .before .before .before .before .before .before .before .before .before .before .before .before .before .before .before .before .before .before .before .before .before .before .before .before .blank-at .ensures)) (go _ (word-took (c .before .before .before .before .before .before .before .before .before .before .before .before .before .before .before .before .before .before .before .before .before .before .before .before .before .before .before .before .before .before .before .rest-at .ensures) (c .before .before .before .before .before .before .before .before .before .before .before .before .before .before .before .before .before .before .before .before .before .before .before .before .before .before .before .before .data-type .given .1) (c .before .before .before .before .before .before .before .before .before .before .before .before .before .before .before .before .before .before .before .before .before .before .before .before .before .before .before .before .before .before .parse-id .ensures)) (go _ (length-took _ _ (c .before .before .before .before .before .before .before .before .before .before .before .before .before .before .before .before .before .before .before .before .before .before .before .before .before .max-length .result) (c .before .before .before .before .before .before .before .before .before .before .before .before .before .before .before .before .before .before .before .before .before .before .before .before .before .max-length .ensures) (c .before .before .before .before .before .before .before .before .before .before .before .before .before .before .before .before .before .before .before .before .before .before .before .before .optional-length .ensures) (c .before .before .before .before .before .before .before .before .before .before .before .before .before .before .before .before .before .before .before .before .before .before .before .before .before .before .rest-at2 .ensures) (c .before .before .before .before .before .before .before .before .before .before .before .before .before .before .before .before .before .before .before .before .before .before .length .given .1)) (on _ (gap-at-took (c .before .before .before .before .before .before .before .before .before .before .before .before .before .before .before .before .before .before .gap .given .1) (c .before .before .before .before .before .before .before .before .before .before .before .before .before .before .before .before .before .before .before .before .gap-at .ensures)) (go _ (word-took (c .before .before .before .before .before .before .before .before .before .before .before .before .before .before .before .before .rest-at3 .ensures) (c .before .before .before .before .before .before .before .before .before .before .before .before .before .name .given .1) (c .before .before .before .before .before .before .before .before .before .before .before .before .before .before .before .parse-id2 .ensures)) (on _ (blank-at-took (c .before .before .before .before .before .before .before .before .before .before .before .blank-at2 .ensures)) (go _ (marker-took (c .before .before .before .before .before .before .before .before .before .before .rest-at4 .ensures) (c .before .before .before .before .before .before .before .before .before .list-marker .ensures)) (on _ (tag-took (c .before .before .before .before .before .before .before .before .rest-at5 .ensures) (c .before .before .before .before .before .equals .given .1) 61 (c .before .before .before .before .before .before .before .tag .ensures)) (pair-lose _ _ _ (c .number-lost .result) (c .before .before .before .integer-behind .ensures .at) (integer-behind-lost (c .before .before .before .integer-behind .ensures) (c .number-lost .ensures) (c .before .enum-told6 .given .1))))))))))))
-
-returns-7 : tie.Need-returns-7
-unfolding parse-field
-returns-7 c = field-is _ _ _ _ (begin (parse-field) _ _ (on _ (blank-at-took (c .before .before .before .before .before .before .before .before .before .before .before .before .before .before .before .before .before .before .before .before .before .before .before .before .before .before .before .before .before .before .before .before .blank-at .ensures)) (go _ (word-took (c .before .before .before .before .before .before .before .before .before .before .before .before .before .before .before .before .before .before .before .before .before .before .before .before .before .before .before .before .before .before .before .rest-at .ensures) (c .before .before .before .before .before .before .before .before .before .before .before .before .before .before .before .before .before .before .before .before .before .before .before .before .before .before .before .before .data-type .given .1) (c .before .before .before .before .before .before .before .before .before .before .before .before .before .before .before .before .before .before .before .before .before .before .before .before .before .before .before .before .before .before .parse-id .ensures)) (go _ (length-took _ _ (c .before .before .before .before .before .before .before .before .before .before .before .before .before .before .before .before .before .before .before .before .before .before .before .before .before .max-length .result) (c .before .before .before .before .before .before .before .before .before .before .before .before .before .before .before .before .before .before .before .before .before .before .before .before .before .max-length .ensures) (c .before .before .before .before .before .before .before .before .before .before .before .before .before .before .before .before .before .before .before .before .before .before .before .before .optional-length .ensures) (c .before .before .before .before .before .before .before .before .before .before .before .before .before .before .before .before .before .before .before .before .before .before .before .before .before .before .rest-at2 .ensures) (c .before .before .before .before .before .before .before .before .before .before .before .before .before .before .before .before .before .before .before .before .before .before .length .given .1)) (on _ (gap-at-took (c .before .before .before .before .before .before .before .before .before .before .before .before .before .before .before .before .before .before .gap .given .1) (c .before .before .before .before .before .before .before .before .before .before .before .before .before .before .before .before .before .before .before .before .gap-at .ensures)) (go _ (word-took (c .before .before .before .before .before .before .before .before .before .before .before .before .before .before .before .before .rest-at3 .ensures) (c .before .before .before .before .before .before .before .before .before .before .before .before .before .name .given .1) (c .before .before .before .before .before .before .before .before .before .before .before .before .before .before .before .parse-id2 .ensures)) (on _ (blank-at-took (c .before .before .before .before .before .before .before .before .before .before .before .blank-at2 .ensures)) (go _ (marker-took (c .before .before .before .before .before .before .before .before .before .before .rest-at4 .ensures) (c .before .before .before .before .before .before .before .before .before .list-marker .ensures)) (on _ (tag-took (c .before .before .before .before .before .before .before .before .rest-at5 .ensures) (c .before .before .before .before .before .equals .given .1) 61 (c .before .before .before .before .before .before .before .tag .ensures)) (pair-go _ _ _ (integer-behind-took (c .before .before .before .integer-behind .ensures) (c .before .number .given .1)) (done _ _ _ _))))))))))) (record { type-from = (blank-at-took (c .before .before .before .before .before .before .before .before .before .before .before .before .before .before .before .before .before .before .before .before .before .before .before .before .before .before .before .before .before .before .before .before .blank-at .ensures)) .up; type-to = (word-took (c .before .before .before .before .before .before .before .before .before .before .before .before .before .before .before .before .before .before .before .before .before .before .before .before .before .before .before .before .before .before .before .rest-at .ensures) (c .before .before .before .before .before .before .before .before .before .before .before .before .before .before .before .before .before .before .before .before .before .before .before .before .before .before .before .before .data-type .given .1) (c .before .before .before .before .before .before .before .before .before .before .before .before .before .before .before .before .before .before .before .before .before .before .before .before .before .before .before .before .before .before .parse-id .ensures)) .up; name-from = omega (arith, (length-took _ _ (c .before .before .before .before .before .before .before .before .before .before .before .before .before .before .before .before .before .before .before .before .before .before .before .before .before .max-length .result) (c .before .before .before .before .before .before .before .before .before .before .before .before .before .before .before .before .before .before .before .before .before .before .before .before .before .max-length .ensures) (c .before .before .before .before .before .before .before .before .before .before .before .before .before .before .before .before .before .before .before .before .before .before .before .before .optional-length .ensures) (c .before .before .before .before .before .before .before .before .before .before .before .before .before .before .before .before .before .before .before .before .before .before .before .before .before .before .rest-at2 .ensures) (c .before .before .before .before .before .before .before .before .before .before .before .before .before .before .before .before .before .before .before .before .before .before .length .given .1)) .up, (gap-at-took (c .before .before .before .before .before .before .before .before .before .before .before .before .before .before .before .before .before .before .gap .given .1) (c .before .before .before .before .before .before .before .before .before .before .before .before .before .before .before .before .before .before .before .before .gap-at .ensures)) .up); name-to = (word-took (c .before .before .before .before .before .before .before .before .before .before .before .before .before .before .before .before .rest-at3 .ensures) (c .before .before .before .before .before .before .before .before .before .before .before .before .before .name .given .1) (c .before .before .before .before .before .before .before .before .before .before .before .before .before .before .before .parse-id2 .ensures)) .up; before = omega (arith, (blank-at-took (c .before .before .before .before .before .before .before .before .before .before .before .blank-at2 .ensures)) .up, (marker-took (c .before .before .before .before .before .before .before .before .before .before .rest-at4 .ensures) (c .before .before .before .before .before .before .before .before .before .list-marker .ensures)) .up, (tag-took (c .before .before .before .before .before .before .before .before .rest-at5 .ensures) (c .before .before .before .before .before .equals .given .1) 61 (c .before .before .before .before .before .before .before .tag .ensures)) .up, (integer-behind-took (c .before .before .before .integer-behind .ensures) (c .before .number .given .1)) .up) })
+returns-6 c = field-is _ _ _ _ (begin (parse-field) _ _ (on _ (blank-at-took (c .before .before .before .before .before .before .before .before .before .before .before .before .before .before .before .before .before .before .before .before .before .before .before .before .before .before .before .blank-at .ensures)) (go _ (word-took (c .before .before .before .before .before .before .before .before .before .before .before .before .before .before .before .before .before .before .before .before .before .before .before .before .before .before .rest-at .ensures) (c .before .before .before .before .before .before .before .before .before .before .before .before .before .before .before .before .before .before .before .before .before .before .before .data-type .given .1) (c .before .before .before .before .before .before .before .before .before .before .before .before .before .before .before .before .before .before .before .before .before .before .before .before .before .parse-id .ensures)) (go _ (length-took _ _ (c .before .before .before .before .before .before .before .before .before .before .before .before .before .before .before .before .before .before .before .before .max-length .result) (c .before .before .before .before .before .before .before .before .before .before .before .before .before .before .before .before .before .before .before .before .max-length .ensures) (c .before .before .before .before .before .before .before .before .before .before .before .before .before .before .before .before .before .before .before .optional-length .ensures) (c .before .before .before .before .before .before .before .before .before .before .before .before .before .before .before .before .before .before .before .before .before .rest-at2 .ensures) (c .before .before .before .before .before .before .before .before .before .before .before .before .before .before .before .before .before .length .given .1)) (on _ (gap-at-took (c .before .before .before .before .before .before .before .before .before .before .before .before .before .gap .given .1) (c .before .before .before .before .before .before .before .before .before .before .before .before .before .before .before .gap-at .ensures)) (go _ (word-took (c .before .before .before .before .before .before .before .before .before .before .before .rest-at3 .ensures) (c .before .before .before .before .before .before .before .before .name .given .1) (c .before .before .before .before .before .before .before .before .before .before .parse-id2 .ensures)) (on _ (blank-at-took (c .before .before .before .before .before .before .blank-at2 .ensures)) (go _ (marker-took (c .before .before .before .before .before .rest-at4 .ensures) (c .before .before .before .before .list-marker .ensures)) (three-go _ _ _ _ (number-at-took (c .before .before .before .code-at .ensures) equals-code-on (c .before .number .given .1)) (done _ _ _ _)))))))))) (record { type-from = (blank-at-took (c .before .before .before .before .before .before .before .before .before .before .before .before .before .before .before .before .before .before .before .before .before .before .before .before .before .before .before .blank-at .ensures)) .up; type-to = (word-took (c .before .before .before .before .before .before .before .before .before .before .before .before .before .before .before .before .before .before .before .before .before .before .before .before .before .before .rest-at .ensures) (c .before .before .before .before .before .before .before .before .before .before .before .before .before .before .before .before .before .before .before .before .before .before .before .data-type .given .1) (c .before .before .before .before .before .before .before .before .before .before .before .before .before .before .before .before .before .before .before .before .before .before .before .before .before .parse-id .ensures)) .up; name-from = omega (arith, (length-took _ _ (c .before .before .before .before .before .before .before .before .before .before .before .before .before .before .before .before .before .before .before .before .max-length .result) (c .before .before .before .before .before .before .before .before .before .before .before .before .before .before .before .before .before .before .before .before .max-length .ensures) (c .before .before .before .before .before .before .before .before .before .before .before .before .before .before .before .before .before .before .before .optional-length .ensures) (c .before .before .before .before .before .before .before .before .before .before .before .before .before .before .before .before .before .before .before .before .before .rest-at2 .ensures) (c .before .before .before .before .before .before .before .before .before .before .before .before .before .before .before .before .before .length .given .1)) .up, (gap-at-took (c .before .before .before .before .before .before .before .before .before .before .before .before .before .gap .given .1) (c .before .before .before .before .before .before .before .before .before .before .before .before .before .before .before .gap-at .ensures)) .up); name-to = (word-took (c .before .before .before .before .before .before .before .before .before .before .before .rest-at3 .ensures) (c .before .before .before .before .before .before .before .before .name .given .1) (c .before .before .before .before .before .before .before .before .before .before .parse-id2 .ensures)) .up; before = omega (arith, (blank-at-took (c .before .before .before .before .before .before .blank-at2 .ensures)) .up, (marker-took (c .before .before .before .before .before .rest-at4 .ensures) (c .before .before .before .before .list-marker .ensures)) .up, (number-at-took (c .before .before .before .code-at .ensures) equals-code-on (c .before .number .given .1)) .up) })
 
 pub parse-field-spec : {M : Type 1} → statement M
-parse-field-spec = tie.close (tie.spec blank-at-requires rest-at-requires parse-id-requires enum-known-data-type enum-told step-lost-requires returns rest-at-requires-2 max-length-requires optional-length-requires enum-known-length enum-told-2 length-lost-requires returns-2 gap-at-requires enum-known-gap enum-told-3 step-lost-requires-2 returns-3 rest-at-requires-3 parse-id-requires-2 enum-known-name enum-told-4 step-lost-requires-3 returns-4 blank-at-requires-2 rest-at-requires-4 list-marker-requires rest-at-requires-5 tag-requires enum-known-equals enum-told-5 step-lost-requires-4 returns-5 integer-behind-requires enum-known-number enum-told-6 number-lost-requires returns-6 returns-7)
+parse-field-spec =
+    tie.close
+    (tie.spec
+    blank-at-requires
+    rest-at-requires
+    parse-id-requires
+    enum-known-data-type
+    enum-told
+    step-lost-requires
+    returns
+    rest-at-requires-2
+    max-length-requires
+    optional-length-requires
+    enum-known-length
+    enum-told-2
+    length-lost-requires
+    returns-2
+    gap-at-requires
+    enum-known-gap
+    enum-told-3
+    step-lost-requires-2
+    returns-3
+    rest-at-requires-3
+    parse-id-requires-2
+    enum-known-name
+    enum-told-4
+    step-lost-requires-3
+    returns-4
+    blank-at-requires-2
+    rest-at-requires-4
+    list-marker-requires
+    code-at-requires
+    enum-known-number
+    enum-told-5
+    number-lost-requires
+    returns-5
+    returns-6)

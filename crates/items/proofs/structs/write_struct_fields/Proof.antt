@@ -1,9 +1,11 @@
 use borrow.Author.Needs.{needs}
 use Rattle.items.proofs.structs.write_struct_fields.Statement.{statement}
 use Rattle.items.proofs.structs.write_struct_fields.Tie as tie
-use mathlib.Core.Path.{refl}
+use mathlib.Core.Path.{refl, sym, ap}
 use native.Mathlib.Omega.{arith}
-use Rattle.lexing.proofs.Slicing.{rest-self, blank-took, tag-took, told-not}
+use Rattle.lexing.specs.answers.{lostOf}
+use Rattle.lexing.proofs.Slicing.{rest-self, tag-took, told-not}
+use Rattle.items.proofs.steps.Laws.{tag-behind-took, skips-lost}
 use Rattle.items.specs.structs.{fields-run, struct-fields}
 use Rattle.items.proofs.Braces.{braces-open, braces-room, braces-close, braces-written}
 use Rattle.items.proofs.writing.Laws.{written-took, written-same}
@@ -29,17 +31,8 @@ write-fields-requires : tie.Need-write-fields-requires
 unfolding struct-fields
 write-fields-requires c κs = (omega (arith, c .before .rest-at .ensures .size, c .before .before .before .before .before .before .before .before .pre .0), braces-room fields-run (c .before .before .before .before .before .before .before .before .pre .1) fields-run-on (tag-took (rest-self _ _) (c .before .before .before .brace .given .1) 123 (c .before .before .before .before .before .tag .ensures)) (c .before .rest-at .ensures))
 
-rest-at-requires-2 : tie.Need-rest-at-requires-2
-rest-at-requires-2 c κs = omega (arith, (written-took fields-run-on (c .before .before .before .before .rest-at .ensures) (c .before .before .write-fields .ensures)) .up, (written-took fields-run-on (c .before .before .before .before .rest-at .ensures) (c .before .before .write-fields .ensures)) .inside, c .before .before .before .before .rest-at .ensures .from)
-
-whitespace0-requires : tie.Need-whitespace0-requires
-whitespace0-requires c κs = omega (arith, c .rest-at2 .ensures .size, c .before .before .before .before .before .before .before .before .before .before .before .before .pre .0)
-
-rest-at-requires-3 : tie.Need-rest-at-requires-3
-rest-at-requires-3 c κs = omega (arith, (blank-took (c .before .rest-at2 .ensures) (c .whitespace0 .ensures)) .up, (blank-took (c .before .rest-at2 .ensures) (c .whitespace0 .ensures)) .inside, c .before .rest-at2 .ensures .from)
-
-tag-requires-2 : tie.Need-tag-requires-2
-tag-requires-2 c κs = omega (arith, c .rest-at3 .ensures .size, c .before .before .before .before .before .before .before .before .before .before .before .before .before .before .pre .0)
+tag-behind-requires : tie.Need-tag-behind-requires
+tag-behind-requires c κs = omega (arith, (written-took fields-run-on (c .before .before .before .before .rest-at .ensures) (c .before .before .write-fields .ensures)) .up, (written-took fields-run-on (c .before .before .before .before .rest-at .ensures) (c .before .before .write-fields .ensures)) .inside, c .before .before .before .before .rest-at .ensures .from, c .before .before .before .before .before .before .before .before .before .before .before .pre .0)
 
 enum-known-close : tie.Need-enum-known-close
 enum-known-close c = c .match2 .keys1
@@ -49,19 +42,19 @@ enum-told-2 c = c .match2 .keys2
 
 same-length : tie.Need-same-length
 unfolding struct-fields
-same-length c = written-same (braces-room fields-run (c .before .before .before .before .before .before .before .before .before .before .before .before .before .before .before .before .before .pre .1) fields-run-on (tag-took (rest-self _ _) (c .before .before .before .before .before .before .before .before .before .before .before .before .brace .given .1) 123 (c .before .before .before .before .before .before .before .before .before .before .before .before .before .before .tag .ensures)) (c .before .before .before .before .before .before .before .before .before .before .rest-at .ensures)) (c .before .before .before .before .before .before .before .before .write-fields .ensures) refl
+same-length c = written-same (braces-room fields-run (c .before .before .before .before .before .before .before .before .before .before .before .before .before .before .pre .1) fields-run-on (tag-took (rest-self _ _) (c .before .before .before .before .before .before .before .before .before .brace .given .1) 123 (c .before .before .before .before .before .before .before .before .before .before .before .tag .ensures)) (c .before .before .before .before .before .before .before .rest-at .ensures)) (c .before .before .before .before .before .write-fields .ensures) refl
 
 returns-2 : tie.Need-returns-2
 unfolding struct-fields
-returns-2 c = absurd (braces-close fields-run (c .before .before .before .before .before .before .before .before .before .before .before .before .before .before .before .before .before .pre .1) fields-run-on (tag-took (rest-self _ _) (c .before .before .before .before .before .before .before .before .before .before .before .before .brace .given .1) 123 (c .before .before .before .before .before .before .before .before .before .before .before .before .before .before .tag .ensures)) (c .before .before .before .before .before .before .before .before .before .before .rest-at .ensures) (c .before .before .before .before .before .before .before .before .write-fields .ensures) (blank-took (c .before .before .before .before .before .rest-at2 .ensures) (c .before .before .before .before .whitespace0 .ensures)) (c .enum-told2 .given .0 .0) (c .before .before .before .rest-at3 .ensures) (told-not (λ c. tt) _ _ _ _ _ (c .enum-told2 .given .1) (c .before .before .tag2 .ensures)))
+returns-2 c = absurd (braces-close fields-run (c .before .before .before .before .before .before .before .before .before .before .before .before .before .before .pre .1) fields-run-on (tag-took (rest-self _ _) (c .before .before .before .before .before .before .before .before .before .brace .given .1) 123 (c .before .before .before .before .before .before .before .before .before .before .before .tag .ensures)) (c .before .before .before .before .before .before .before .rest-at .ensures) (c .before .before .before .before .before .write-fields .ensures) (c .enum-told2 .given .0 .0) (skips-lost (sym (ap lostOf (c .enum-told2 .given .1))) (c .enum-told2 .given .1) (c .before .before .tag-behind .ensures)))
 
 same-length-2 : tie.Need-same-length-2
 unfolding struct-fields
-same-length-2 c = written-same (braces-room fields-run (c .before .before .before .before .before .before .before .before .before .before .before .before .before .before .before .before .before .before .pre .1) fields-run-on (tag-took (rest-self _ _) (c .before .before .before .before .before .before .before .before .before .before .before .before .before .brace .given .1) 123 (c .before .before .before .before .before .before .before .before .before .before .before .before .before .before .before .tag .ensures)) (c .before .before .before .before .before .before .before .before .before .before .before .rest-at .ensures)) (c .before .before .before .before .before .before .before .before .before .write-fields .ensures) refl
+same-length-2 c = written-same (braces-room fields-run (c .before .before .before .before .before .before .before .before .before .before .before .before .before .before .before .pre .1) fields-run-on (tag-took (rest-self _ _) (c .before .before .before .before .before .before .before .before .before .before .brace .given .1) 123 (c .before .before .before .before .before .before .before .before .before .before .before .before .tag .ensures)) (c .before .before .before .before .before .before .before .before .rest-at .ensures)) (c .before .before .before .before .before .before .write-fields .ensures) refl
 
 returns-3 : tie.Need-returns-3
 unfolding struct-fields
-returns-3 c = braces-written fields-run (c .before .before .before .before .before .before .before .before .before .before .before .before .before .before .before .before .before .before .pre .1) fields-run-on (tag-took (rest-self _ _) (c .before .before .before .before .before .before .before .before .before .before .before .before .before .brace .given .1) 123 (c .before .before .before .before .before .before .before .before .before .before .before .before .before .before .before .tag .ensures)) (c .before .before .before .before .before .before .before .before .before .before .before .rest-at .ensures) (c .before .before .before .before .before .before .before .before .before .write-fields .ensures) (blank-took (c .before .before .before .before .before .before .rest-at2 .ensures) (c .before .before .before .before .before .whitespace0 .ensures)) (tag-took (c .before .before .before .before .rest-at3 .ensures) (c .before .close .given .1) 125 (c .before .before .before .tag2 .ensures))
+returns-3 c = braces-written fields-run (c .before .before .before .before .before .before .before .before .before .before .before .before .before .before .before .pre .1) fields-run-on (tag-took (rest-self _ _) (c .before .before .before .before .before .before .before .before .before .before .brace .given .1) 123 (c .before .before .before .before .before .before .before .before .before .before .before .before .tag .ensures)) (c .before .before .before .before .before .before .before .before .rest-at .ensures) (c .before .before .before .before .before .before .write-fields .ensures) (tag-behind-took 125 (c .before .close .given .1) (c .before .before .before .tag-behind .ensures))
 
 pub write-struct-fields-spec : {M : Type 1} → statement M
 write-struct-fields-spec =
@@ -73,10 +66,7 @@ write-struct-fields-spec =
     returns
     rest-at-requires
     write-fields-requires
-    rest-at-requires-2
-    whitespace0-requires
-    rest-at-requires-3
-    tag-requires-2
+    tag-behind-requires
     enum-known-close
     enum-told-2
     same-length

@@ -1,8 +1,8 @@
 use borrow.Author.Needs.{needs}
-use Rattle.items.proofs.endpoints.named_lost.Statement.{statement}
-use Rattle.items.proofs.endpoints.named_lost.Tie as tie
+use Rattle.items.proofs.names.named_lost.Statement.{statement}
+use Rattle.items.proofs.names.named_lost.Tie as tie
 use mathlib.Core.Path.{sym, ap}
-use Rattle.items.specs.answers.endpoints.{namedLost}
+use Rattle.items.specs.answers.names.{namedLost}
 
 enum-known-r : tie.Need-enum-known-r
 enum-known-r c = c .match .keys1

@@ -1,0 +1,2 @@
+-- Laws of what several heads have in them.
+pub mod Laws
