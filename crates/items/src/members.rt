@@ -32,6 +32,7 @@ use crate::writing::Wrote;
 use crate::writing::doc_bit;
 use crate::writing::flag;
 use crate::writing::put_documented;
+use crate::writing::put_three;
 use crate::writing::put_word;
 use crate::writing::span_word;
 use lexing::answers::Lost;
@@ -510,9 +511,9 @@ fn put_command(out: &mut [u8], at: usize, p: CommandParts)
         further: 0,
     };
     put_documented(out, at, first, doc);
-    put_word(out, at + 16, optional_span_word(p.input, p.input_end));
-    put_word(out, at + 24, span_word(p.output, p.output_end - p.output));
-    put_word(out, at + 32, p.code);
+    let input = optional_span_word(p.input, p.input_end);
+    let output = span_word(p.output, p.output_end - p.output);
+    put_three(out, at + 16, input, output, p.code);
 }
 
 // The first record of an event.

@@ -32,6 +32,7 @@ use crate::writing::doc_bit;
 use crate::writing::first_word;
 use crate::writing::flag;
 use crate::writing::put_documented;
+use crate::writing::put_four;
 use crate::writing::put_word;
 use crate::writing::span_word;
 use lexing::answers::Lost;
@@ -457,10 +458,9 @@ pub fn put_field(out: &mut [u8], at: usize, s: StructFieldParts)
         privilege: 0,
         further: 0,
     };
-    put_word(out, at, first_word(first));
-    put_word(out, at + 8, span_word(f.type_at, f.type_end - f.type_at));
-    put_word(out, at + 16, f.code);
-    put_word(out, at + 24, largest(f.has_maximum, f.maximum));
+    let typed = span_word(f.type_at, f.type_end - f.type_at);
+    let most = largest(f.has_maximum, f.maximum);
+    put_four(out, at, first_word(first), typed, f.code, most);
 }
 
 // The largest length, or zero where there is none.

@@ -97,8 +97,32 @@ pub fn put_documented(out: &mut [u8], at: usize, first: First, doc: DocSpan)
     requires { ⌜ DocFits doc ⌝ }
     ensures { λ _. ⌜ now (out .exit) ≡ put at (words-bytes (first-of first ∷ docWord doc ∷ [])) (now (out .entry)) ⌝ }
 {
-    put_word(out, at, first_word(first));
-    put_word(out, at + 8, doc_word(doc));
+    put_two(out, at, first_word(first), doc_word(doc));
+}
+
+// Words one behind the other.
+pub fn put_two(out: &mut [u8], at: usize, a: u64, b: u64)
+    requires { ⌜ at + 16 ≤ length (now out) ⌝ }
+    ensures { λ _. ⌜ now (out .exit) ≡ put at (words-bytes (a ∷ b ∷ [])) (now (out .entry)) ⌝ }
+{
+    put_word(out, at, a);
+    put_word(out, at + 8, b);
+}
+
+pub fn put_three(out: &mut [u8], at: usize, a: u64, b: u64, c: u64)
+    requires { ⌜ at + 24 ≤ length (now out) ⌝ }
+    ensures { λ _. ⌜ now (out .exit) ≡ put at (words-bytes (a ∷ b ∷ c ∷ [])) (now (out .entry)) ⌝ }
+{
+    put_two(out, at, a, b);
+    put_word(out, at + 16, c);
+}
+
+pub fn put_four(out: &mut [u8], at: usize, a: u64, b: u64, c: u64, d: u64)
+    requires { ⌜ at + 32 ≤ length (now out) ⌝ }
+    ensures { λ _. ⌜ now (out .exit) ≡ put at (words-bytes (a ∷ b ∷ c ∷ d ∷ [])) (now (out .entry)) ⌝ }
+{
+    put_two(out, at, a, b);
+    put_two(out, at + 16, c, d);
 }
 
 // A word as eight bytes, the most significant first.

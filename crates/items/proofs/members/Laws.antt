@@ -50,7 +50,7 @@ use Rattle.items.proofs.Answers.{read-within, read-took, read-lost, las
 use Rattle.items.proofs.Mapped.{mapped-ok, mapped-not}
 use Rattle.items.proofs.Onward.{onward-then}
 use Rattle.items.proofs.WordBetween.{word-moved, extent-between}
-use Rattle.items.proofs.writing.Laws.{put-next, documented-bytes, documented-put}
+use Rattle.items.proofs.writing.Laws.{put-further, documented-bytes, documented-put}
 use Rattle.items.proofs.structs.Laws.{present-is}
 use Rattle.items.proofs.optional.Laws.{opt-ok, opt-fail, opt-stop}
 use Rattle.items.proofs.Locality.{access-to-inside, command-types-inside, event-head-inside, parse-command-consumes}
@@ -292,13 +292,13 @@ unfolding layout-20 further-word packed offset size
 span-absent o e t = rw t refl
 
 -- the five words of a command's record
-pub command-put : (p : CommandParts) (q v j s t : ℕ) (l l₁ l₂ l₃ l₄ : List ℕ) → q + 40 ≤ length l → v ≡ docBit (p .doc) → j ≡ bit (ltb (p .input) (p .«input_end»))
+pub command-put : (p : CommandParts) (q v j s t : ℕ) (l l₁ l₂ : List ℕ) → q + 40 ≤ length l → v ≡ docBit (p .doc) → j ≡ bit (ltb (p .input) (p .«input_end»))
     → l₁ ≡ put q (words-bytes (first-of (record { kind = 8; place = 0; maturity = p .maturity; documented = v; flags = p .flags * 32 + j * 16; name = p .name; size = p .end - p .name; privilege = p .access; further = 0 }) ∷ docWord (p .doc) ∷ [])) l
-    → s ≡ further-word layout-20 (spanned (extentIf (ltb (p .input) (p .«input_end»)) (p .input) (p .«input_end» - p .input))) → l₂ ≡ put (q + 16) (big-endian 8 s) l₁
-    → t ≡ spanWord (p .output) (p .«output_end» - p .output) → l₃ ≡ put (q + 24) (big-endian 8 t) l₂ → l₄ ≡ put (q + 32) (big-endian 8 (p .code)) l₃
-    → l₄ ≡ put q (catalogue-bytes layout-20 (command-parts p ∷ [])) l
+    → s ≡ further-word layout-20 (spanned (extentIf (ltb (p .input) (p .«input_end»)) (p .input) (p .«input_end» - p .input)))
+    → t ≡ spanWord (p .output) (p .«output_end» - p .output) → l₂ ≡ put (q + 16) (words-bytes (s ∷ t ∷ p .code ∷ [])) l₁
+    → l₂ ≡ put q (catalogue-bytes layout-20 (command-parts p ∷ [])) l
 unfolding from-top packed width flag offset size layout-20 further-word
-command-put p q v j s t l l₁ l₂ l₃ l₄ r d ej e₁ f e₂ h e₃ e₄ =
+command-put p q v j s t l l₁ l₂ r d ej e₁ f h e₂ =
     let there : Bool = ltb (p .input) (p .«input_end») in
     let g : ℕ = p .flags * 32 + j * 16 in
     let y : g ≡ from-top 7 (bits 2 (p .flags) ∷ flag there ∷ []) = omega (arith, ej) in
@@ -307,7 +307,7 @@ command-put p q v j s t l l₁ l₂ l₃ l₄ r d ej e₁ f e₂ h e₃ e₄ =
     let w₃ : ℕ = spanWord (p .output) (p .«output_end» - p .output) in
     rw (documented-bytes 8 0 (p .maturity) (p .doc) (bits 2 (p .flags) ∷ flag there ∷ []) (at (p .name) (p .end - p .name)) (p .access) 0
     (spanned (extentIf there (p .input) (p .«input_end» - p .input)) ∷ spanned (at (p .output) (p .«output_end» - p .output)) ∷ value (p .code) ∷ []) g y)
-    (put-next q (q + 32) (w₁ ∷ docWord (p .doc) ∷ w₂ ∷ w₃ ∷ []) l l₃ l₄ (omega arith) (omega arith) (put-next q (q + 24) (w₁ ∷ docWord (p .doc) ∷ w₂ ∷ []) l l₂ l₃ (omega arith) (omega arith) (put-next q (q + 16) (w₁ ∷ docWord (p .doc) ∷ []) l l₁ l₂ (omega arith) (omega arith) (rw (← d) e₁) f e₂) h e₃) refl e₄)
+    (put-further q (q + 16) (w₁ ∷ docWord (p .doc) ∷ []) (w₂ ∷ w₃ ∷ p .code ∷ []) l l₁ l₂ (omega arith) (omega arith) (rw (← d) e₁) (rw (f, h) at e₂))
 
 -- the record of what was read
 extent-if : (t : Bool) (w : Word) {o n : ℕ} → word-extent w ≡ at o n → optional-extent (optionOf t w) ≡ extentIf t o n

@@ -55,7 +55,7 @@ use Rattle.items.proofs.RecordWords.{map-elementwise}
 use Rattle.items.proofs.Answers.{read-within, read-took, read-lost}
 use Rattle.items.proofs.Headed.{Headed}
 use Rattle.items.proofs.WordBetween.{word-moved, extent-between}
-use Rattle.items.proofs.writing.Laws.{put-two, put-next, plain-bytes, documented-put, Writing, writing-fits, writing-more, writing-ends}
+use Rattle.items.proofs.writing.Laws.{plain-bytes, documented-put, Writing, writing-fits, writing-more, writing-ends}
 use Rattle.items.proofs.counts.Laws.{Counting, counting-more}
 use Rattle.items.proofs.Choice.{or-lost}
 use Rattle.items.proofs.Tries.{shared-any}
@@ -331,20 +331,17 @@ struct-headed = record {
 -- The second pass.
 
 -- the four words of a field's record
-pub field-put : (s : StructFieldParts) (p i j t x w : ℕ) (l l₁ l₂ l₃ l₄ : List ℕ) → p + 32 ≤ length l → i ≡ bit (s .field .list) → j ≡ bit (s .field .«has_maximum»)
+pub field-put : (s : StructFieldParts) (p i j t x w : ℕ) (l l₁ : List ℕ) → i ≡ bit (s .field .list) → j ≡ bit (s .field .«has_maximum»)
     → w ≡ first-of (record { kind = 6; place = 0; maturity = s .maturity; documented = 0; flags = i * 64 + j * 32 + s .flags * 4; name = s .field .name; size = s .field .end - s .field .name; privilege = 0; further = 0 })
-    → l₁ ≡ put p (big-endian 8 w) l → t ≡ spanWord (s .field .«type_at») (s .field .«type_end» - s .field .«type_at») → l₂ ≡ put (p + 8) (big-endian 8 t) l₁
-    → l₃ ≡ put (p + 16) (big-endian 8 (s .field .code)) l₂ → x ≡ or-else 0 (optionOf (s .field .«has_maximum») (s .field .maximum)) → l₄ ≡ put (p + 24) (big-endian 8 x) l₃
-    → l₄ ≡ put p (catalogue-bytes layout-20 (field-parts s ∷ [])) l
+    → t ≡ spanWord (s .field .«type_at») (s .field .«type_end» - s .field .«type_at») → x ≡ or-else 0 (optionOf (s .field .«has_maximum») (s .field .maximum))
+    → l₁ ≡ put p (words-bytes (w ∷ t ∷ s .field .code ∷ x ∷ [])) l → l₁ ≡ put p (catalogue-bytes layout-20 (field-parts s ∷ [])) l
 unfolding from-top packed width flag offset size layout-20 further-word
-field-put s p i j t x w l l₁ l₂ l₃ l₄ r ei ej d e₁ f e₂ e₃ y e₄ =
+field-put s p i j t x w l l₁ ei ej d f y e =
     let g : ℕ = i * 64 + j * 32 + s .flags * 4 in
-    let f₁ : ℕ = first-of (record { kind = 6; place = 0; maturity = s .maturity; documented = 0; flags = g; name = s .field .name; size = s .field .end - s .field .name; privilege = 0; further = 0 }) in
-    let f₂ : ℕ = spanWord (s .field .«type_at») (s .field .«type_end» - s .field .«type_at») in
     let z : g ≡ from-top 7 (flag (s .field .list) ∷ flag (s .field .«has_maximum») ∷ bits 3 (s .flags) ∷ []) = omega (arith, ei, ej) in
     rw (plain-bytes 6 (s .maturity) (flag (s .field .list) ∷ flag (s .field .«has_maximum») ∷ bits 3 (s .flags) ∷ []) (at (s .field .name) (s .field .end - s .field .name))
     (spanned (at (s .field .«type_at») (s .field .«type_end» - s .field .«type_at»)) ∷ value (s .field .code) ∷ value (or-else 0 (optionOf (s .field .«has_maximum») (s .field .maximum))) ∷ []) g z)
-    (put-next p (p + 24) (f₁ ∷ f₂ ∷ s .field .code ∷ []) l l₃ l₄ (omega arith) (omega arith) (put-next p (p + 16) (f₁ ∷ f₂ ∷ []) l l₂ l₃ (omega arith) (omega arith) (put-two p l l₁ l₂ (omega arith) d e₁ f e₂) refl e₃) y e₄)
+    (rw (d, f, y) at e)
 
 -- four words, by offsets too
 pub field-parts-words : (s : StructFieldParts) → word-count (field-parts s ∷ []) ≡ 4

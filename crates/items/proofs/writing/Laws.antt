@@ -78,6 +78,11 @@ put-on at to xs ys l₀ l l' z h e e' = e' ∙ rw (e, z) (put-put at xs ys l₀ 
 pub put-one : (at w : ℕ) (l l' : List ℕ) → l' ≡ put at (big-endian 8 w) l → l' ≡ put at (words-bytes (w ∷ [])) l
 put-one at w l l' e = rw words-bytes-one e
 
+-- words behind words
+pub put-further : (at to : ℕ) (ws vs l₀ l l' : List ℕ) → to ≡ at + 8 * length ws → to + 8 * length vs ≤ length l₀ → l ≡ put at (words-bytes ws) l₀ → l' ≡ put to (words-bytes vs) l → l' ≡ put at (words-bytes (ws ++ vs)) l₀
+put-further at to ws vs l₀ l l' z h e e' =
+    rw (words-bytes-append ws vs) (put-on at to (words-bytes ws) (words-bytes vs) l₀ l l' (omega (arith, words-bytes-length ws)) (omega (arith, words-bytes-length vs)) e e')
+
 pub put-more : (at to w : ℕ) (ws l₀ l l' : List ℕ) → to ≡ at + 8 * length ws → to + 8 ≤ length l₀ → l ≡ put at (words-bytes ws) l₀ → l' ≡ put to (big-endian 8 w) l → l' ≡ put at (words-bytes (ws ++ (w ∷ []))) l₀
 put-more at to w ws l₀ l l' z h e e' =
     let k : to ≡ at + length (words-bytes ws) = omega (arith, words-bytes-length ws) in

@@ -9,88 +9,64 @@ use Rattle.items.proofs.structs.Laws.{field-put}
 flag-requires : tie.Need-flag-requires
 flag-requires c κs = tt
 
-mul-t7 : tie.Need-mul-t7
-mul-t7 c = omega (arith, bit-small (c .before .before .before .args .s .field .list), c .flag .ensures)
+mul-t9 : tie.Need-mul-t9
+mul-t9 c = omega (arith, bit-small (c .before .before .before .args .s .field .list), c .flag .ensures)
 
 flag-requires-2 : tie.Need-flag-requires-2
 flag-requires-2 c κs = tt
 
-mul-t9 : tie.Need-mul-t9
-mul-t9 c = omega (arith, bit-small (c .before .before .before .before .args .s .field .«has_maximum»), c .flag2 .ensures)
-
-add-t10 : tie.Need-add-t10
-add-t10 c = omega (arith, bit-small (c .before .before .before .before .args .s .field .list), c .before .flag .ensures, bit-small (c .before .before .before .before .args .s .field .«has_maximum»), c .flag2 .ensures)
-
 mul-t11 : tie.Need-mul-t11
-mul-t11 c = omega (arith, c .before .before .before .before .before .pre .1 .few-flags)
+mul-t11 c = omega (arith, bit-small (c .before .before .before .before .args .s .field .«has_maximum»), c .flag2 .ensures)
 
 add-t12 : tie.Need-add-t12
-add-t12 c = omega (arith, bit-small (c .before .before .before .before .before .args .s .field .list), c .before .before .flag .ensures, bit-small (c .before .before .before .before .before .args .s .field .«has_maximum»), c .before .flag2 .ensures, c .before .before .before .before .before .pre .1 .few-flags)
+add-t12 c = omega (arith, bit-small (c .before .before .before .before .args .s .field .list), c .before .flag .ensures, bit-small (c .before .before .before .before .args .s .field .«has_maximum»), c .flag2 .ensures)
 
-sub-put-word : tie.Need-sub-put-word
-sub-put-word c = c .before .before .before .before .before .before .pre .1 .between .name-to
+mul-t13 : tie.Need-mul-t13
+mul-t13 c = omega (arith, c .before .before .before .before .before .pre .1 .few-flags)
 
-first-word-requires : tie.Need-first-word-requires
-first-word-requires c κs = plain-fits (omega arith) (c .before .before .before .before .before .before .before .pre .1 .few-maturities) (omega (arith, bit-small (c .before .before .before .before .before .before .before .args .s .field .list), c .before .before .before .before .flag .ensures, bit-small (c .before .before .before .before .before .before .before .args .s .field .«has_maximum»), c .before .before .before .flag2 .ensures, c .before .before .before .before .before .before .before .pre .1 .few-flags)) (omega (arith, c .before .before .before .before .before .before .before .pre .1 .between .type-to, c .before .before .before .before .before .before .before .pre .1 .between .name-from, c .before .before .before .before .before .before .before .pre .1 .between .name-to, c .before .before .before .before .before .before .before .pre .1 .between .before)) (omega (arith, c .before .before .before .before .before .before .before .pre .1 .between .type-to, c .before .before .before .before .before .before .before .pre .1 .between .name-from, c .before .before .before .before .before .before .before .pre .1 .between .name-to, c .before .before .before .before .before .before .before .pre .1 .between .before))
-
-put-word-requires : tie.Need-put-word-requires
-put-word-requires c κs = search needs
-
-add-put-word : tie.Need-add-put-word
-add-put-word c = search needs
+add-t14 : tie.Need-add-t14
+add-t14 c = omega (arith, bit-small (c .before .before .before .before .before .args .s .field .list), c .before .before .flag .ensures, bit-small (c .before .before .before .before .before .args .s .field .«has_maximum»), c .before .flag2 .ensures, c .before .before .before .before .before .pre .1 .few-flags)
 
 sub-span-word : tie.Need-sub-span-word
-sub-span-word c = c .before .before .before .before .before .before .before .before .before .before .before .before .before .pre .1 .between .type-to
+sub-span-word c = c .before .before .before .before .before .before .pre .1 .between .name-to
+
+sub-span-word-2 : tie.Need-sub-span-word-2
+sub-span-word-2 c = c .before .before .before .before .before .before .before .pre .1 .between .type-to
 
 span-word-requires : tie.Need-span-word-requires
-span-word-requires c κs = (omega (arith, c .before .before .before .before .before .before .before .before .before .before .before .before .before .pre .1 .between .type-to, c .before .before .before .before .before .before .before .before .before .before .before .before .before .pre .1 .between .name-from, c .before .before .before .before .before .before .before .before .before .before .before .before .before .pre .1 .between .name-to, c .before .before .before .before .before .before .before .before .before .before .before .before .before .pre .1 .between .before), omega (arith, c .before .before .before .before .before .before .before .before .before .before .before .before .before .pre .1 .between .type-to, c .before .before .before .before .before .before .before .before .before .before .before .before .before .pre .1 .between .name-from, c .before .before .before .before .before .before .before .before .before .before .before .before .before .pre .1 .between .name-to, c .before .before .before .before .before .before .before .before .before .before .before .before .before .pre .1 .between .before))
-
-put-word-requires-2 : tie.Need-put-word-requires-2
-put-word-requires-2 c κs = search needs
-
-add-put-word-2 : tie.Need-add-put-word-2
-add-put-word-2 c = search needs
-
-put-word-requires-3 : tie.Need-put-word-requires-3
-put-word-requires-3 c κs = search needs
-
-add-put-word-3 : tie.Need-add-put-word-3
-add-put-word-3 c = search needs
+span-word-requires c κs = (omega (arith, c .before .before .before .before .before .before .before .pre .1 .between .type-to, c .before .before .before .before .before .before .before .pre .1 .between .name-from, c .before .before .before .before .before .before .before .pre .1 .between .name-to, c .before .before .before .before .before .before .before .pre .1 .between .before), omega (arith, c .before .before .before .before .before .before .before .pre .1 .between .type-to, c .before .before .before .before .before .before .before .pre .1 .between .name-from, c .before .before .before .before .before .before .before .pre .1 .between .name-to, c .before .before .before .before .before .before .before .pre .1 .between .before))
 
 largest-requires : tie.Need-largest-requires
 largest-requires c κs = tt
 
-put-word-requires-4 : tie.Need-put-word-requires-4
-put-word-requires-4 c κs = search needs
+first-word-requires : tie.Need-first-word-requires
+first-word-requires c κs = plain-fits (omega arith) (c .before .before .before .before .before .before .before .before .before .before .pre .1 .few-maturities) (omega (arith, bit-small (c .before .before .before .before .before .before .before .before .before .before .args .s .field .list), c .before .before .before .before .before .before .before .flag .ensures, bit-small (c .before .before .before .before .before .before .before .before .before .before .args .s .field .«has_maximum»), c .before .before .before .before .before .before .flag2 .ensures, c .before .before .before .before .before .before .before .before .before .before .pre .1 .few-flags)) (omega (arith, c .before .before .before .before .before .before .before .before .before .before .pre .1 .between .type-to, c .before .before .before .before .before .before .before .before .before .before .pre .1 .between .name-from, c .before .before .before .before .before .before .before .before .before .before .pre .1 .between .name-to, c .before .before .before .before .before .before .before .before .before .before .pre .1 .between .before)) (omega (arith, c .before .before .before .before .before .before .before .before .before .before .pre .1 .between .type-to, c .before .before .before .before .before .before .before .before .before .before .pre .1 .between .name-from, c .before .before .before .before .before .before .before .before .before .before .pre .1 .between .name-to, c .before .before .before .before .before .before .before .before .before .before .pre .1 .between .before))
+
+put-four-requires : tie.Need-put-four-requires
+put-four-requires c κs = search needs
 
 same-length : tie.Need-same-length
 same-length c = search needs
 
 returns : tie.Need-returns
-returns c = field-put (c .before .before .before .before .before .before .before .before .before .before .before .before .before .before .before .before .before .before .before .before .before .before .before .before .before .before .args .s) (c .before .before .before .before .before .before .before .before .before .before .before .before .before .before .before .before .before .before .before .before .before .before .before .before .before .before .args .at) _ _ _ _ _ (now (c .before .before .before .before .before .before .before .before .before .before .before .before .before .before .before .before .before .before .before .before .before .before .before .before .before .before .args .out)) _ _ _ _ (c .before .before .before .before .before .before .before .before .before .before .before .before .before .before .before .before .before .before .before .before .before .before .before .before .before .before .pre .0) (c .before .before .before .before .before .before .before .before .before .before .before .before .before .before .before .before .before .before .before .before .before .before .before .flag .ensures) (c .before .before .before .before .before .before .before .before .before .before .before .before .before .before .before .before .before .before .before .before .before .before .flag2 .ensures) (c .before .before .before .before .before .before .before .before .before .before .before .before .before .before .before .before .before .before .first-word .ensures) (c .before .before .before .before .before .before .before .before .before .before .before .before .before .before .before .before .before .put-word .ensures) (c .before .before .before .before .before .before .before .before .before .before .before .before .span-word .ensures) (c .before .before .before .before .before .before .before .before .before .before .before .put-word2 .ensures) (c .before .before .before .before .before .before .before .put-word3 .ensures) (c .before .before .before .largest .ensures) (c .before .before .put-word4 .ensures)
+returns c = field-put (c .before .before .before .before .before .before .before .before .before .before .before .before .before .before .args .s) (c .before .before .before .before .before .before .before .before .before .before .before .before .before .before .args .at) _ _ _ _ _ (now (c .before .before .before .before .before .before .before .before .before .before .before .before .before .before .args .out)) _ (c .before .before .before .before .before .before .before .before .before .before .before .flag .ensures) (c .before .before .before .before .before .before .before .before .before .before .flag2 .ensures) (c .before .before .before .first-word .ensures) (c .before .before .before .before .before .before .span-word .ensures) (c .before .before .before .before .before .largest .ensures) (c .before .before .put-four .ensures)
 
 pub put-field-spec : {M : Type 1} → statement M
 put-field-spec =
     tie.close
     (tie.spec
     flag-requires
-    mul-t7
-    flag-requires-2
     mul-t9
-    add-t10
+    flag-requires-2
     mul-t11
     add-t12
-    sub-put-word
-    first-word-requires
-    put-word-requires
-    add-put-word
+    mul-t13
+    add-t14
     sub-span-word
+    sub-span-word-2
     span-word-requires
-    put-word-requires-2
-    add-put-word-2
-    put-word-requires-3
-    add-put-word-3
     largest-requires
-    put-word-requires-4
+    first-word-requires
+    put-four-requires
     same-length
     returns)
