@@ -23,9 +23,10 @@ use crate::writing::First;
 use crate::writing::FrontParts;
 use crate::writing::Wrote;
 use crate::writing::doc_bit;
+use crate::writing::doc_word;
+use crate::writing::first_word;
 use crate::writing::flag;
-use crate::writing::put_documented;
-use crate::writing::put_word;
+use crate::writing::put_three;
 use crate::writing::span_word;
 use lexing::answers::Lost;
 use lexing::parts::rest_at;
@@ -116,12 +117,8 @@ fn put_choice(out: &mut [u8], at: usize, front: FrontParts, head: ChoiceHeadPart
         privilege: 0,
         further: 0,
     };
-    put_documented(out, at, first, doc);
-    put_word(
-        out,
-        at + 16,
-        span_word(head.base_at, head.base_end - head.base_at),
-    );
+    let base = span_word(head.base_at, head.base_end - head.base_at);
+    put_three(out, at, first_word(first), doc_word(doc), base);
 }
 
 // The second pass over an enum or a bitmap.

@@ -46,8 +46,9 @@ use crate::writing::First;
 use crate::writing::FrontParts;
 use crate::writing::Wrote;
 use crate::writing::doc_bit;
-use crate::writing::put_documented;
-use crate::writing::put_word;
+use crate::writing::doc_word;
+use crate::writing::first_word;
+use crate::writing::put_four;
 use lexing::answers::Lost;
 use lexing::answers::Step;
 use lexing::answers::step_lost;
@@ -576,9 +577,8 @@ fn put_cluster(out: &mut [u8], at: usize, front: FrontParts, head: ClusterHeadPa
         privilege: 0,
         further: 0,
     };
-    put_documented(out, at, first, doc);
-    put_word(out, at + 16, head.code);
-    put_word(out, at + 24, revision);
+    let word = first_word(first);
+    put_four(out, at, word, doc_word(doc), head.code, revision);
 }
 
 // The second pass over a cluster: its members first, since they tell the last revision.

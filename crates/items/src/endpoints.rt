@@ -31,6 +31,8 @@ use crate::writing::First;
 use crate::writing::Wrote;
 use crate::writing::first_word;
 use crate::writing::flag;
+use crate::writing::put_three;
+use crate::writing::put_two;
 use crate::writing::put_word;
 use crate::writing::span_word;
 use lexing::answers::Lost;
@@ -677,9 +679,8 @@ fn put_device_type(out: &mut [u8], at: usize, t: DeviceTypeParts)
     requires { ⌜ NameIn 0 (t .name) (t .end) text-limit ⌝ }
     ensures { λ _. ⌜ now (out .exit) ≡ put at (catalogue-bytes layout-20 (device-parts t ∷ [])) (now (out .entry)) ⌝ }
 {
-    put_word(out, at, plain_word(11, 0, t.name, t.end));
-    put_word(out, at + 8, t.code);
-    put_word(out, at + 16, t.version);
+    let word = plain_word(11, 0, t.name, t.end);
+    put_three(out, at, word, t.code, t.version);
 }
 
 // The number of a default's kind.
@@ -747,8 +748,8 @@ fn put_attribute_instance(out: &mut [u8], at: usize, a: AttributeInstanceParts)
 {
     let default = a.default;
     let flags = a.handling * 32 + default_number(default) * 4;
-    put_word(out, at, plain_word(14, flags, a.name, a.end));
-    put_word(out, at + 8, default_word(default));
+    let word = plain_word(14, flags, a.name, a.end);
+    put_two(out, at, word, default_word(default));
 }
 
 // The first record of an endpoint.
@@ -756,8 +757,7 @@ fn put_endpoint(out: &mut [u8], at: usize, id: u64)
     requires { ⌜ at + 16 ≤ length (now out) ⌝ }
     ensures { λ _. ⌜ now (out .exit) ≡ put at (catalogue-bytes layout-20 (endpoint-first id ∷ [])) (now (out .entry)) ⌝ }
 {
-    put_word(out, at, plain_word(10, 0, 0, 0));
-    put_word(out, at + 8, id);
+    put_two(out, at, plain_word(10, 0, 0, 0), id);
 }
 
 // The second pass over an instance.

@@ -23,7 +23,7 @@ use crate::steps::tag_behind;
 use crate::writing::First;
 use crate::writing::Wrote;
 use crate::writing::first_word;
-use crate::writing::put_word;
+use crate::writing::put_two;
 use lexing::answers::Lost;
 use lexing::answers::Step;
 use lexing::answers::step_lost;
@@ -247,8 +247,7 @@ fn put_entry(out: &mut [u8], at: usize, e: EntryParts)
         privilege: 0,
         further: 0,
     };
-    put_word(out, at, first_word(first));
-    put_word(out, at + 8, e.code);
+    put_two(out, at, first_word(first), e.code);
 }
 
 // The second pass over entries: their records, written from a place on.

@@ -30,10 +30,11 @@ use crate::writing::First;
 use crate::writing::FrontParts;
 use crate::writing::Wrote;
 use crate::writing::doc_bit;
+use crate::writing::doc_word;
+use crate::writing::first_word;
 use crate::writing::flag;
 use crate::writing::put_documented;
 use crate::writing::put_three;
-use crate::writing::put_word;
 use crate::writing::span_word;
 use lexing::answers::Lost;
 use lexing::answers::Step;
@@ -535,8 +536,7 @@ fn put_event(out: &mut [u8], at: usize, front: FrontParts, head: EventHeadParts)
         privilege: head.privilege,
         further: 0,
     };
-    put_documented(out, at, first, doc);
-    put_word(out, at + 16, head.code);
+    put_three(out, at, first_word(first), doc_word(doc), head.code);
 }
 
 // The second pass over a command.

@@ -29,11 +29,11 @@ use crate::writing::First;
 use crate::writing::FrontParts;
 use crate::writing::Wrote;
 use crate::writing::doc_bit;
+use crate::writing::doc_word;
 use crate::writing::first_word;
 use crate::writing::flag;
-use crate::writing::put_documented;
 use crate::writing::put_four;
-use crate::writing::put_word;
+use crate::writing::put_three;
 use crate::writing::span_word;
 use lexing::answers::Lost;
 use lexing::answers::Step;
@@ -558,8 +558,8 @@ fn put_struct(out: &mut [u8], at: usize, front: FrontParts, head: StructHeadPart
         privilege: 0,
         further: 0,
     };
-    put_documented(out, at, first, doc);
-    put_word(out, at + 16, response_number(kind, head.code));
+    let code = response_number(kind, head.code);
+    put_three(out, at, first_word(first), doc_word(doc), code);
 }
 
 // The second pass over a struct.

@@ -60,7 +60,7 @@ pub fn span_word(offset: usize, size: usize) -> u64
     offset as u64 * 0x1000_0000_0000 + size as u64 * 0x100_0000
 }
 
-fn doc_word(doc: DocSpan) -> u64
+pub fn doc_word(doc: DocSpan) -> u64
     requires { ⌜ DocFits doc ⌝ }
     ensures { λ r. ⌜ r ≡ docWord doc ⌝ }
 {

@@ -15,7 +15,7 @@ use Rattle.lexing.proofs.Locality.{chain-opt}
 use Rattle.lexing.proofs.Slicing.{Took, walks, rest-self}
 use Rattle.items.specs.entries.{present, Entry, shared-before, choice-head, constant-entries-list, choice-after-doc-maturity}
 use Rattle.items.specs.records.{at, spanned, flag, each, word-extent, documented, entry-record, choice-records}
-use Rattle.items.specs.layout.{packed, width, from-top, offset, size, layout-20, further-word, record-words, big-endian, words-bytes, catalogue-words, catalogue-bytes, word-count, text-limit}
+use Rattle.items.specs.layout.{packed, width, from-top, offset, size, layout-20, further-word, record-words, words-bytes, catalogue-words, catalogue-bytes, word-count, text-limit}
 use Rattle.items.specs.buffers.{put}
 use Rattle.items.specs.answers.{wordBetween, Front, first-of, spanWord, docWord, docBit, frontOf}
 use Rattle.items.specs.inner.choices.{choice-first}
@@ -69,12 +69,12 @@ choice-headed k = record {
 -- The second pass.
 
 -- the three words of the first record
-pub choice-first-put : (f : FrontParts) (h : ChoiceHeadParts) (p v i s : ℕ) (l l₁ l₂ : List ℕ) → p + 24 ≤ length l → v ≡ docBit (f .doc) → i ≡ bit (h .shared)
-    → l₁ ≡ put p (words-bytes (first-of (record { kind = f .kind; place = f .place; maturity = f .maturity; documented = v; flags = i * 64; name = h .name; size = h .end - h .name; privilege = 0; further = 0 }) ∷ docWord (f .doc) ∷ [])) l
-    → s ≡ spanWord (h .«base_at») (h .«base_end» - h .«base_at») → l₂ ≡ put (p + 16) (big-endian 8 s) l₁ → l₂ ≡ put p (catalogue-bytes layout-20 (choice-first f h ∷ [])) l
+pub choice-first-put : (f : FrontParts) (h : ChoiceHeadParts) (p v i a o s : ℕ) (l l₁ : List ℕ) → v ≡ docBit (f .doc) → i ≡ bit (h .shared)
+    → a ≡ first-of (record { kind = f .kind; place = f .place; maturity = f .maturity; documented = v; flags = i * 64; name = h .name; size = h .end - h .name; privilege = 0; further = 0 }) → o ≡ docWord (f .doc)
+    → s ≡ spanWord (h .«base_at») (h .«base_end» - h .«base_at») → l₁ ≡ put p (words-bytes (a ∷ o ∷ s ∷ [])) l → l₁ ≡ put p (catalogue-bytes layout-20 (choice-first f h ∷ [])) l
 unfolding from-top packed width flag offset size layout-20 further-word
-choice-first-put f h p v i s l l₁ l₂ r d e e₁ z e₂ =
-    documented-put (f .kind) (f .place) (f .maturity) (f .doc) (flag (h .shared) ∷ []) (at (h .name) (h .end - h .name)) 0 0 (spanned (at (h .«base_at») (h .«base_end» - h .«base_at»))) p (i * 64) v s l l₁ l₂ (omega (arith, e)) r d e₁ z e₂
+choice-first-put f h p v i a o s l l₁ d e w b z e₁ =
+    documented-put (f .kind) (f .place) (f .maturity) (f .doc) (flag (h .shared) ∷ []) (at (h .name) (h .end - h .name)) 0 0 (spanned (at (h .«base_at») (h .«base_end» - h .«base_at»))) p (i * 64) v a o s l l₁ (omega (arith, e)) d w b z e₁
 
 -- the first record of what was read
 pub choice-first-is : (f : FrontParts) (k : List ℕ) (b : ℕ) (u : List ℕ) (h : ChoiceHeadParts) (c : ℕ) (l : List Entry) → ChoiceHeadBetween b h c → c ≤ b + length u → choice-first f h ≡ choice-headed k .first (frontOf f) (choiceHeadAt b u h) l

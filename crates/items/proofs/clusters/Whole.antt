@@ -28,7 +28,7 @@ use Rattle.items.specs.structs.{parse-struct-after-doc-maturity}
 use Rattle.items.specs.members.{parse-event-after-doc-maturity, parse-command-after-doc-maturity, parse-attribute-after-doc-maturity}
 use Rattle.items.specs.clusters.{Member, revision, bitmap, enum, struct, attribute, command, event, parse-revision, member-tries, parse-cluster-member, cluster-members, side, cluster-head, cluster-after-doc-maturity}
 use Rattle.items.specs.records.{Record, at, value, each, word-extent, documented, choice-records, struct-records, attribute-records, event-records, member-records, last-revision, cluster-records}
-use Rattle.items.specs.layout.{packed, width, from-top, offset, size, layout-20, record-words, big-endian, words-bytes, further-word, catalogue-words, catalogue-bytes, word-count}
+use Rattle.items.specs.layout.{packed, width, from-top, offset, size, layout-20, record-words, words-bytes, further-word, catalogue-words, catalogue-bytes, word-count}
 use Rattle.items.specs.buffers.{put}
 use Rattle.items.specs.answers.{Front, frontOf, NameIn, Room, Written, first-of, docWord, docBit}
 use Rattle.items.specs.answers.members.{command-records}
@@ -51,7 +51,7 @@ use Rattle.items.proofs.Braces.{Step as Taken, lost-not, brace-first, b
 use Rattle.items.proofs.RecordWords.{Elementwise, each-elementwise, word-count-none, catalogue-bytes-none}
 use Rattle.items.proofs.Locality.{braces-chain, api-maturity-local, parse-revision-local, member-tries-inside, parse-cluster-member-inside, parse-cluster-member-consumes, side-local, cluster-head-local}
 use Rattle.items.proofs.WordBetween.{extent-between}
-use Rattle.items.proofs.writing.Laws.{put-nothing, put-next, documented-bytes, no-room, Writing, writing-start, writing-start-seen, writing-same, writing-fits, writing-more, writing-more-seen}
+use Rattle.items.proofs.writing.Laws.{put-nothing, documented-bytes, no-room, Writing, writing-start, writing-start-seen, writing-same, writing-fits, writing-more, writing-more-seen}
 use Rattle.items.proofs.Recorded.{Recorded, recorded-at, recorded-room, recorded-written}
 use Rattle.items.proofs.clusters.Laws.{OtherWord, at-other, member-left, member-tries-on, members-on}
 
@@ -342,14 +342,12 @@ module _ {b : ℕ} {u : List ℕ} {c : ℕ} (t : Took (tag 123) b u b tt c) {r :
   members-written h = let o = h .written in record { written = record { value = o .value; is = opened-is members-rest-on t q (o .is); place = o .place; bytes = o .bytes }; latest = h .latest }
 
 -- the first record
-pub cluster-first-put : (f : FrontParts) (h : ClusterHeadParts) (n p v : ℕ) (l l₁ l₂ l₃ : List ℕ) → p + 32 ≤ length l → v ≡ docBit (f .doc)
-    → l₁ ≡ put p (words-bytes (first-of (record { kind = 1; place = 0; maturity = f .maturity; documented = v; flags = 0; name = h .name; size = h .end - h .name; privilege = 0; further = 0 }) ∷ docWord (f .doc) ∷ [])) l
-    → l₂ ≡ put (p + 16) (big-endian 8 (h .code)) l₁ → l₃ ≡ put (p + 24) (big-endian 8 n) l₂ → l₃ ≡ put p (catalogue-bytes layout-20 (cluster-first f h n ∷ [])) l
+pub cluster-first-put : (f : FrontParts) (h : ClusterHeadParts) (n p v a o : ℕ) (l l₁ : List ℕ) → v ≡ docBit (f .doc)
+    → a ≡ first-of (record { kind = 1; place = 0; maturity = f .maturity; documented = v; flags = 0; name = h .name; size = h .end - h .name; privilege = 0; further = 0 }) → o ≡ docWord (f .doc)
+    → l₁ ≡ put p (words-bytes (a ∷ o ∷ h .code ∷ n ∷ [])) l → l₁ ≡ put p (catalogue-bytes layout-20 (cluster-first f h n ∷ [])) l
 unfolding further-word offset size from-top packed width
-cluster-first-put f h n p v l l₁ l₂ l₃ r d e₁ e₂ e₃ =
-    let w = first-of (record { kind = 1; place = 0; maturity = f .maturity; documented = docBit (f .doc); flags = 0; name = h .name; size = h .end - h .name; privilege = 0; further = 0 }) in
-    rw (documented-bytes 1 0 (f .maturity) (f .doc) [] (at (h .name) (h .end - h .name)) 0 0 (value (h .code) ∷ value n ∷ []) 0 refl)
-    (put-next p (p + 24) (w ∷ docWord (f .doc) ∷ h .code ∷ []) l l₂ l₃ (omega arith) (omega arith) (put-next p (p + 16) (w ∷ docWord (f .doc) ∷ []) l l₁ l₂ (omega arith) (omega arith) (rw (← d) e₁) refl e₂) refl e₃)
+cluster-first-put f h n p v a o l l₁ d w b e₁ =
+    rw (documented-bytes 1 0 (f .maturity) (f .doc) [] (at (h .name) (h .end - h .name)) 0 0 (value (h .code) ∷ value n ∷ []) 0 refl, ← d) (rw (w, b) at e₁)
 
 pub cluster-first-is : (f : FrontParts) (b : ℕ) (u : List ℕ) (h : ClusterHeadParts) (n : ℕ) {c : ℕ} (l : List Member) → NameIn b (h .name) (h .end) c → c ≤ b + length u → n ≡ last-revision 0 l → cluster-first f h n ≡ cluster-headed .first (frontOf f) (clusterHeadAt b u h) l
 unfolding cluster-headed

@@ -31,7 +31,7 @@ use Rattle.items.specs.clusters.{mapped}
 use Rattle.items.specs.endpoints.{name-behind, device-version, Default as DefaultOf, number, signed-number, truth, text, value-tries, default-attribute-value, attribute-handling-type, AttributeInstance as AttributeInstanceOf, attribute-instantiation, named-after, Instance as InstanceOf, Part, attribute-instance, command-instance, event-instance, instance-tries, deep-run, deep-braces, DeviceType as DeviceTypeOf, device-type, device, binding, instantiation, instantiation-head, cluster-instantiation, part-tries, endpoint-head, endpoint}
 use Rattle.items.specs.records.{Bits, absent, at, bits, value, word-extent, plain, each, twos-complement, default-number, default-word, instance-record, part-records, endpoint-records}
 use Rattle.items.specs.inner.endpoints.{blank-binding, plainWord, name-parts, device-parts, instance-parts, endpoint-first}
-use Rattle.items.specs.layout.{packed, width, from-top, offset, size, layout-20, further-word, record-words, big-endian, catalogue-words, catalogue-bytes, word-count, text-limit}
+use Rattle.items.specs.layout.{packed, width, from-top, offset, size, layout-20, further-word, record-words, big-endian, words-bytes, catalogue-words, catalogue-bytes, word-count, text-limit}
 use Rattle.items.specs.buffers.{put}
 use Rattle.items.specs.answers.{NameIn, wordBetween}
 use Rattle.items.specs.answers.endpoints.{deviceTypeAt, InstanceIn, attributeInstanceAt, valueOf, valueAnswer, ValueIn, ValueTo, SpanIn, DefaultIn, optionalValue, defaultOf, OptionalTo}
@@ -51,7 +51,7 @@ use Rattle.items.proofs.Answers.{read-within, read-took, last-lost}
 use Rattle.items.proofs.WordBetween.{word-moved, extent-between}
 use Rattle.items.proofs.optional.Laws.{opt-ok, opt-fail, opt-stop}
 use Rattle.items.proofs.Headed.{Headed}
-use Rattle.items.proofs.writing.Laws.{put-one, put-two, put-next, plain-bytes}
+use Rattle.items.proofs.writing.Laws.{put-one, plain-bytes}
 use Rattle.items.proofs.Choice.{or-both, Past}
 use Rattle.items.proofs.Tries.{bind-fail, then-fail, then-ok, mapped-fail}
 use Rattle.items.proofs.Braces.{brace-keyword, brace-blank}
@@ -262,25 +262,22 @@ pub named-put : (k p o e w : ℕ) (l l₁ : List ℕ) → w ≡ plainWord k 0 o 
 unfolding from-top packed width offset size
 named-put k p o e w l l₁ d e₁ = rw (plain-bytes k 0 [] (at o (e - o)) [] 0 refl, ← d) (put-one p w l l₁ e₁)
 
-pub device-put : (t : DeviceTypeParts) (p w : ℕ) (l l₁ l₂ l₃ : List ℕ) → p + 24 ≤ length l → w ≡ plainWord 11 0 (t .name) (t .end)
-    → l₁ ≡ put p (big-endian 8 w) l → l₂ ≡ put (p + 8) (big-endian 8 (t .code)) l₁ → l₃ ≡ put (p + 16) (big-endian 8 (t .version)) l₂ → l₃ ≡ put p (catalogue-bytes layout-20 (device-parts t ∷ [])) l
+pub device-put : (t : DeviceTypeParts) (p w : ℕ) (l l₁ : List ℕ) → w ≡ plainWord 11 0 (t .name) (t .end) → l₁ ≡ put p (words-bytes (w ∷ t .code ∷ t .version ∷ [])) l → l₁ ≡ put p (catalogue-bytes layout-20 (device-parts t ∷ [])) l
 unfolding from-top packed width offset size further-word
-device-put t p w l l₁ l₂ l₃ h d e₁ e₂ e₃ =
-    rw (plain-bytes 11 0 [] (at (t .name) (t .end - t .name)) (value (t .code) ∷ value (t .version) ∷ []) 0 refl)
-    (put-next p (p + 16) (plainWord 11 0 (t .name) (t .end) ∷ t .code ∷ []) l l₂ l₃ (omega arith) (omega arith) (put-two p l l₁ l₂ (omega arith) d e₁ refl e₂) refl e₃)
+device-put t p w l l₁ d e₁ = rw (plain-bytes 11 0 [] (at (t .name) (t .end - t .name)) (value (t .code) ∷ value (t .version) ∷ []) 0 refl) (rw d at e₁)
 
-pub instance-put : (a : AttributeInstanceParts) (p g n w v : ℕ) (l l₁ l₂ : List ℕ) → p + 16 ≤ length l → n ≡ default-number (defaultOf (a .default)) → g ≡ a .handling * 32 + n * 4
-    → w ≡ plainWord 14 g (a .name) (a .end) → l₁ ≡ put p (big-endian 8 w) l → v ≡ further-word layout-20 (default-word (defaultOf (a .default))) → l₂ ≡ put (p + 8) (big-endian 8 v) l₁
-    → l₂ ≡ put p (catalogue-bytes layout-20 (instance-parts a ∷ [])) l
+pub instance-put : (a : AttributeInstanceParts) (p g n w v : ℕ) (l l₁ : List ℕ) → n ≡ default-number (defaultOf (a .default)) → g ≡ a .handling * 32 + n * 4
+    → w ≡ plainWord 14 g (a .name) (a .end) → v ≡ further-word layout-20 (default-word (defaultOf (a .default))) → l₁ ≡ put p (words-bytes (w ∷ v ∷ [])) l
+    → l₁ ≡ put p (catalogue-bytes layout-20 (instance-parts a ∷ [])) l
 unfolding from-top packed width offset size
-instance-put a p g n w v l l₁ l₂ h en eg d e₁ f e₂ =
+instance-put a p g n w v l l₁ en eg d f e₁ =
     let fl : List Bits = bits 2 (a .handling) ∷ bits 3 (default-number (defaultOf (a .default))) ∷ [] in
     let z : g ≡ from-top 7 fl = omega (arith, en, eg) in
-    rw (plain-bytes 14 0 fl (at (a .name) (a .end - a .name)) (default-word (defaultOf (a .default)) ∷ []) g z) (put-two p l l₁ l₂ h d e₁ f e₂)
+    rw (plain-bytes 14 0 fl (at (a .name) (a .end - a .name)) (default-word (defaultOf (a .default)) ∷ []) g z) (rw (d, f) at e₁)
 
-pub endpoint-put : (p n w : ℕ) (l l₁ l₂ : List ℕ) → p + 16 ≤ length l → w ≡ plainWord 10 0 0 0 → l₁ ≡ put p (big-endian 8 w) l → l₂ ≡ put (p + 8) (big-endian 8 n) l₁ → l₂ ≡ put p (catalogue-bytes layout-20 (endpoint-first n ∷ [])) l
+pub endpoint-put : (p n w : ℕ) (l l₁ : List ℕ) → w ≡ plainWord 10 0 0 0 → l₁ ≡ put p (words-bytes (w ∷ n ∷ [])) l → l₁ ≡ put p (catalogue-bytes layout-20 (endpoint-first n ∷ [])) l
 unfolding from-top packed width offset size further-word
-endpoint-put p n w l l₁ l₂ h d e₁ e₂ = rw (plain-bytes 10 0 [] absent (value n ∷ []) 0 refl) (put-two p l l₁ l₂ h d e₁ refl e₂)
+endpoint-put p n w l l₁ d e₁ = rw (plain-bytes 10 0 [] absent (value n ∷ []) 0 refl) (rw d at e₁)
 
 pub number-small : (d : Option DefaultOf) → default-number d < 5
 unfolding default-number

@@ -18,7 +18,7 @@ use Rattle.lexing.proofs.TokenLocality.{whitespace0-chain}
 use Rattle.lexing.proofs.Slicing.{Took, took, walks, rest-self, begin, on, told-next, step-lost, string-took}
 use Rattle.items.specs.entries.{Annotation, constant-annotation, blank-annotation, constant-annotations-list, Entry, constant-entry, blank-entry, constant-entries}
 use Rattle.items.specs.records.{Record, value, entry-record, plain, each}
-use Rattle.items.specs.layout.{packed, width, from-top, offset, size, further-word, word-count, catalogue-words, catalogue-bytes, record-words, words-bytes, big-endian, layout-20}
+use Rattle.items.specs.layout.{packed, width, from-top, offset, size, further-word, word-count, catalogue-words, catalogue-bytes, record-words, words-bytes, layout-20}
 use Rattle.items.specs.buffers.{put}
 use Rattle.items.specs.answers.{first-of, Room, Written}
 use Rattle.items.specs.answers.entries.{entryAt, entryLost, EntryBounds, EntryTo}
@@ -31,7 +31,7 @@ use Rattle.items.proofs.Answers.{read-within, read-took, read-lost}
 use Rattle.items.proofs.WordBetween.{word-moved, extent-between}
 use Rattle.items.proofs.RecordWords.{map-elementwise}
 use Rattle.items.proofs.counts.Laws.{Counting, counting-more}
-use Rattle.items.proofs.writing.Laws.{put-one, put-more, Writing, writing-fits, writing-more, writing-ends}
+use Rattle.items.proofs.writing.Laws.{Writing, writing-fits, writing-more, writing-ends}
 
 -- annotations
 pub no-annotation : Annotation
@@ -134,10 +134,10 @@ parts-words : (e : EntryParts) → catalogue-bytes layout-20 (parts-record e ∷
 unfolding catalogue-bytes catalogue-words each record-words layout-20 further-word plain from-top width packed offset size
 parts-words e = refl
 
-pub put-entry : (e : EntryParts) (p w : ℕ) (l l₁ l₂ : List ℕ) → p + 16 ≤ length l
+pub put-entry : (e : EntryParts) (p w : ℕ) (l l₁ : List ℕ)
     → w ≡ first-of (record { kind = 4; place = 0; maturity = e .maturity; documented = 0; flags = 0; name = e .name; size = e .end - e .name; privilege = 0; further = 0 })
-    → l₁ ≡ put p (big-endian 8 w) l → l₂ ≡ put (p + 8) (big-endian 8 (e .code)) l₁ → l₂ ≡ put p (catalogue-bytes layout-20 (parts-record e ∷ [])) l
-put-entry e p w l l₁ l₂ h z e₁ e₂ = rw (parts-words e, ← z) (put-more p (p + 8) (e .code) (w ∷ []) l l₁ l₂ (omega arith) (omega arith) (put-one p w l l₁ e₁) e₂)
+    → l₁ ≡ put p (words-bytes (w ∷ e .code ∷ [])) l → l₁ ≡ put p (catalogue-bytes layout-20 (parts-record e ∷ [])) l
+put-entry e p w l l₁ z e₁ = rw (parts-words e) (rw z at e₁)
 
 -- the record of an entry that was read
 pub entry-parts : (b : ℕ) (u : List ℕ) (e : EntryParts) → b ≤ e .name → e .name ≤ e .end → e .end ≤ b + length u → parts-record e ≡ entry-record (entryAt b u e)

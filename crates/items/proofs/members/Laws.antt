@@ -25,7 +25,7 @@ use Rattle.lexing.proofs.Slicing.{Took, took, walks, begin, on}
 use Rattle.items.specs.structs.{struct-fields, StructField as StructFieldOf}
 use Rattle.items.specs.members.{or-else, event-qualities, event-head, parse-event-after-doc-maturity, command-head, CommandTypes as CommandTypesOf, command-types, Command as CommandOf, parse-command-after-doc-maturity}
 use Rattle.items.specs.records.{bits, value, each, word-extent, documented, field-record, command-record, event-records, at, spanned, flag, optional-extent}
-use Rattle.items.specs.layout.{layout-20, record-words, catalogue-words, word-count, packed, width, from-top, offset, size, further-word, big-endian, words-bytes, catalogue-bytes, text-limit}
+use Rattle.items.specs.layout.{layout-20, record-words, catalogue-words, word-count, packed, width, from-top, offset, size, further-word, words-bytes, catalogue-bytes, text-limit}
 use Rattle.items.specs.answers.{optionOf, wordBetween, optionalStep, CountTo, Front, first-of, spanWord, docWord, docBit, frontOf}
 use Rattle.items.specs.answers.members.{command-records, levelAnswer, levelLost, levelSmall, LevelTo, levelOr, SmallEventQualities, EventQualitiesTo, eventHeadAt, eventHeadLost, EventHeadBetween, EventHeadTo, optionalBetween, CommandHeadBetween, CommandHeadTo, commandTypesAt, CommandTypesBetween, CommandTypesTo, commandAt, CommandTo, CommandBetween}
 use Rattle.items.specs.declared.counts.Count.the-variants.{Words}
@@ -267,12 +267,12 @@ command-counted d v h e = read-counted command-records (parse-command-consumes (
 -- The second pass.
 
 -- the three words of an event's first record
-pub event-first-put : (f : FrontParts) (h : EventHeadParts) (p v : ℕ) (l l₁ l₂ : List ℕ) → p + 24 ≤ length l → v ≡ docBit (f .doc)
-    → l₁ ≡ put p (words-bytes (first-of (record { kind = 9; place = 0; maturity = f .maturity; documented = v; flags = h .rank * 32 + h .sensitive * 16; name = h .name; size = h .end - h .name; privilege = h .privilege; further = 0 }) ∷ docWord (f .doc) ∷ [])) l
-    → l₂ ≡ put (p + 16) (big-endian 8 (h .code)) l₁ → l₂ ≡ put p (catalogue-bytes layout-20 (event-first f h ∷ [])) l
+pub event-first-put : (f : FrontParts) (h : EventHeadParts) (p v a o : ℕ) (l l₁ : List ℕ) → v ≡ docBit (f .doc)
+    → a ≡ first-of (record { kind = 9; place = 0; maturity = f .maturity; documented = v; flags = h .rank * 32 + h .sensitive * 16; name = h .name; size = h .end - h .name; privilege = h .privilege; further = 0 }) → o ≡ docWord (f .doc)
+    → l₁ ≡ put p (words-bytes (a ∷ o ∷ h .code ∷ [])) l → l₁ ≡ put p (catalogue-bytes layout-20 (event-first f h ∷ [])) l
 unfolding from-top packed width offset size further-word
-event-first-put f h p v l l₁ l₂ r d e₁ e₂ =
-    documented-put 9 0 (f .maturity) (f .doc) (bits 2 (h .rank) ∷ bits 1 (h .sensitive) ∷ []) (at (h .name) (h .end - h .name)) (h .privilege) 0 (value (h .code)) p (h .rank * 32 + h .sensitive * 16) v (h .code) l l₁ l₂ (omega arith) r d e₁ refl e₂
+event-first-put f h p v a o l l₁ d w b e₁ =
+    documented-put 9 0 (f .maturity) (f .doc) (bits 2 (h .rank) ∷ bits 1 (h .sensitive) ∷ []) (at (h .name) (h .end - h .name)) (h .privilege) 0 (value (h .code)) p (h .rank * 32 + h .sensitive * 16) v a o (h .code) l l₁ (omega arith) d w b refl e₁
 
 -- the first record of what was read
 pub event-first-is : (f : FrontParts) (b : ℕ) (u : List ℕ) (h : EventHeadParts) (c : ℕ) (l : List StructFieldOf) → EventHeadBetween b h c → c ≤ b + length u → event-first f h ≡ event-headed .first (frontOf f) (eventHeadAt b u h) l

@@ -28,7 +28,7 @@ use Rattle.lexing.proofs.word_sets.Laws.{same-eq, like-keyword}
 use Rattle.items.specs.entries.{present}
 use Rattle.items.specs.structs.{StructField as StructFieldOf, max-length, list-marker, parse-field, parse-struct-field, closed-field, fields-run, struct-fields, regular, response-code, struct-kind, struct-type-of, struct-head, parse-struct-after-doc-maturity}
 use Rattle.items.specs.records.{Record, at, bits, value, spanned, flag, each, word-extent, plain, documented, field-record, struct-number, response-of, struct-records}
-use Rattle.items.specs.layout.{packed, width, from-top, offset, size, layout-20, further-word, record-words, big-endian, words-bytes, catalogue-words, catalogue-bytes, word-count, text-limit}
+use Rattle.items.specs.layout.{packed, width, from-top, offset, size, layout-20, further-word, record-words, words-bytes, catalogue-words, catalogue-bytes, word-count, text-limit}
 use Rattle.items.specs.members.{or-else}
 use Rattle.items.specs.buffers.{put}
 use Rattle.items.specs.answers.{optionOf, BlankAt, wordBetween, Front, Room, Written, first-of, spanWord, docWord, docBit, frontOf}
@@ -380,12 +380,12 @@ module _ (b : ℕ) (u : List ℕ) (p : ℕ) (old : List ℕ) (room : Room (map f
   fields-end l z = writing-ends (map-elementwise field-record) closed-field b u p old room i closed-field-consumes l q (struct-field-none closed-field-on q h (sym (ap structFieldLost z)) z)
 
 -- the three words of a struct's first record
-pub struct-first-put : (f : FrontParts) (h : StructHeadParts) (p v i s : ℕ) (l l₁ l₂ : List ℕ) → p + 24 ≤ length l → v ≡ docBit (f .doc) → i ≡ kindNumber (h .kind)
-    → l₁ ≡ put p (words-bytes (first-of (record { kind = 5; place = f .place; maturity = f .maturity; documented = v; flags = i * 32 + h .scoped * 16; name = h .name; size = h .end - h .name; privilege = 0; further = 0 }) ∷ docWord (f .doc) ∷ [])) l
-    → s ≡ responseNumber (h .kind) (h .code) → l₂ ≡ put (p + 16) (big-endian 8 s) l₁ → l₂ ≡ put p (catalogue-bytes layout-20 (struct-first f h ∷ [])) l
+pub struct-first-put : (f : FrontParts) (h : StructHeadParts) (p v i a o s : ℕ) (l l₁ : List ℕ) → v ≡ docBit (f .doc) → i ≡ kindNumber (h .kind)
+    → a ≡ first-of (record { kind = 5; place = f .place; maturity = f .maturity; documented = v; flags = i * 32 + h .scoped * 16; name = h .name; size = h .end - h .name; privilege = 0; further = 0 }) → o ≡ docWord (f .doc)
+    → s ≡ responseNumber (h .kind) (h .code) → l₁ ≡ put p (words-bytes (a ∷ o ∷ s ∷ [])) l → l₁ ≡ put p (catalogue-bytes layout-20 (struct-first f h ∷ [])) l
 unfolding from-top packed width offset size further-word
-struct-first-put f h p v i s l l₁ l₂ r d e e₁ z e₂ =
-    documented-put 5 (f .place) (f .maturity) (f .doc) (bits 2 (kindNumber (h .kind)) ∷ bits 1 (h .scoped) ∷ []) (at (h .name) (h .end - h .name)) 0 0 (value (responseNumber (h .kind) (h .code))) p (i * 32 + h .scoped * 16) v s l l₁ l₂ (omega (arith, e)) r d e₁ z e₂
+struct-first-put f h p v i a o s l l₁ d e w b z e₁ =
+    documented-put 5 (f .place) (f .maturity) (f .doc) (bits 2 (kindNumber (h .kind)) ∷ bits 1 (h .scoped) ∷ []) (at (h .name) (h .end - h .name)) 0 0 (value (responseNumber (h .kind) (h .code))) p (i * 32 + h .scoped * 16) v a o s l l₁ (omega (arith, e)) d w b z e₁
 
 pub kind-small : (k : StructKind) → kindNumber k < 4
 kind-small Regular = omega arith

@@ -28,7 +28,7 @@ use Rattle.items.specs.answers.{Room, Written, first-of, Fits, docWord, 
 use Rattle.items.specs.declared.writing.FrontParts.{FrontParts}
 use Rattle.items.specs.declared.writing.Wrote.{Wrote}
 use Rattle.items.proofs.Answers.{read-on}
-use Rattle.items.proofs.RecordWords.{big-endian-length, words-bytes-append, words-bytes-length, words-bytes-one, catalogue-bytes-none, catalogue-bytes-length, word-count-none, Elementwise, word-count-more, catalogue-bytes-more, word-count-grows}
+use Rattle.items.proofs.RecordWords.{words-bytes-append, words-bytes-length, words-bytes-one, catalogue-bytes-none, catalogue-bytes-length, word-count-none, Elementwise, word-count-more, catalogue-bytes-more, word-count-grows}
 
 put-8 : (l : List ℕ) (i a b c d e f g h : ℕ) → i + 8 ≤ length l
     → set (set (set (set (set (set (set (set l i a) (i + 1) b) (i + 2) c) (i + 3) d) (i + 4) e) (i + 5) f) (i + 6) g) (i + 7) h ≡ put i (a ∷ b ∷ c ∷ d ∷ e ∷ f ∷ g ∷ h ∷ []) l
@@ -74,27 +74,16 @@ put-put at xs ys l h =
 pub put-on : (at to : ℕ) (xs ys l₀ l l' : List ℕ) → to ≡ at + length xs → to + length ys ≤ length l₀ → l ≡ put at xs l₀ → l' ≡ put to ys l → l' ≡ put at (xs ++ ys) l₀
 put-on at to xs ys l₀ l l' z h e e' = e' ∙ rw (e, z) (put-put at xs ys l₀ (omega arith))
 
--- a word, and one word more
+-- a word, words behind words, and two words
 pub put-one : (at w : ℕ) (l l' : List ℕ) → l' ≡ put at (big-endian 8 w) l → l' ≡ put at (words-bytes (w ∷ [])) l
 put-one at w l l' e = rw words-bytes-one e
 
--- words behind words
 pub put-further : (at to : ℕ) (ws vs l₀ l l' : List ℕ) → to ≡ at + 8 * length ws → to + 8 * length vs ≤ length l₀ → l ≡ put at (words-bytes ws) l₀ → l' ≡ put to (words-bytes vs) l → l' ≡ put at (words-bytes (ws ++ vs)) l₀
 put-further at to ws vs l₀ l l' z h e e' =
     rw (words-bytes-append ws vs) (put-on at to (words-bytes ws) (words-bytes vs) l₀ l l' (omega (arith, words-bytes-length ws)) (omega (arith, words-bytes-length vs)) e e')
 
-pub put-more : (at to w : ℕ) (ws l₀ l l' : List ℕ) → to ≡ at + 8 * length ws → to + 8 ≤ length l₀ → l ≡ put at (words-bytes ws) l₀ → l' ≡ put to (big-endian 8 w) l → l' ≡ put at (words-bytes (ws ++ (w ∷ []))) l₀
-put-more at to w ws l₀ l l' z h e e' =
-    let k : to ≡ at + length (words-bytes ws) = omega (arith, words-bytes-length ws) in
-    rw (words-bytes-append ws (w ∷ []), words-bytes-one w) (put-on at to (words-bytes ws) (big-endian 8 w) l₀ l l' k (omega (arith, big-endian-length 8 w)) e e')
-
--- two words that the code computes
-pub put-two : (at : ℕ) (l l₁ l₂ : List ℕ) {v w x y : ℕ} → at + 16 ≤ length l → v ≡ x → l₁ ≡ put at (big-endian 8 v) l → w ≡ y → l₂ ≡ put (at + 8) (big-endian 8 w) l₁ → l₂ ≡ put at (words-bytes (x ∷ y ∷ [])) l
-put-two at l l₁ l₂ {v} {w} {x} {y} h e e₁ f e₂ = rw (← e, ← f) (put-more at (at + 8) w (v ∷ []) l l₁ l₂ (omega arith) (omega arith) (put-one at v l l₁ e₁) e₂)
-
--- and one more behind n of them
-pub put-next : (at to : ℕ) (ws : List ℕ) (l l₁ l₂ : List ℕ) {w y : ℕ} → to ≡ at + 8 * length ws → to + 8 ≤ length l → l₁ ≡ put at (words-bytes ws) l → w ≡ y → l₂ ≡ put to (big-endian 8 w) l₁ → l₂ ≡ put at (words-bytes (ws ++ (y ∷ []))) l
-put-next at to ws l l₁ l₂ {w} {y} z h e₁ f e₂ = rw (← f) (put-more at to w ws l l₁ l₂ z h e₁ e₂)
+pub put-two : (at a b : ℕ) (l l₁ l₂ : List ℕ) → at + 16 ≤ length l → l₁ ≡ put at (big-endian 8 a) l → l₂ ≡ put (at + 8) (big-endian 8 b) l₁ → l₂ ≡ put at (words-bytes (a ∷ b ∷ [])) l
+put-two at a b l l₁ l₂ h e₁ e₂ = put-further at (at + 8) (a ∷ []) (b ∷ []) l l₁ l₂ (omega arith) (omega arith) (put-one at a l l₁ e₁) (put-one (at + 8) b l₁ l₂ e₂)
 
 pub bit-small : (b : Bool) → bit b < 2
 unfolding bit
@@ -138,12 +127,10 @@ unfolding catalogue-bytes catalogue-words each record-words layout-20 further-wo
 documented-bytes k p m d fl e x y l g h = rw (h, doc-bit-is d, doc-word d) (ap words-bytes (append-nil _))
 
 -- such a record of three words: what the code has computed of it
-pub documented-put : (k p m : ℕ) (d : DocSpan) (fl : List Bits) (e : Extent) (x y : ℕ) (w : Further) (q g v s : ℕ) (l l₁ l₂ : List ℕ) → g ≡ from-top 7 fl → q + 24 ≤ length l → v ≡ docBit d
-    → l₁ ≡ put q (words-bytes (first-of (record { kind = k; place = p; maturity = m; documented = v; flags = g; name = offset e; size = size e; privilege = x; further = y }) ∷ docWord d ∷ [])) l
-    → s ≡ further-word layout-20 w → l₂ ≡ put (q + 16) (big-endian 8 s) l₁ → l₂ ≡ put q (catalogue-bytes layout-20 (documented k p m (docOf d) fl e x y (w ∷ []) ∷ [])) l
-documented-put k p m d fl e x y w q g v s l l₁ l₂ h r z e₁ f e₂ =
-    rw (documented-bytes k p m d fl e x y (w ∷ []) g h)
-    (put-next q (q + 16) (first-of (record { kind = k; place = p; maturity = m; documented = docBit d; flags = g; name = offset e; size = size e; privilege = x; further = y }) ∷ docWord d ∷ []) l l₁ l₂ (omega arith) (omega arith) (rw (← z) e₁) f e₂)
+pub documented-put : (k p m : ℕ) (d : DocSpan) (fl : List Bits) (e : Extent) (x y : ℕ) (w : Further) (q g v a o s : ℕ) (l l₁ : List ℕ) → g ≡ from-top 7 fl → v ≡ docBit d
+    → a ≡ first-of (record { kind = k; place = p; maturity = m; documented = v; flags = g; name = offset e; size = size e; privilege = x; further = y }) → o ≡ docWord d → s ≡ further-word layout-20 w
+    → l₁ ≡ put q (words-bytes (a ∷ o ∷ s ∷ [])) l → l₁ ≡ put q (catalogue-bytes layout-20 (documented k p m (docOf d) fl e x y (w ∷ []) ∷ [])) l
+documented-put k p m d fl e x y w q g v a o s l l₁ h z c b f e₁ = rw (documented-bytes k p m d fl e x y (w ∷ []) g h, ← z) (rw (c, b, f) at e₁)
 
 -- a record without one
 pub plain-fits : {k m g o n : ℕ} → k < 256 → m < 4 → g < 128 → o ≤ text-limit → n ≤ text-limit → Fits (record { kind = k; place = 0; maturity = m; documented = 0; flags = g; name = o; size = n; privilege = 0; further = 0 })

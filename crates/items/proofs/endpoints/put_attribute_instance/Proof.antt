@@ -20,25 +20,19 @@ add-flags : tie.Need-add-flags
 add-flags c = omega (arith, number-small (defaultOf (c .before .before .before .args .a .default)), c .default-number .ensures, c .before .before .before .pre .1 .small)
 
 plain-word-requires : tie.Need-plain-word-requires
-plain-word-requires c κs = (omega (arith, number-small (defaultOf (c .before .before .before .before .args .a .default)), c .before .default-number .ensures, c .before .before .before .before .pre .1 .small), c .before .before .before .before .pre .1 .named)
-
-put-word-requires : tie.Need-put-word-requires
-put-word-requires c κs = search needs
-
-add-put-word : tie.Need-add-put-word
-add-put-word c = search needs
+plain-word-requires c κs = (omega (arith, number-small (defaultOf (c .before .before .before .args .a .default)), c .default-number .ensures, c .before .before .before .pre .1 .small), c .before .before .before .pre .1 .named)
 
 default-word-requires : tie.Need-default-word-requires
-default-word-requires c κs = c .before .before .before .before .before .before .before .before .before .pre .1 .spanned
+default-word-requires c κs = c .before .before .before .before .before .pre .1 .spanned
 
-put-word-requires-2 : tie.Need-put-word-requires-2
-put-word-requires-2 c κs = search needs
+put-two-requires : tie.Need-put-two-requires
+put-two-requires c κs = search needs
 
 same-length : tie.Need-same-length
 same-length c = search needs
 
 returns : tie.Need-returns
-returns c = instance-put (c .before .before .before .before .before .before .before .before .before .before .before .before .before .args .a) (c .before .before .before .before .before .before .before .before .before .before .before .before .before .args .at) _ _ _ _ (now (c .before .before .before .before .before .before .before .before .before .before .before .before .before .args .out)) _ _ (c .before .before .before .before .before .before .before .before .before .before .before .before .before .pre .0) (c .before .before .before .before .before .before .before .before .before .before .default-number .ensures) refl (c .before .before .before .before .before .before .before .before .plain-word .ensures) (c .before .before .before .before .before .before .before .put-word .ensures) (c .before .before .before .default-word .ensures) (c .before .before .put-word2 .ensures)
+returns c = instance-put (c .before .before .before .before .before .before .before .before .before .args .a) (c .before .before .before .before .before .before .before .before .before .args .at) _ _ _ _ (now (c .before .before .before .before .before .before .before .before .before .args .out)) _ (c .before .before .before .before .before .before .default-number .ensures) refl (c .before .before .before .before .before .plain-word .ensures) (c .before .before .before .default-word .ensures) (c .before .before .put-two .ensures)
 
 pub put-attribute-instance-spec : {M : Type 1} → statement M
 put-attribute-instance-spec =
@@ -49,9 +43,7 @@ put-attribute-instance-spec =
     mul-flags-2
     add-flags
     plain-word-requires
-    put-word-requires
-    add-put-word
     default-word-requires
-    put-word-requires-2
+    put-two-requires
     same-length
     returns)

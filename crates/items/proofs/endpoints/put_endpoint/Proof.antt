@@ -7,28 +7,14 @@ use Rattle.items.proofs.endpoints.Laws.{endpoint-put}
 plain-word-requires : tie.Need-plain-word-requires
 plain-word-requires c κs = search needs
 
-put-word-requires : tie.Need-put-word-requires
-put-word-requires c κs = search needs
-
-add-put-word : tie.Need-add-put-word
-add-put-word c = search needs
-
-put-word-requires-2 : tie.Need-put-word-requires-2
-put-word-requires-2 c κs = search needs
+put-two-requires : tie.Need-put-two-requires
+put-two-requires c κs = search needs
 
 same-length : tie.Need-same-length
 same-length c = search needs
 
 returns : tie.Need-returns
-returns c = endpoint-put (c .before .before .before .before .before .before .before .before .before .before .args .at) _ _ (now (c .before .before .before .before .before .before .before .before .before .before .args .out)) _ _ (c .before .before .before .before .before .before .before .before .before .before .pre) (c .before .before .before .before .before .before .before .plain-word .ensures) (c .before .before .before .before .before .before .put-word .ensures) (c .before .before .put-word2 .ensures)
+returns c = endpoint-put (c .before .before .before .before .before .before .args .at) _ _ (now (c .before .before .before .before .before .before .args .out)) _ (c .before .before .before .plain-word .ensures) (c .before .before .put-two .ensures)
 
 pub put-endpoint-spec : {M : Type 1} → statement M
-put-endpoint-spec =
-    tie.close
-    (tie.spec
-    plain-word-requires
-    put-word-requires
-    add-put-word
-    put-word-requires-2
-    same-length
-    returns)
+put-endpoint-spec = tie.close (tie.spec plain-word-requires put-two-requires same-length returns)

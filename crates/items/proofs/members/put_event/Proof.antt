@@ -19,23 +19,23 @@ mul-t9 c = omega (arith, c .before .before .before .before .pre .1 .1 .sensitive
 add-t10 : tie.Need-add-t10
 add-t10 c = omega (arith, c .before .before .before .before .pre .1 .1 .rank, c .before .before .before .before .pre .1 .1 .sensitive)
 
-sub-put-word : tie.Need-sub-put-word
-sub-put-word c = c .before .before .before .before .before .pre .1 .1 .name-to
+sub-t11 : tie.Need-sub-t11
+sub-t11 c = c .before .before .before .before .before .pre .1 .1 .name-to
 
-put-documented-requires : tie.Need-put-documented-requires
-put-documented-requires c κs = (omega (arith, c .before .before .before .before .before .before .pre .0), (documented-fits (record { kind = 9; place = 0; doc = c .before .before .before .before .before .before .args .front .doc; maturity = c .before .before .before .before .before .before .args .front .maturity }) (front-kept (c .before .before .before .before .before .before .args .front) (c .before .before .before .before .before .before .pre .1 .0) refl refl) (omega arith) (c .before .before .before .before .doc-bit .ensures) (omega (arith, c .before .before .before .before .before .before .pre .1 .1 .rank, c .before .before .before .before .before .before .pre .1 .1 .sensitive)) (omega (arith, c .before .before .before .before .before .before .pre .1 .1 .name-to, c .before .before .before .before .before .before .pre .1 .1 .before)) (omega (arith, c .before .before .before .before .before .before .pre .1 .1 .name-to, c .before .before .before .before .before .before .pre .1 .1 .before)) (c .before .before .before .before .before .before .pre .1 .1 .privilege) (omega arith), c .before .before .before .before .before .before .pre .1 .0 .doc-fits))
+first-word-requires : tie.Need-first-word-requires
+first-word-requires c κs = documented-fits (record { kind = 9; place = 0; doc = c .before .before .before .before .before .before .args .front .doc; maturity = c .before .before .before .before .before .before .args .front .maturity }) (front-kept (c .before .before .before .before .before .before .args .front) (c .before .before .before .before .before .before .pre .1 .0) refl refl) (omega arith) (c .before .before .before .before .doc-bit .ensures) (omega (arith, c .before .before .before .before .before .before .pre .1 .1 .rank, c .before .before .before .before .before .before .pre .1 .1 .sensitive)) (omega (arith, c .before .before .before .before .before .before .pre .1 .1 .name-to, c .before .before .before .before .before .before .pre .1 .1 .before)) (omega (arith, c .before .before .before .before .before .before .pre .1 .1 .name-to, c .before .before .before .before .before .before .pre .1 .1 .before)) (c .before .before .before .before .before .before .pre .1 .1 .privilege) (omega arith)
 
-add-put-word : tie.Need-add-put-word
-add-put-word c = search needs
+doc-word-requires : tie.Need-doc-word-requires
+doc-word-requires c κs = c .before .before .before .before .before .before .before .pre .1 .0 .doc-fits
 
-put-word-requires : tie.Need-put-word-requires
-put-word-requires c κs = search needs
+put-three-requires : tie.Need-put-three-requires
+put-three-requires c κs = search needs
 
 same-length : tie.Need-same-length
 same-length c = search needs
 
 returns : tie.Need-returns
-returns c = event-first-put (c .before .before .before .before .before .before .before .before .before .before .before .before .before .args .front) (c .before .before .before .before .before .before .before .before .before .before .before .before .before .args .head) (c .before .before .before .before .before .before .before .before .before .before .before .before .before .args .at) _ (now (c .before .before .before .before .before .before .before .before .before .before .before .before .before .args .out)) _ _ (c .before .before .before .before .before .before .before .before .before .before .before .before .before .pre .0) (c .before .before .before .before .before .before .before .before .before .before .before .doc-bit .ensures) (c .before .before .before .before .before .before .put-documented .ensures) (c .before .before .put-word .ensures)
+returns c = event-first-put (c .before .before .before .before .before .before .before .before .before .before .before .args .front) (c .before .before .before .before .before .before .before .before .before .before .before .args .head) (c .before .before .before .before .before .before .before .before .before .before .before .args .at) _ _ _ (now (c .before .before .before .before .before .before .before .before .before .before .before .args .out)) _ (c .before .before .before .before .before .before .before .before .before .doc-bit .ensures) (c .before .before .before .before .first-word .ensures) (c .before .before .before .doc-word .ensures) (c .before .before .put-three .ensures)
 
 pub put-event-spec : {M : Type 1} → statement M
 put-event-spec =
@@ -45,9 +45,9 @@ put-event-spec =
     mul-t8
     mul-t9
     add-t10
-    sub-put-word
-    put-documented-requires
-    add-put-word
-    put-word-requires
+    sub-t11
+    first-word-requires
+    doc-word-requires
+    put-three-requires
     same-length
     returns)

@@ -12,35 +12,35 @@ doc-bit-requires c κs = tt
 kind-number-requires : tie.Need-kind-number-requires
 kind-number-requires c κs = tt
 
-mul-t10 : tie.Need-mul-t10
-mul-t10 c = omega (arith, kind-small (c .before .before .before .args .head .kind), c .kind-number .ensures)
-
 mul-t11 : tie.Need-mul-t11
-mul-t11 c = omega (arith, c .before .before .before .before .pre .1 .1 .few-flags)
+mul-t11 c = omega (arith, kind-small (c .before .before .before .args .head .kind), c .kind-number .ensures)
 
-add-t12 : tie.Need-add-t12
-add-t12 c = omega (arith, kind-small (c .before .before .before .before .args .head .kind), c .before .kind-number .ensures, c .before .before .before .before .pre .1 .1 .few-flags)
+mul-t12 : tie.Need-mul-t12
+mul-t12 c = omega (arith, c .before .before .before .before .pre .1 .1 .few-flags)
 
-sub-put-word : tie.Need-sub-put-word
-sub-put-word c = c .before .before .before .before .before .pre .1 .1 .name-to
+add-t13 : tie.Need-add-t13
+add-t13 c = omega (arith, kind-small (c .before .before .before .before .args .head .kind), c .before .kind-number .ensures, c .before .before .before .before .pre .1 .1 .few-flags)
 
-put-documented-requires : tie.Need-put-documented-requires
-put-documented-requires c κs = (omega (arith, c .before .before .before .before .before .before .pre .0), (documented-fits (c .before .before .before .before .before .before .args .front) (c .before .before .before .before .before .before .pre .1 .0) (omega arith) (c .before .before .before .before .doc-bit .ensures) (omega (arith, kind-small (c .before .before .before .before .before .before .args .head .kind), c .before .before .before .kind-number .ensures, c .before .before .before .before .before .before .pre .1 .1 .few-flags)) (omega (arith, c .before .before .before .before .before .before .pre .1 .1 .name-to, c .before .before .before .before .before .before .pre .1 .1 .before)) (omega (arith, c .before .before .before .before .before .before .pre .1 .1 .name-to, c .before .before .before .before .before .before .pre .1 .1 .before)) (omega arith) (omega arith), c .before .before .before .before .before .before .pre .1 .0 .doc-fits))
-
-add-put-word : tie.Need-add-put-word
-add-put-word c = search needs
+sub-t14 : tie.Need-sub-t14
+sub-t14 c = c .before .before .before .before .before .pre .1 .1 .name-to
 
 response-number-requires : tie.Need-response-number-requires
 response-number-requires c κs = tt
 
-put-word-requires : tie.Need-put-word-requires
-put-word-requires c κs = search needs
+first-word-requires : tie.Need-first-word-requires
+first-word-requires c κs = documented-fits (c .before .before .before .before .before .before .before .args .front) (c .before .before .before .before .before .before .before .pre .1 .0) (omega arith) (c .before .before .before .before .before .doc-bit .ensures) (omega (arith, kind-small (c .before .before .before .before .before .before .before .args .head .kind), c .before .before .before .before .kind-number .ensures, c .before .before .before .before .before .before .before .pre .1 .1 .few-flags)) (omega (arith, c .before .before .before .before .before .before .before .pre .1 .1 .name-to, c .before .before .before .before .before .before .before .pre .1 .1 .before)) (omega (arith, c .before .before .before .before .before .before .before .pre .1 .1 .name-to, c .before .before .before .before .before .before .before .pre .1 .1 .before)) (omega arith) (omega arith)
+
+doc-word-requires : tie.Need-doc-word-requires
+doc-word-requires c κs = c .before .before .before .before .before .before .before .before .pre .1 .0 .doc-fits
+
+put-three-requires : tie.Need-put-three-requires
+put-three-requires c κs = search needs
 
 same-length : tie.Need-same-length
 same-length c = search needs
 
 returns : tie.Need-returns
-returns c = struct-first-put (c .before .before .before .before .before .before .before .before .before .before .before .before .before .before .args .front) (c .before .before .before .before .before .before .before .before .before .before .before .before .before .before .args .head) (c .before .before .before .before .before .before .before .before .before .before .before .before .before .before .args .at) _ _ _ (now (c .before .before .before .before .before .before .before .before .before .before .before .before .before .before .args .out)) _ _ (c .before .before .before .before .before .before .before .before .before .before .before .before .before .before .pre .0) (c .before .before .before .before .before .before .before .before .before .before .before .before .doc-bit .ensures) (c .before .before .before .before .before .before .before .before .before .before .before .kind-number .ensures) (c .before .before .before .before .before .before .before .put-documented .ensures) (c .before .before .before .response-number .ensures) (c .before .before .put-word .ensures)
+returns c = struct-first-put (c .before .before .before .before .before .before .before .before .before .before .before .before .args .front) (c .before .before .before .before .before .before .before .before .before .before .before .before .args .head) (c .before .before .before .before .before .before .before .before .before .before .before .before .args .at) _ _ _ _ _ (now (c .before .before .before .before .before .before .before .before .before .before .before .before .args .out)) _ (c .before .before .before .before .before .before .before .before .before .before .doc-bit .ensures) (c .before .before .before .before .before .before .before .before .before .kind-number .ensures) (c .before .before .before .before .first-word .ensures) (c .before .before .before .doc-word .ensures) (c .before .before .before .before .before .before .response-number .ensures) (c .before .before .put-three .ensures)
 
 pub put-struct-spec : {M : Type 1} → statement M
 put-struct-spec =
@@ -48,13 +48,13 @@ put-struct-spec =
     (tie.spec
     doc-bit-requires
     kind-number-requires
-    mul-t10
     mul-t11
-    add-t12
-    sub-put-word
-    put-documented-requires
-    add-put-word
+    mul-t12
+    add-t13
+    sub-t14
     response-number-requires
-    put-word-requires
+    first-word-requires
+    doc-word-requires
+    put-three-requires
     same-length
     returns)

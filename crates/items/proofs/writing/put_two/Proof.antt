@@ -1,7 +1,6 @@
 use borrow.Author.Needs.{needs}
 use Rattle.items.proofs.writing.put_two.Statement.{statement}
 use Rattle.items.proofs.writing.put_two.Tie as tie
-use mathlib.Core.Path.{refl}
 use denote.Ref.{now}
 use Rattle.items.proofs.writing.Laws.{put-two}
 
@@ -18,7 +17,7 @@ same-length : tie.Need-same-length
 same-length c = search needs
 
 returns : tie.Need-returns
-returns c = put-two (c .before .before .before .before .before .before .before .before .before .args .at) (now (c .before .before .before .before .before .before .before .before .before .args .out)) _ _ (c .before .before .before .before .before .before .before .before .before .pre) refl (c .before .before .before .before .before .before .put-word .ensures) refl (c .before .before .put-word2 .ensures)
+returns c = put-two (c .before .before .before .before .before .before .before .before .before .args .at) _ _ (now (c .before .before .before .before .before .before .before .before .before .args .out)) _ _ (c .before .before .before .before .before .before .before .before .before .pre) (c .before .before .before .before .before .before .put-word .ensures) (c .before .before .put-word2 .ensures)
 
 pub put-two-spec : {M : Type 1} → statement M
 put-two-spec =
