@@ -15,7 +15,7 @@ ghost use Rattle.items.specs.answers.names.{NamedTo};
 ghost use Rattle.items.specs.answers.members.{LevelTo};
 ghost use Rattle.items.specs.answers.endpoints.{DeviceTypeTo, deviceTypeLost, ValueTo, valueOf, SpanIn, optionalValue, DefaultTo, DefaultIn, defaultOf, defaultLost, InstanceIn, AttributeInstanceTo, triedLost, TriedTo, DeepTo, TryRoom, TryWritten};
 ghost use Rattle.items.specs.declared.endpoints.ValueRead.the-variants.{NoValue};
-ghost use Rattle.items.specs.inner.endpoints.{furtherLost, triedEnd, deep-close, deep-rest, blank-binding, plainWord, name-parts, device-parts, instance-parts, endpoint-first};
+ghost use Rattle.items.specs.inner.endpoints.{NoNumberAt, furtherLost, triedEnd, deep-close, deep-rest, blank-binding, plainWord, name-parts, device-parts, instance-parts, endpoint-first};
 use crate::counts::Count;
 use crate::counts::count_lost;
 use crate::members::Level;
@@ -225,7 +225,30 @@ pub fn attribute_handling_type(part: &[u8], base: usize) -> Level
     }
 }
 
-// The value of a default. Each try but the last fails at its start, so the place of the last is the furthest.
+// The value of a default where no number stands. Each try but the last fails at its start, so the place of the last is the furthest.
+fn word_value(part: &[u8], base: usize) -> ValueRead
+    requires { ⌜ base + length (now part) ≤ text-limit ⌝ }
+    requires { ⌜ NoNumberAt base (now part) ⌝ }
+    ensures { λ r. ⌜ ValueTo value-tries r base (now (part .entry)) ⌝ }
+{
+    let yes = keyword(part, base, b"true");
+    if let Step::Next(c) = yes {
+        return ValueRead::Read(DefaultValue::Truth(true), c);
+    }
+    let no = keyword(part, base, b"false");
+    if let Step::Next(c) = no {
+        return ValueRead::Read(DefaultValue::Truth(false), c);
+    }
+    let string = default_string(part, base);
+    let Step::Next(c) = string else {
+        return ValueRead::NoValue(step_lost(string));
+    };
+    let start = base + 1;
+    let length = c - 1 - start;
+    ValueRead::Read(DefaultValue::Text(SpanParts { start, length }), c)
+}
+
+// The value of a default: numbers first.
 fn value_tries(part: &[u8], base: usize) -> ValueRead
     requires { ⌜ base + length (now part) ≤ text-limit ⌝ }
     ensures { λ r. ⌜ ValueTo value-tries r base (now (part .entry)) ⌝ }
@@ -242,21 +265,7 @@ fn value_tries(part: &[u8], base: usize) -> ValueRead
     if let SignedNumber::Sized(negative, v, c) = signed {
         return ValueRead::Read(DefaultValue::Signed(negative, v), c);
     }
-    let yes = keyword(part, base, b"true");
-    if let Step::Next(c) = yes {
-        return ValueRead::Read(DefaultValue::Truth(true), c);
-    }
-    let no = keyword(part, base, b"false");
-    if let Step::Next(c) = no {
-        return ValueRead::Read(DefaultValue::Truth(false), c);
-    }
-    let string = default_string(part, base);
-    let Step::Next(c) = string else {
-        return ValueRead::NoValue(step_lost(string));
-    };
-    let start = base + 1;
-    let length = c - 1 - start;
-    ValueRead::Read(DefaultValue::Text(SpanParts { start, length }), c)
+    word_value(part, base)
 }
 
 pub fn default_attribute_value(part: &[u8], base: usize) -> ValueRead
