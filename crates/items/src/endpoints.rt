@@ -9,14 +9,18 @@ ghost use Rattle.lexing.specs.answers.{tagReply, numberReply};
 ghost use Rattle.items.specs.layout.{text-limit, layout-20, further-word, catalogue-bytes};
 ghost use Rattle.items.specs.buffers.{put};
 ghost use Rattle.items.specs.records.{each, twos-complement, default-number, default-word, instance-record, part-records, endpoint-records};
-ghost use Rattle.items.specs.endpoints.{name-behind, named-after, device-version, value-tries, default-attribute-value, attribute-instantiation, deep-run, deep-braces, instance-tries, instantiation, instantiation-head, cluster-instantiation, part-tries, endpoint-head, endpoint};
+ghost use Rattle.items.specs.endpoints.{name-behind, named-after, device-version, value-tries, default-attribute-value, attribute-handling-type, attribute-instantiation, deep-run, deep-braces, instance-tries, instantiation, instantiation-head, cluster-instantiation, part-tries, endpoint-head, endpoint};
 ghost use Rattle.items.specs.answers.{Skips, NameIn, CountTo, Room, Written};
 ghost use Rattle.items.specs.answers.names.{NamedTo};
-ghost use Rattle.items.specs.answers.endpoints.{DeviceTypeTo, deviceTypeLost, HandlingTo, handlingLost, ValueTo, valueOf, SpanIn, optionalValue, DefaultTo, DefaultIn, defaultOf, defaultLost, InstanceIn, AttributeInstanceTo, triedLost, TriedTo, DeepTo, TryRoom, TryWritten};
+ghost use Rattle.items.specs.answers.members.{LevelTo};
+ghost use Rattle.items.specs.answers.endpoints.{DeviceTypeTo, deviceTypeLost, ValueTo, valueOf, SpanIn, optionalValue, DefaultTo, DefaultIn, defaultOf, defaultLost, InstanceIn, AttributeInstanceTo, triedLost, TriedTo, DeepTo, TryRoom, TryWritten};
 ghost use Rattle.items.specs.declared.endpoints.ValueRead.the-variants.{NoValue};
-ghost use Rattle.items.specs.inner.endpoints.{furtherLost, triedEnd, deep-close, deep-rest, blank-binding, plainWord, name-parts, device-parts, instance-parts, endpoint-first};
+ghost use Rattle.items.specs.inner.endpoints.{NoNumberAt, furtherLost, triedEnd, deep-close, deep-rest, blank-binding, plainWord, name-parts, device-parts, instance-parts, endpoint-first};
 use crate::counts::Count;
 use crate::counts::count_lost;
+use crate::members::Level;
+use crate::members::level_by;
+use crate::members::level_lost;
 use crate::names::Named;
 use crate::names::code_behind;
 use crate::names::keyword_name;
@@ -42,11 +46,13 @@ use lexing::blanks::Gap;
 use lexing::blanks::gap_lost;
 use lexing::blanks::whitespace0;
 use lexing::blanks::whitespace1;
+use lexing::bytes::lower_of;
 use lexing::integers::Number;
 use lexing::integers::SignedNumber;
 use lexing::integers::number_lost;
 use lexing::integers::positive_integer;
 use lexing::integers::signed_integer;
+use lexing::parts::peek;
 use lexing::parts::rest_at;
 use lexing::strings::default_string;
 use lexing::words::keyword;
@@ -63,12 +69,6 @@ pub struct DeviceTypeParts {
 pub enum DeviceTypeRead {
     DeviceType(DeviceTypeParts, usize),
     NoDeviceType(Lost),
-}
-
-// How an attribute is held: ram, callback, persist = 0 to 2.
-pub enum HandlingRead {
-    Handling(u8, usize),
-    NoHandling(Lost),
 }
 
 // The bytes between two quotes.
@@ -213,36 +213,44 @@ pub fn device_type_lost(r: DeviceTypeRead) -> Lost
     }
 }
 
-// Where none stands it fails at its start, as each keyword does.
-pub fn attribute_handling_type(part: &[u8], base: usize) -> HandlingRead
+// How an attribute is held: ram, callback, persist = 0 to 2; the first letter leaves one of them.
+pub fn attribute_handling_type(part: &[u8], base: usize) -> Level
     requires { ⌜ base + length (now part) ≤ text-limit ⌝ }
-    ensures { λ r. ⌜ HandlingTo r base (now (part .entry)) ⌝ }
+    ensures { λ r. ⌜ LevelTo attribute-handling-type r base (now (part .entry)) ⌝ }
 {
-    let ram = keyword(part, base, b"ram");
-    if let Step::Next(c) = ram {
-        return HandlingRead::Handling(0, c);
-    }
-    let callback = keyword(part, base, b"callback");
-    if let Step::Next(c) = callback {
-        return HandlingRead::Handling(1, c);
-    }
-    let persist = keyword(part, base, b"persist");
-    if let Step::Next(c) = persist {
-        return HandlingRead::Handling(2, c);
-    }
-    HandlingRead::NoHandling(Lost::Fail(base))
-}
-
-pub fn handling_lost(r: HandlingRead) -> Lost
-    ensures { λ x. ⌜ x ≡ handlingLost r ⌝ }
-{
-    match r {
-        HandlingRead::Handling(_, c) => Lost::Fail(c),
-        HandlingRead::NoHandling(l) => l,
+    let x = lower_of(peek(part, 0));
+    match x {
+        b'r' => level_by(part, base, b"ram", 0),
+        b'c' => level_by(part, base, b"callback", 1),
+        b'p' => level_by(part, base, b"persist", 2),
+        _ => Level::NoLevel(Lost::Fail(base)),
     }
 }
 
-// The value of a default. Each try but the last fails at its start, so the place of the last is the furthest.
+// The value of a default where no number stands. Each try but the last fails at its start, so the place of the last is the furthest.
+fn word_value(part: &[u8], base: usize) -> ValueRead
+    requires { ⌜ base + length (now part) ≤ text-limit ⌝ }
+    requires { ⌜ NoNumberAt base (now part) ⌝ }
+    ensures { λ r. ⌜ ValueTo value-tries r base (now (part .entry)) ⌝ }
+{
+    let yes = keyword(part, base, b"true");
+    if let Step::Next(c) = yes {
+        return ValueRead::Read(DefaultValue::Truth(true), c);
+    }
+    let no = keyword(part, base, b"false");
+    if let Step::Next(c) = no {
+        return ValueRead::Read(DefaultValue::Truth(false), c);
+    }
+    let string = default_string(part, base);
+    let Step::Next(c) = string else {
+        return ValueRead::NoValue(step_lost(string));
+    };
+    let start = base + 1;
+    let length = c - 1 - start;
+    ValueRead::Read(DefaultValue::Text(SpanParts { start, length }), c)
+}
+
+// The value of a default: numbers first.
 fn value_tries(part: &[u8], base: usize) -> ValueRead
     requires { ⌜ base + length (now part) ≤ text-limit ⌝ }
     ensures { λ r. ⌜ ValueTo value-tries r base (now (part .entry)) ⌝ }
@@ -259,21 +267,7 @@ fn value_tries(part: &[u8], base: usize) -> ValueRead
     if let SignedNumber::Sized(negative, v, c) = signed {
         return ValueRead::Read(DefaultValue::Signed(negative, v), c);
     }
-    let yes = keyword(part, base, b"true");
-    if let Step::Next(c) = yes {
-        return ValueRead::Read(DefaultValue::Truth(true), c);
-    }
-    let no = keyword(part, base, b"false");
-    if let Step::Next(c) = no {
-        return ValueRead::Read(DefaultValue::Truth(false), c);
-    }
-    let string = default_string(part, base);
-    let Step::Next(c) = string else {
-        return ValueRead::NoValue(step_lost(string));
-    };
-    let start = base + 1;
-    let length = c - 1 - start;
-    ValueRead::Read(DefaultValue::Text(SpanParts { start, length }), c)
+    word_value(part, base)
 }
 
 pub fn default_attribute_value(part: &[u8], base: usize) -> ValueRead
@@ -340,8 +334,8 @@ pub fn attribute_instantiation(part: &[u8], base: usize) -> AttributeInstanceRea
     ensures { λ r. ⌜ AttributeInstanceTo r base (now (part .entry)) ⌝ }
 {
     let held = attribute_handling_type(part, base);
-    let HandlingRead::Handling(handling, c1) = held else {
-        return AttributeInstanceRead::NoAttributeInstance(handling_lost(held));
+    let Level::Chosen(handling, c1) = held else {
+        return AttributeInstanceRead::NoAttributeInstance(level_lost(held));
     };
     let gap = gap_at(part, base, c1);
     let Step::Next(c2) = gap else {

@@ -130,7 +130,7 @@ pub enum CommandRead {
 }
 
 // A keyword that stands for a level.
-fn level_by(part: &[u8], base: usize, key: &[u8], level: u8) -> Level
+pub fn level_by(part: &[u8], base: usize, key: &[u8], level: u8) -> Level
     requires { ⌜ base + length (now part) ≤ text-limit ⌝ }
     requires { ⌜ level < 4 ⌝ }
     ensures { λ r. ⌜ LevelTo (numbered (now (key .entry)) level) r base (now (part .entry)) ⌝ }

@@ -22,6 +22,9 @@ privileges = (ascii "view", 0) ∷ (ascii "operate", 1) ∷ (ascii "manage", 2) 
 abbrev pub priorities : List (List ℕ × ℕ)
 priorities = (ascii "info", 1) ∷ (ascii "critical", 0) ∷ []
 
+abbrev pub handlings : List (List ℕ × ℕ)
+handlings = (ascii "ram", 0) ∷ (ascii "callback", 1) ∷ []
+
 module _ (b : ℕ) (u : List ℕ) where
   pub level-as : {m n : Parser ℕ} → n b u ≡ m b u → {r : Level} → LevelTo m r b u → LevelTo n r b u
   level-as e h = record { reads = h .reads ∙ sym e; within = h .within }

@@ -13,14 +13,12 @@ use Rattle.lexing.specs.declared.answers.Lost.the-variants.{Fail, Stop}
 use Rattle.items.specs.clusters.{mapped}
 use Rattle.items.specs.records.{Record}
 use Rattle.items.specs.layout.{word-count}
-use Rattle.items.specs.endpoints.{Tried as TriedOf, Deep, DeviceType as DeviceTypeOf, device-type, Default as DefaultOf, number, signed-number, truth, text, default-attribute-value, attribute-handling-type, AttributeInstance as AttributeInstanceOf, attribute-instantiation}
+use Rattle.items.specs.endpoints.{Tried as TriedOf, Deep, DeviceType as DeviceTypeOf, device-type, Default as DefaultOf, number, signed-number, truth, text, default-attribute-value, AttributeInstance as AttributeInstanceOf, attribute-instantiation}
 use Rattle.items.specs.answers.{ReadTo, NameIn, wordBetween, Room, Written}
 use Rattle.items.specs.declared.writing.Wrote.{Wrote}
 use Rattle.items.specs.declared.endpoints.DeviceTypeParts.{DeviceTypeParts}
 use Rattle.items.specs.declared.endpoints.DeviceTypeRead.{DeviceTypeRead}
 use Rattle.items.specs.declared.endpoints.DeviceTypeRead.the-variants.{DeviceType, NoDeviceType}
-use Rattle.items.specs.declared.endpoints.HandlingRead.{HandlingRead}
-use Rattle.items.specs.declared.endpoints.HandlingRead.the-variants.{Handling, NoHandling}
 use Rattle.items.specs.declared.endpoints.DefaultValue.{DefaultValue}
 use Rattle.items.specs.declared.endpoints.DefaultValue.the-variants.{Number, Signed, Truth, Text}
 use Rattle.items.specs.declared.endpoints.ValueRead.{ValueRead}
@@ -53,22 +51,6 @@ DeviceTypeIn b (NoDeviceType l) = Unit {0}
 
 abbrev pub DeviceTypeTo : DeviceTypeRead → ℕ → List ℕ → Type 0
 DeviceTypeTo r b u = ReadTo deviceTypeAnswer DeviceTypeIn device-type r b u
-
--- handlings
-abbrev pub handlingAnswer : ℕ → List ℕ → HandlingRead → Answer ℕ
-handlingAnswer b u (Handling h c) = got h c
-handlingAnswer b u (NoHandling l) = lost l
-
-abbrev pub handlingLost : HandlingRead → Lost
-handlingLost (Handling h c) = Fail c
-handlingLost (NoHandling l) = l
-
-abbrev pub HandlingIn : ℕ → HandlingRead → Type 0
-HandlingIn b (Handling h c) = h < 3
-HandlingIn b (NoHandling l) = Unit {0}
-
-abbrev pub HandlingTo : HandlingRead → ℕ → List ℕ → Type 0
-HandlingTo r b u = ReadTo handlingAnswer HandlingIn attribute-handling-type r b u
 
 -- values of defaults
 abbrev pub valueOf : DefaultValue → DefaultOf
@@ -141,7 +123,7 @@ attributeInstanceLost (AttributeInstance a c) = Fail c
 attributeInstanceLost (NoAttributeInstance l) = l
 
 pub record InstanceIn (b : ℕ) (a : AttributeInstanceParts) (c : ℕ) : Type 0 where
-  pub small : a .handling < 3
+  pub small : a .handling < 4
   pub named : NameIn b (a .name) (a .end) c
   pub spanned : DefaultIn (a .default) c
 

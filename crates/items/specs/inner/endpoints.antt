@@ -1,14 +1,16 @@
 -- What the private functions of the readers of endpoints promise.
 use Prim.Native.Nat.{ℕ, _-_, max}
+use mathlib.Core.Path.{_≡_}
 use mathlib.Core.List.{List, [], _∷_}
 use Rattle.lexing.specs.bytes.{ascii, byte}
-use Rattle.lexing.specs.reply.{Parser, ret, _>>=_, _>>_, catch, failAt}
+use Rattle.lexing.specs.reply.{fail, Parser, ret, _>>=_, _>>_, catch, failAt}
 use Rattle.lexing.specs.words.{Word, tag}
+use Rattle.lexing.specs.integers.{positive-integer, signed-integer}
 use Rattle.lexing.specs.blanks.{whitespace0}
 use Rattle.lexing.specs.declared.answers.Lost.{Lost}
 use Rattle.lexing.specs.declared.answers.Lost.the-variants.{Fail, Stop}
 use Rattle.items.specs.clusters.{mapped}
-use Rattle.items.specs.endpoints.{Tried as TriedOf, Deep, deep-run, named-after}
+use Rattle.items.specs.endpoints.{Tried as TriedOf, Deep, deep-run, number, signed-number, named-after}
 use Rattle.items.specs.records.{Record, absent, at, bits, value, plain, default-number, default-word}
 use Rattle.items.specs.answers.{first-of}
 use Rattle.items.specs.answers.endpoints.{defaultOf}
@@ -16,6 +18,11 @@ use Rattle.items.specs.declared.endpoints.DeviceTypeParts.{DeviceTypePar
 use Rattle.items.specs.declared.endpoints.AttributeInstanceParts.{AttributeInstanceParts}
 use Rattle.items.specs.declared.endpoints.Tried.{Tried}
 use Rattle.items.specs.declared.endpoints.Tried.the-variants.{Found, NotFound}
+
+-- no number stands at b, as the value of a default
+pub record NoNumberAt (b : ℕ) (u : List ℕ) : Type 0 where
+  pub unsigned : fail b ≡ mapped positive-integer number b u
+  pub with-sign : fail b ≡ mapped signed-integer signed-number b u
 
 -- what is lost, its place no nearer than the furthest so far
 abbrev pub furtherLost : Lost → ℕ → Lost

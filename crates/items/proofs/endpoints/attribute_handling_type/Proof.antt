@@ -1,84 +1,68 @@
 use borrow.Author.Needs.{needs}
 use Rattle.items.proofs.endpoints.attribute_handling_type.Statement.{statement}
 use Rattle.items.proofs.endpoints.attribute_handling_type.Tie as tie
-use native.Mathlib.Omega.{arith}
-use Rattle.lexing.specs.bytes.{ascii}
-use Rattle.lexing.proofs.Slicing.{or-here}
+use mathlib.Core.Path.{refl, sym, ap, _∙_}
+use mathlib.Core.List.{[], _∷_}
+use Rattle.lexing.specs.bytes.{ascii, lower}
+use Rattle.lexing.specs.word_sets.{same-bytes}
 use Rattle.items.specs.endpoints.{attribute-handling-type}
-use Rattle.items.proofs.Keywords.{keyword-value, keyword-not}
-use mathlib.Core.Path.{refl}
-use Rattle.items.proofs.Answers.{read-is, read-not}
-use Rattle.items.proofs.Choice.{or-past}
+use Rattle.items.specs.inner.maturity.{numbered}
+use Rattle.items.proofs.Alternatives.{one-of-all, last-of-all}
+use Rattle.items.proofs.members.Levels.{level-as, level-other, handlings}
 
-slice-aggregate-keyword : tie.Need-slice-aggregate-keyword
-slice-aggregate-keyword c = search needs
+peek-requires : tie.Need-peek-requires
+peek-requires c κs = tt
 
-keyword-requires : tie.Need-keyword-requires
-keyword-requires c κs = search needs
+lower-of-requires : tie.Need-lower-of-requires
+lower-of-requires c κs = tt
 
-enum-known-ram : tie.Need-enum-known-ram
-enum-known-ram c = c .match .keys1
+slice-aggregate-level-by : tie.Need-slice-aggregate-level-by
+slice-aggregate-level-by c = search needs
+
+level-by-requires : tie.Need-level-by-requires
+level-by-requires c κs = search needs
+
+slice-aggregate-level-by-2 : tie.Need-slice-aggregate-level-by-2
+slice-aggregate-level-by-2 c = search needs
+
+level-by-requires-2 : tie.Need-level-by-requires-2
+level-by-requires-2 c κs = search needs
+
+slice-aggregate-level-by-3 : tie.Need-slice-aggregate-level-by-3
+slice-aggregate-level-by-3 c = search needs
+
+level-by-requires-3 : tie.Need-level-by-requires-3
+level-by-requires-3 c κs = search needs
 
 returns : tie.Need-returns
-unfolding attribute-handling-type
-returns c = read-is refl (or-here _ _ _ _ _ _ _ (keyword-value (ascii "ram") 0 _ _ _ (c .before .before .before .keyword .ensures) _ (c .before .ram .given .1))) (omega arith)
-
-enum-told : tie.Need-enum-told
-enum-told c = c .match .keys2
-
-slice-aggregate-keyword-2 : tie.Need-slice-aggregate-keyword-2
-slice-aggregate-keyword-2 c = search needs
-
-keyword-requires-2 : tie.Need-keyword-requires-2
-keyword-requires-2 c κs = search needs
-
-enum-known-callback : tie.Need-enum-known-callback
-enum-known-callback c = c .match2 .keys1
+unfolding same-bytes attribute-handling-type numbered
+returns c = level-as _ _ (one-of-all _ _ _ ((ap lower (sym (c .before .before .before .before .peek .ensures)) ∙ sym (c .before .before .before .lower-of .ensures)) ∙ c .before .before .match .keys1) (ascii "ram") 0 handlings (ascii "persist", 2) refl refl) (c .level-by .ensures)
 
 returns-2 : tie.Need-returns-2
-unfolding attribute-handling-type
-returns-2 c = read-is refl (or-past _ _ _ _ _ (keyword-not (ascii "ram") 0 _ _ _ (c .before .before .before .before .before .before .before .keyword .ensures) _ (c .before .before .before .before .before .enum-told .given .1)) tt (or-here _ _ _ _ _ _ _ (keyword-value (ascii "callback") 1 _ _ _ (c .before .before .before .keyword2 .ensures) _ (c .before .callback .given .1)))) (omega arith)
-
-enum-told-2 : tie.Need-enum-told-2
-enum-told-2 c = c .match2 .keys2
-
-slice-aggregate-keyword-3 : tie.Need-slice-aggregate-keyword-3
-slice-aggregate-keyword-3 c = search needs
-
-keyword-requires-3 : tie.Need-keyword-requires-3
-keyword-requires-3 c κs = search needs
-
-enum-known-persist : tie.Need-enum-known-persist
-enum-known-persist c = c .match3 .keys1
+unfolding same-bytes attribute-handling-type numbered
+returns-2 c = level-as _ _ (one-of-all _ _ _ ((ap lower (sym (c .before .before .before .before .peek .ensures)) ∙ sym (c .before .before .before .lower-of .ensures)) ∙ c .before .before .match .keys2) (ascii "callback") 1 handlings (ascii "persist", 2) refl refl) (c .level-by2 .ensures)
 
 returns-3 : tie.Need-returns-3
-unfolding attribute-handling-type
-returns-3 c = read-is refl (or-past _ _ _ _ _ (keyword-not (ascii "ram") 0 _ _ _ (c .before .before .before .before .before .before .before .before .before .before .before .keyword .ensures) _ (c .before .before .before .before .before .before .before .before .before .enum-told .given .1)) tt (or-past _ _ _ _ _ (keyword-not (ascii "callback") 1 _ _ _ (c .before .before .before .before .before .before .before .keyword2 .ensures) _ (c .before .before .before .before .before .enum-told2 .given .1)) tt (keyword-value (ascii "persist") 2 _ _ _ (c .before .before .before .keyword3 .ensures) _ (c .before .persist .given .1)))) (omega arith)
-
-enum-told-3 : tie.Need-enum-told-3
-enum-told-3 c = c .match3 .keys2
+unfolding same-bytes attribute-handling-type numbered
+returns-3 c = level-as _ _ (last-of-all _ _ _ ((ap lower (sym (c .before .before .before .before .peek .ensures)) ∙ sym (c .before .before .before .lower-of .ensures)) ∙ c .before .before .match .keys3) handlings (ascii "persist", 2) refl) (c .level-by3 .ensures)
 
 returns-4 : tie.Need-returns-4
-unfolding attribute-handling-type
-returns-4 c = read-not _ refl tt (or-past _ _ _ _ _ (keyword-not (ascii "ram") 0 _ _ _ (c .before .before .before .before .before .before .before .before .before .before .keyword .ensures) _ (c .before .before .before .before .before .before .before .before .enum-told .given .1)) (omega arith) (or-past _ _ _ _ _ (keyword-not (ascii "callback") 1 _ _ _ (c .before .before .before .before .before .before .keyword2 .ensures) _ (c .before .before .before .before .enum-told2 .given .1)) (omega arith) (keyword-not (ascii "persist") 2 _ _ _ (c .before .before .keyword3 .ensures) _ (c .enum-told3 .given .1))))
+unfolding attribute-handling-type numbered
+returns-4 c = level-other _ _ (112 ∷ 99 ∷ 114 ∷ []) handlings (ascii "persist", 2) refl _ (c .match .rest) (ap lower (sym (c .before .before .peek .ensures)) ∙ sym (c .before .lower-of .ensures))
 
 pub attribute-handling-type-spec : {M : Type 1} → statement M
 attribute-handling-type-spec =
     tie.close
     (tie.spec
-    slice-aggregate-keyword
-    keyword-requires
-    enum-known-ram
+    peek-requires
+    lower-of-requires
+    slice-aggregate-level-by
+    level-by-requires
+    slice-aggregate-level-by-2
+    level-by-requires-2
+    slice-aggregate-level-by-3
+    level-by-requires-3
     returns
-    enum-told
-    slice-aggregate-keyword-2
-    keyword-requires-2
-    enum-known-callback
     returns-2
-    enum-told-2
-    slice-aggregate-keyword-3
-    keyword-requires-3
-    enum-known-persist
     returns-3
-    enum-told-3
     returns-4)
