@@ -15,7 +15,7 @@ use Rattle.lexing.proofs.Tests.{and-left, and-right}
 use Rattle.lexing.proofs.FirstWord.{Frees}
 use Rattle.lexing.proofs.words.Laws.{keyword-says}
 use Rattle.lexing.proofs.word_sets.Laws.{same-eq}
-use Rattle.items.specs.inner.maturity.{numbered}
+use Rattle.items.specs.answers.members.{numbered}
 use Rattle.items.proofs.Choice.{Past, past-start, or-fail}
 use Rattle.items.proofs.Letters.{all-out, outs-free, or-cases}
 use Rattle.items.proofs.Tries.{then-ok, then-fail}

@@ -11,7 +11,7 @@ ghost use Rattle.items.specs.records.{spanned, event-records};
 ghost use Rattle.items.specs.members.{or-else, access-privilege, event-priority, access-to, invoke-access, parse-event-after-doc-maturity, parse-command-after-doc-maturity};
 ghost use Rattle.items.specs.answers.{CountTo, FrontFits, Room, Written};
 ghost use Rattle.items.specs.answers.members.{levelLost, LevelTo, levelOr, eventQualitiesLost, EventQualitiesTo, eventHeadLost, EventHeadTo, EventCountTo, commandHeadLost, CommandHeadTo, commandTypesLost, CommandTypesTo, commandLost, EventHeadBetween, CommandBetween, CommandTo, command-records};
-ghost use Rattle.items.specs.inner.maturity.{numbered};
+ghost use Rattle.items.specs.answers.members.{numbered};
 ghost use Rattle.items.specs.clusters.{mapped};
 ghost use Rattle.items.specs.inner.members.{event-access, extentIf, commandFront, command-parts, event-first};
 use crate::counts::Count;

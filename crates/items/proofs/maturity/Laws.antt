@@ -15,7 +15,8 @@ use Rattle.lexing.specs.declared.answers.Step.the-variants.{Next, Not}
 use Rattle.lexing.proofs.Slicing.{Took, took, walks, reads-in, or-here, or-next}
 use Rattle.items.specs.entries.{api-maturity}
 use Rattle.items.specs.answers.{MaturityTo}
-use Rattle.items.specs.inner.maturity.{numbered, MaturityBy}
+use Rattle.items.specs.answers.members.{numbered}
+use Rattle.items.specs.inner.maturity.{MaturityBy}
 use Rattle.items.specs.declared.maturity.Maturity.{Maturity}
 use Rattle.items.proofs.Keywords.{keyword-value, keyword-not}
 use Rattle.items.proofs.Letters.{NoneOf, all-begin, initials-free}

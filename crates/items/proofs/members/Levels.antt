@@ -8,7 +8,7 @@ use Rattle.lexing.specs.bytes.{ascii, lower}
 use Rattle.lexing.specs.reply.{Parser}
 use Rattle.lexing.specs.declared.answers.Lost.the-variants.{Fail}
 use Rattle.items.specs.answers.members.{LevelTo}
-use Rattle.items.specs.inner.maturity.{numbered}
+use Rattle.items.specs.answers.members.{numbered}
 use Rattle.items.specs.declared.members.Level.{Level}
 use Rattle.items.specs.declared.members.Level.the-variants.{NoLevel}
 use Rattle.items.proofs.Answers.{read-not}

@@ -4,8 +4,8 @@ use mathlib.Core.Path.{_≡_}
 use mathlib.Core.Option.{Option}
 use mathlib.Core.List.{List, [], _∷_}
 use lib.Dec.{ltb}
-use Rattle.lexing.specs.reply.{Parser}
-use Rattle.lexing.specs.words.{Word}
+use Rattle.lexing.specs.reply.{Parser, ret, _>>_}
+use Rattle.lexing.specs.words.{Word, keyword}
 use Rattle.lexing.specs.answers.{Answer, got, lost, docOf}
 use Rattle.lexing.specs.declared.answers.Lost.{Lost}
 use Rattle.lexing.specs.declared.answers.Lost.the-variants.{Fail, Stop}
@@ -31,6 +31,10 @@ use Rattle.items.specs.declared.members.CommandTypesRead.the-variants.{C
 use Rattle.items.specs.declared.members.CommandParts.{CommandParts}
 use Rattle.items.specs.declared.members.CommandRead.{CommandRead}
 use Rattle.items.specs.declared.members.CommandRead.the-variants.{Command, NoCommand}
+
+-- a keyword that stands for a number
+unfoldable pub numbered : List ℕ → ℕ → Parser ℕ
+numbered k v = keyword k >> ret v
 
 -- the number of a keyword out of at most four
 abbrev pub levelAnswer : ℕ → List ℕ → Level → Answer ℕ

@@ -1,15 +1,11 @@
--- What the private functions of the readers of maturities and levels promise.
+-- What the private functions of the readers of maturities promise.
 use Prim.Native.Nat.{ℕ, _<_}
 use mathlib.Core.Path.{_≡_}
 use mathlib.Core.List.{List}
-use Rattle.lexing.specs.reply.{Parser, ret, _>>_, _or_}
-use Rattle.lexing.specs.words.{keyword}
+use Rattle.lexing.specs.reply.{ret, _or_}
 use Rattle.lexing.specs.answers.{got, reply}
+use Rattle.items.specs.answers.members.{numbered}
 use Rattle.items.specs.declared.maturity.Maturity.{Maturity}
-
--- a keyword that stands for a number
-unfoldable pub numbered : List ℕ → ℕ → Parser ℕ
-numbered k v = keyword k >> ret v
 
 -- a maturity that a keyword k says, or that of no word
 pub record MaturityBy (k : List ℕ) (v : ℕ) (r : Maturity) (b : ℕ) (u : List ℕ) : Type 0 where

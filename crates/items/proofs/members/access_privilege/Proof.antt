@@ -6,7 +6,7 @@ use mathlib.Core.List.{[], _∷_}
 use Rattle.lexing.specs.bytes.{ascii, lower}
 use Rattle.lexing.specs.word_sets.{same-bytes}
 use Rattle.items.specs.members.{access-privilege}
-use Rattle.items.specs.inner.maturity.{numbered}
+use Rattle.items.specs.answers.members.{numbered}
 use Rattle.items.proofs.Alternatives.{one-of-all, last-of-all}
 use Rattle.items.proofs.members.Levels.{level-as, level-other, privileges}
 

@@ -2,7 +2,7 @@ use borrow.Author.Needs.{needs}
 use Rattle.items.proofs.members.level_by.Statement.{statement}
 use Rattle.items.proofs.members.level_by.Tie as tie
 use mathlib.Core.Path.{refl}
-use Rattle.items.specs.inner.maturity.{numbered}
+use Rattle.items.specs.answers.members.{numbered}
 use Rattle.lexing.specs.declared.answers.Lost.the-variants.{Fail}
 use Rattle.items.proofs.Keywords.{keyword-value, keyword-not}
 use Rattle.items.proofs.Answers.{read-is, read-not}
