@@ -1,4 +1,4 @@
--- A text whose first word is a keyword: no other keyword stands there, no blank, and no word of a set that lacks it.
+-- A text whose first word is a keyword: no other keyword stands there, and no word of a set that lacks it. A keyword that begins with another byte is not there.
 use mathlib.Core.Path.{_≡_, refl, sym, ap, _∙_}
 use mathlib.Core.Bool.{Bool, true, false, not, _&&_, true≢false, false≢true}
 use mathlib.Core.Logic.{_⊎_, inl, inr}

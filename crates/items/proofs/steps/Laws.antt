@@ -27,10 +27,6 @@ use Rattle.items.proofs.optional.Laws.{skip-took, skip-lost}
 blank-on : Onward whitespace0
 blank-on = walks whitespace0-chain
 
--- the blanks at the front, by their end
-pub blank-ends : {b : ℕ} {u : List ℕ} {t : Blank} → BlankTo t b u → Skips whitespace0 (Next (t .next)) b u
-blank-ends {t = t} h = record { value = docOf (t .doc); reads = h .reads }
-
 pub blank-bounds : {n b : ℕ} {u : List ℕ} → Skips whitespace0 (Next n) b u → (b ≤ n) × (n ≤ b + length u)
 blank-bounds {n} {b} {u} h = let t = skip-took blank-on (rest-self b u) refl h in (t .up, t .inside)
 
