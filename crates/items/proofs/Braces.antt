@@ -2,7 +2,7 @@
 use mathlib.Core.Path.{_≡_, refl, sym, ap, _∙_}
 use mathlib.Core.Bool.{Bool, true, false}
 use mathlib.Core.List.{List, [], _∷_}
-use Prim.Native.Nat.{ℕ, _+_, _-_, _≤_}
+use Prim.Native.Nat.{ℕ, _-_}
 use native.Mathlib.Omega.{arith}
 use lib.Dec.{eqb}
 use lib.ListN.{length, drop}
@@ -11,7 +11,7 @@ use Rattle.lexing.specs.bytes.{isLetter, isSpace, within}
 use Rattle.lexing.specs.reply.{Reply, ok, fail, stop, Parser, ret, _>>=_, _>>_, catch, failAt, keep}
 use Rattle.lexing.specs.words.{keyword, tag}
 use Rattle.lexing.specs.blanks.{Doc, no-doc, one-blank, whitespace0}
-use Rattle.lexing.specs.answers.{Rest, lostReply}
+use Rattle.lexing.specs.answers.{Rest, lostReply, SkipsAt}
 use Rattle.lexing.specs.declared.answers.Lost.{Lost}
 use Rattle.lexing.specs.declared.answers.Lost.the-variants.{Fail, Stop}
 use Rattle.lexing.specs.declared.answers.Step.{Step as Answered}
@@ -25,14 +25,14 @@ use Rattle.lexing.proofs.words.Laws.{keyword-no-word}
 use Rattle.lexing.proofs.Slicing.{Took, took, begin, go, on, lose, fall, done, rest-self, rest-from, suf-drop}
 use Rattle.items.specs.entries.{enclosed, where-missing, braces}
 use Rattle.items.specs.records.{Record}
-use Rattle.items.specs.answers.{SkipsAt, CountTo, Room, Written}
+use Rattle.items.specs.answers.{CountTo, Room, Written}
 use Rattle.items.specs.inner.counts.{EndsIn, closedCount, ClosedTo}
 use Rattle.items.specs.declared.counts.Count.{Count}
 use Rattle.items.specs.declared.counts.Count.the-variants.{Words, NoCount}
 use Rattle.items.specs.declared.writing.Wrote.{Wrote}
 use Rattle.items.proofs.Locality.{close-moves}
 use Rattle.items.proofs.Tries.{bind-fail}
-use Rattle.items.proofs.steps.Laws.{tag-behind-took, skips-lost}
+use Rattle.lexing.proofs.steps.Laws.{tag-behind-took, skips-lost}
 use Rattle.items.proofs.counts.Laws.{Counted, count-took, count-lost, count-is, count-not}
 use Rattle.items.proofs.writing.Laws.{no-room, written-took}
 

@@ -1,6 +1,6 @@
 -- A declaration that is a head and then a list: its first record, and behind it those of the list. Both passes over it.
-use mathlib.Core.Path.{_≡_, refl, sym, ap, _∙_, subst}
-use mathlib.Core.List.{List, [], _∷_, _++_}
+use mathlib.Core.Path.{_≡_, sym, ap, _∙_, subst}
+use mathlib.Core.List.{List, [], _∷_}
 use Prim.Native.Nat.{ℕ, _+_, _-_, _*_, _≤_, _<_}
 use native.Mathlib.Omega.{arith}
 use lib.ListN.{length, drop, length-drop}
@@ -12,8 +12,8 @@ use Rattle.lexing.proofs.Locality.{Consumes}
 use Rattle.lexing.proofs.Slicing.{Took, begin, go, done, lose, rest-self}
 use Rattle.items.specs.records.{Record}
 use Rattle.items.specs.layout.{layout-20, catalogue-bytes, word-count}
-use Rattle.items.specs.buffers.{put}
-use Rattle.items.specs.answers.{CountTo, CountsTo, Room, Written}
+use Rattle.lexing.specs.buffers.{put}
+use Rattle.items.specs.answers.{CountsTo, Room, Written}
 use Rattle.items.specs.declared.writing.Wrote.{Wrote}
 use Rattle.items.specs.declared.counts.Count.{Count}
 use Rattle.items.specs.declared.counts.Count.the-variants.{Words, NoCount}

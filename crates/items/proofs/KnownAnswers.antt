@@ -16,8 +16,9 @@ use Rattle.items.specs.members.{access-privilege, or-else, event-priorit
 use Rattle.items.specs.clusters.{mapped, parse-revision, member-tries, parse-cluster-member, cluster-members, side, cluster-head, cluster-after-doc-maturity, parse-cluster}
 use Rattle.items.specs.endpoints.{intercept, deep-step, deeper, deep-run, deep-place, deep-braces, name-behind, device-version, device-type, value-tries, default-attribute-value, attribute-handling-type, attribute-instantiation, named-after, instance-tries, instantiation-head, cluster-instantiation, part-tries, endpoint-head, endpoint}
 use Rattle.items.specs.items.{with-doc-maturity, item, Item}
-use Rattle.items.specs.records.{moved-extent, moved-further, moved, word-extent, optional-extent, doc-extent, doc-bit, flag, plain, documented, entry-record, choice-records, field-record, struct-number, response-of, struct-records, attribute-records, command-record, event-records, each, last-revision, member-records, cluster-records, default-number, twos-complement, default-word, instance-record, part-records, endpoint-records, item-records}
-use Rattle.items.specs.layout.{packed, width, from-top, offset, size, layout-20, further-word, record-words, big-endian, words-bytes, catalogue-words, catalogue-bytes}
+use Rattle.items.specs.records.{moved-extent, moved-further, moved, word-extent, optional-extent, doc-extent, doc-bit, flag, plain, documented, entry-record, choice-records, field-record, struct-number, response-of, struct-records, attribute-records, command-record, event-records, last-revision, member-records, cluster-records, default-number, twos-complement, default-word, instance-record, part-records, endpoint-records, item-records}
+use Rattle.lexing.specs.buffers.{each, big-endian, words-bytes}
+use Rattle.items.specs.layout.{packed, width, from-top, offset, size, layout-20, further-word, record-words, catalogue-words, catalogue-bytes}
 
 -- an item's words and the next offset, the place where no item is, or a number and a place
 pub data Answer : Type 0 where

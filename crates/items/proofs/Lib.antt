@@ -12,21 +12,16 @@ pub mod Alternatives
 -- tries one after the other, and which of them a first word leaves
 pub mod Choice
 pub mod Tries
--- what an answer gives its caller, of a value and of what a function makes of it
-pub mod Answers
+-- what an answer gives its caller of what a function makes of its value
 pub mod Mapped
 pub mod Recorded
--- several steps taken as one
-pub mod Pairs
--- parts that are dropped, parts between braces, a head and then a list, words by their offsets, and the words of records
-pub mod Dropping
+-- parts between braces, a head and then a list, words by their offsets, and the words of records
 pub mod Braces
 pub mod Headed
 pub mod WordBetween
 pub mod RecordWords
 pub mod SetSizes
--- a parser that succeeds ends inside its text; what is read stands in the text; where it is refused
-pub mod Onward
+-- what is read stands in the text; where it is refused
 pub mod Truth
 pub mod RefusedPlaces
 -- what was packed comes back; a word comes back from its bytes

@@ -5,14 +5,13 @@ use Prim.Native.Nat.{ℕ, _-_}
 use native.Mathlib.Omega.{arith}
 use lib.ListN.{drop}
 use Rattle.lexing.specs.reply.{Reply, ok, fail, stop, Parser, ret, _>>=_, _>>_}
-use Rattle.lexing.specs.answers.{Answer, got, lost, Rest, lostReply, reply}
+use Rattle.lexing.specs.answers.{Answer, got, lost, Rest, lostReply, reply, ReadTo}
 use Rattle.lexing.specs.declared.answers.Lost.{Lost}
 use Rattle.lexing.specs.declared.answers.Lost.the-variants.{Fail, Stop}
 use Rattle.lexing.proofs.Onward.{Onward}
 use Rattle.lexing.proofs.Slicing.{Took, took, begin, on}
 use Rattle.items.specs.clusters.{mapped}
-use Rattle.items.specs.answers.{ReadTo}
-use Rattle.items.proofs.Answers.{reads-as}
+use Rattle.lexing.proofs.AnswerLaws.{reads-as}
 
 abbrev through : {A B : Type 0} → (A → B) → Reply A → Reply B
 through f (ok a c r) = ok (f a) c r

@@ -6,9 +6,10 @@ use native.Mathlib.Omega.{arith}
 use native.Mathlib.Nat.{pow-zero, pow-suc, mul-one, mul-assoc, add-mul, zero-mul, suc-mul, one-le-pow, mul-le-mul-right, mul-add-div-right, mul-add-mod-self-right, div-eq-of-lt, mod-eq-of-lt, div-add-mod', div-lt-iff-lt-mul}
 use lib.ListN.{length, take, drop, getD, length-append}
 use lib.Seq.{take-at, drop-append-add}
-use Rattle.items.specs.records.{Bits, bits, each}
-use Rattle.items.specs.layout.{packed, width, from-top, big-endian, from-big-endian, words-bytes}
-use Rattle.items.proofs.RecordWords.{big-endian-length}
+use Rattle.items.specs.records.{Bits, bits}
+use Rattle.lexing.specs.buffers.{each, big-endian, from-big-endian, words-bytes}
+use Rattle.items.specs.layout.{packed, width, from-top}
+use Rattle.lexing.proofs.buffers.Laws.{big-endian-length}
 
 -- every value fits its width
 abbrev pub Fit : List Bits → Type 0

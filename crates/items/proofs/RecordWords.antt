@@ -1,39 +1,13 @@
 -- Laws of the layout: lengths, and records one behind the other.
-use mathlib.Core.Path.{_≡_, refl, sym, ap, _∙_}
+use mathlib.Core.Path.{_≡_, refl, ap, _∙_}
 use mathlib.Core.List.{List, [], _∷_, _++_, map, append-assoc, append-nil}
-use Prim.Native.Nat.{ℕ, zero, suc, _+_, _*_, _/_, _%_, _≤_}
+use Prim.Native.Nat.{_+_, _*_, _≤_}
 use native.Mathlib.Omega.{arith}
 use lib.ListN.{length, length-append}
-use Rattle.items.specs.records.{Record, each}
-use Rattle.items.specs.layout.{Layout, layout-20, record-words, big-endian, words-bytes, catalogue-words, catalogue-bytes, word-count}
-
-pub each-append : {A B : Type 0} (f : A → List B) (k l : List A) → each f (k ++ l) ≡ each f k ++ each f l
-unfolding each
-each-append f [] l = refl
-each-append f (a ∷ k) l = rw (each-append f k l, append-assoc)
-
-pub each-one : {A B : Type 0} (f : A → List B) (a : A) → each f (a ∷ []) ≡ f a
-unfolding each
-each-one f a = append-nil (f a)
-
-pub big-endian-length : (n w : ℕ) → length (big-endian n w) ≡ n
-unfolding big-endian
-big-endian-length zero w = refl
-big-endian-length (suc n) w = omega (arith, length-append (big-endian n (w / 256)) (w % 256 ∷ []), big-endian-length n (w / 256))
-
--- words as bytes
-pub words-bytes-append : (k l : List ℕ) → words-bytes (k ++ l) ≡ words-bytes k ++ words-bytes l
-unfolding words-bytes
-words-bytes-append k l = each-append (big-endian 8) k l
-
-pub words-bytes-one : (w : ℕ) → words-bytes (w ∷ []) ≡ big-endian 8 w
-unfolding words-bytes
-words-bytes-one w = each-one (big-endian 8) w
-
-pub words-bytes-length : (l : List ℕ) → length (words-bytes l) ≡ 8 * length l
-unfolding words-bytes each
-words-bytes-length [] = refl
-words-bytes-length (w ∷ l) = omega (arith, length-append (big-endian 8 w) (each (big-endian 8) l), big-endian-length 8 w, words-bytes-length l)
+use Rattle.lexing.proofs.buffers.Laws.{each-append, each-one, words-bytes-append, words-bytes-length}
+use Rattle.items.specs.records.{Record}
+use Rattle.lexing.specs.buffers.{each, words-bytes}
+use Rattle.items.specs.layout.{Layout, layout-20, record-words, catalogue-words, catalogue-bytes, word-count}
 
 -- records as bytes
 pub catalogue-bytes-append : (L : Layout) (k l : List Record) → catalogue-bytes L (k ++ l) ≡ catalogue-bytes L k ++ catalogue-bytes L l

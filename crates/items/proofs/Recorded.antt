@@ -7,7 +7,7 @@ use Rattle.lexing.specs.reply.{Parser}
 use Rattle.items.specs.clusters.{mapped}
 use Rattle.items.specs.records.{Record}
 use Rattle.items.specs.layout.{layout-20, word-count, catalogue-bytes}
-use Rattle.items.specs.buffers.{put}
+use Rattle.lexing.specs.buffers.{put}
 use Rattle.items.specs.answers.{CountTo, Room, Written}
 use Rattle.items.specs.declared.counts.Count.{Count}
 use Rattle.items.specs.declared.writing.Wrote.{Wrote}

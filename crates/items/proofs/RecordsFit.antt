@@ -21,8 +21,9 @@ use Rattle.items.specs.members.{or-else, Event, Command, Attribute}
 use Rattle.items.specs.clusters.{Member, revision, bitmap, enum, struct, attribute, command, event, Cluster}
 use Rattle.items.specs.endpoints.{Default, number, signed-number, truth, text, Instance, attribute-instance, command-instance, event-instance, Part, device, binding, instantiation, Endpoint}
 use Rattle.items.specs.items.{Item, cluster-item, endpoint-item, enum-item, bitmap-item, struct-item, blank-item, item}
-use Rattle.items.specs.records.{Extent, absent, at, Bits, bits, Further, value, spanned, Record, word-extent, optional-extent, doc-extent, doc-bit, flag, plain, documented, entry-record, choice-records, field-record, struct-number, struct-records, attribute-records, command-record, event-records, each, last-revision, member-records, cluster-records, default-number, twos-complement, default-word, instance-record, part-records, endpoint-records, further-of-kind, item-records}
-use Rattle.items.specs.layout.{packed, width, from-top, offset, size, Layout, layout-20, further-word, record-words, words-of-kind, from-big-endian, words-bytes, catalogue-words, text-limit}
+use Rattle.items.specs.records.{Extent, absent, at, Bits, bits, Further, value, spanned, Record, word-extent, optional-extent, doc-extent, doc-bit, flag, plain, documented, entry-record, choice-records, field-record, struct-number, struct-records, attribute-records, command-record, event-records, last-revision, member-records, cluster-records, default-number, twos-complement, default-word, instance-record, part-records, endpoint-records, further-of-kind, item-records}
+use Rattle.lexing.specs.buffers.{each, from-big-endian, words-bytes}
+use Rattle.items.specs.layout.{packed, width, from-top, offset, size, Layout, layout-20, further-word, record-words, words-of-kind, catalogue-words, text-limit}
 use Rattle.items.proofs.Truth.{All, Maybe, InRange, WordTrue, DocTrue, EntryTrue, true-entry, ChoiceTrue, true-choice, true-field, StructFieldTrue, true-struct-field, StructTrue, true-struct, EventTrue, true-event, CommandTrue, true-command, true-privileges, AttributeTrue, true-attribute, MemberTrue, ClusterTrue, true-cluster, true-device, DefaultTrue, true-attribute-instance, InstanceTrue, true-instantiation, PartTrue, EndpointTrue, true-endpoint, ItemTrue, item-true}
 use Rattle.items.proofs.Packing.{Fit, packed-less, top-back, bits-of, value-of, values-back, from-top-less, word-back, word-bytes-at}
 

@@ -13,7 +13,8 @@ use Rattle.items.specs.members.{Event, Command, Attribute}
 use Rattle.items.specs.clusters.{Member, revision, bitmap, enum, struct, attribute, command, event, Cluster}
 use Rattle.items.specs.endpoints.{Default, number, signed-number, truth, text, Instance, attribute-instance, command-instance, event-instance, Part, device, binding, instantiation, Endpoint}
 use Rattle.items.specs.items.{Item, cluster-item, endpoint-item, enum-item, bitmap-item, struct-item, blank-item}
-use Rattle.items.specs.records.{moved-extent, moved-further, moved, word-extent, optional-extent, doc-extent, doc-bit, plain, documented, entry-record, choice-records, field-record, struct-records, attribute-records, command-record, event-records, each, last-revision, member-records, cluster-records, default-number, default-word, instance-record, part-records, endpoint-records, item-records}
+use Rattle.items.specs.records.{moved-extent, moved-further, moved, word-extent, optional-extent, doc-extent, doc-bit, plain, documented, entry-record, choice-records, field-record, struct-records, attribute-records, command-record, event-records, last-revision, member-records, cluster-records, default-number, default-word, instance-record, part-records, endpoint-records, item-records}
+use Rattle.lexing.specs.buffers.{each}
 use Rattle.items.proofs.Shift.{shiftEntry, shiftChoice, shiftField, shiftStructField, shiftStruct, shiftEvent, shiftCommand, shiftAttribute, shiftMember, shiftCluster, shiftDeviceType, shiftDefault, shiftAttributeInstance, shiftInstance, shiftInstantiation, shiftPart, shiftEndpoint, shiftItem, present-moved}
 
 -- lists

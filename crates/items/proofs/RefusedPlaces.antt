@@ -26,7 +26,7 @@ use Rattle.items.specs.clusters.{mapped, parse-revision, member-tries, p
 use Rattle.items.specs.endpoints.{Tried, Deep, intercept, deep-step, deeper, deep-run, deep-place, deep-braces, name-behind, device-version, device-type, value-tries, default-attribute-value, attribute-handling-type, attribute-instantiation, named-after, instance-tries, instantiation-head, cluster-instantiation, part-tries, endpoint-head, endpoint}
 use Rattle.items.specs.items.{with-doc-maturity, item}
 use Rattle.items.proofs.Locality.{mapped-inside, api-maturity-local, constant-annotation-local, blank-entry-inside, closed-field-inside, access-list-inside, deep-run-inside, instance-tries-inside, instance-tries-consumes, part-tries-inside, part-tries-consumes}
-use Rattle.items.proofs.Onward.{rest-on}
+use Rattle.lexing.proofs.Composed.{rest-on}
 use Rattle.items.proofs.Truth.{All, onward-rules, Read, FailsAt, Gives, gives-fail, gives-catch, gives-bind, gives-then, gives-mapped, gives-iter, AccessTrue, true-access, accesses-listed}
 
 module _ (s : ℕ) (t : List ℕ) where

@@ -33,7 +33,7 @@ use Rattle.items.specs.clusters.{Member, revision, bitmap, enum, struct,
 use Rattle.items.specs.endpoints.{Tried, Deep, intercept, deep-step, deeper, deep-run, deep-place, deep-braces, name-behind, DeviceType, device-version, device-type, Default, number, signed-number, truth, text, value-tries, default-attribute-value, attribute-handling-type, AttributeInstance, attribute-instantiation, named-after, Instance, attribute-instance, command-instance, event-instance, instance-tries, Instantiation, instantiation-head, cluster-instantiation, Part, device, binding, instantiation, part-tries, Endpoint, endpoint-head, endpoint}
 use Rattle.items.specs.items.{Item, cluster-item, endpoint-item, enum-item, bitmap-item, struct-item, blank-item, with-doc-maturity, item}
 use Rattle.items.specs.records.{response-of}
-use Rattle.items.proofs.Onward.{ends-up, rest-on, onward-ret, onward-fail, onward-stop, onward-pick, onward-catch, onward-many, onward-iter, onward-bind, onward-then}
+use Rattle.lexing.proofs.Composed.{ends-up, rest-on, onward-ret, onward-fail, onward-stop, onward-pick, onward-catch, onward-many, onward-iter, onward-bind, onward-then}
 use Rattle.items.proofs.Locality.{braces-chain, mapped-inside, api-maturity-local, constant-annotations-list-inside, blank-entry-inside, constant-entries-list-local, shared-before-local, choice-head-local, choice-after-doc-maturity-local, max-length-local, list-marker-local, parse-field-inside, parse-struct-field-inside, closed-field-inside, struct-fields-local, struct-type-of-local, struct-head-local, parse-struct-local, access-privilege-local, event-priority-local, access-to-inside, event-qualities-inside, event-head-inside, command-head-inside, command-types-inside, access-entry-inside, access-entry-consumes, comma-local, separated-list0-inside, access-list-inside, attribute-access-inside, member-tries-inside, parse-cluster-member-inside, side-local, cluster-head-local, deep-run-inside, name-behind-local, device-version-local, value-tries-local, default-attribute-value-local, attribute-handling-type-local, instance-tries-inside, instance-tries-consumes, instantiation-head-local, instances-local, part-tries-inside, part-tries-consumes, endpoint-head-local, parts-local}
 
 -- where a step ends: the tokens' rules and the combinators', and the certificates of the productions

@@ -25,10 +25,11 @@ use Rattle.items.specs.members.{event-head, parse-event-after-doc-maturi
 use Rattle.items.specs.clusters.{Member, bitmap, enum, struct, attribute, command, event, mapped, parse-revision, member-tries, parse-cluster-member, cluster-members, cluster-head, parse-cluster}
 use Rattle.items.specs.endpoints.{Tried, Deep, intercept, deep-step, deeper, deep-run, deep-place, deep-braces, device-version, device-type, attribute-instantiation, attribute-instance, command-instance, event-instance, instance-tries, cluster-instantiation, device, binding, instantiation, part-tries, endpoint-head, endpoint}
 use Rattle.items.specs.items.{Item, cluster-item, endpoint-item, enum-item, bitmap-item, struct-item, blank-item, with-doc-maturity, item}
-use Rattle.items.specs.records.{Record, each, plain, entry-record, choice-records, field-record, struct-records, attribute-records, command-record, event-records, member-records, cluster-records, instance-record, part-records, endpoint-records, item-records}
+use Rattle.items.specs.records.{Record, plain, entry-record, choice-records, field-record, struct-records, attribute-records, command-record, event-records, member-records, cluster-records, instance-record, part-records, endpoint-records, item-records}
+use Rattle.lexing.specs.buffers.{each}
 use Rattle.items.specs.layout.{layout-20, record-words, catalogue-words, word-count}
 use Rattle.items.specs.answers.items.{unhoisted-item}
-use Rattle.items.proofs.Onward.{onward-then, onward-catch, onward-fail}
+use Rattle.lexing.proofs.Composed.{onward-then, onward-catch, onward-fail}
 use Rattle.items.proofs.Locality.{api-maturity-local, constant-annotations-list-inside, shared-before-local, max-length-local, list-marker-local, struct-type-of-local, access-to-inside, attribute-access-inside, side-local, device-version-local, default-attribute-value-local, attribute-handling-type-consumes, event-qualities-consumes, command-head-consumes, name-behind-consumes, named-after-consumes, instantiation-head-consumes}
 use Rattle.items.proofs.RecordWords.{word-count-none, Elementwise, each-elementwise, map-elementwise, word-count-more}
 use Rattle.items.proofs.Headed.{Headed, headed-words}

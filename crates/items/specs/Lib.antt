@@ -7,6 +7,5 @@ pub mod endpoints
 pub mod items
 pub mod records
 pub mod layout
-pub mod buffers
 pub mod answers
 pub mod inner

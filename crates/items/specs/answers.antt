@@ -1,5 +1,4 @@
 -- What the answers of the code say, as replies of the definitions: what the modules share, and each module's own apart.
-pub mod names
 pub mod entries
 pub mod structs
 pub mod choices
@@ -14,22 +13,19 @@ use mathlib.Core.Bool.{Bool, true, false}
 use mathlib.Core.Option.{Option, none, some}
 use mathlib.Core.List.{List, [], _∷_}
 use lib.ListN.{length, take, drop}
-use Rattle.lexing.specs.reply.{Parser, ok, _>>_}
-use Rattle.lexing.specs.words.{Word, word}
+use Rattle.lexing.specs.reply.{Parser, ok, ret, _>>=_, _>>_}
+use Rattle.lexing.specs.words.{word}
 use Rattle.lexing.specs.blanks.{Doc, whitespace0}
-use Rattle.lexing.specs.answers.{Rest, Answer, got, lost, reply, stepAnswer, numberReply, docOf}
+use Rattle.lexing.specs.answers.{Answer, got, lost, reply, docOf}
 use Rattle.lexing.specs.declared.answers.Lost.{Lost}
 use Rattle.lexing.specs.declared.answers.Lost.the-variants.{Fail, Stop}
-use Rattle.lexing.specs.declared.answers.Step.{Step}
-use Rattle.lexing.specs.declared.answers.Step.the-variants.{Next, Not}
 use Rattle.lexing.specs.declared.blanks.DocSpan.{DocSpan}
 use Rattle.lexing.specs.declared.blanks.DocSpan.the-variants.{Absent, At}
-use Rattle.lexing.specs.declared.integers.Number.{Number}
 use Rattle.items.specs.entries.{api-maturity}
 use Rattle.items.specs.clusters.{mapped}
 use Rattle.items.specs.records.{Record, bits}
 use Rattle.items.specs.layout.{layout-20, catalogue-bytes, word-count, packed, text-limit}
-use Rattle.items.specs.buffers.{put}
+use Rattle.lexing.specs.buffers.{put}
 use Rattle.items.specs.declared.counts.Count.{Count}
 use Rattle.items.specs.declared.counts.Count.the-variants.{Words, NoCount}
 use Rattle.items.specs.declared.maturity.Maturity.{Maturity}
@@ -42,55 +38,20 @@ abbrev pub optionOf : {A : Type 0} → Bool → A → Option A
 optionOf true a = some a
 optionOf false a = none
 
--- the word between two offsets of a part that starts at b
-abbrev pub wordBetween : ℕ → List ℕ → ℕ → ℕ → Word
-wordBetween b u o e = word o (take (e - o) (drop (o - b) u))
+-- a maturity between blanks
+abbrev pub maturity-between : Parser ℕ
+maturity-between = do
+  whitespace0
+  m ← api-maturity
+  whitespace0
+  ret m
 
--- an answer t that is a parser's: f is what it says, W are bounds that its caller needs
-pub record ReadTo {T A : Type 0} (f : ℕ → List ℕ → T → Answer A) (W : ℕ → T → Type 0) (m : Parser A) (t : T) (b : ℕ) (u : List ℕ) : Type 0 where
-  pub reads : reply (f b u t) b u ≡ m b u
-  pub within : W b t
-
--- a name from n to e, in what was read from b to c
-pub record NameIn (b n e c : ℕ) : Type 0 where
-  pub from : b ≤ n
-  pub up : n ≤ e
-  pub inside : e ≤ c
-
--- a maturity and where it ends
-pub record MaturityTo (r : Maturity) (b : ℕ) (u : List ℕ) : Type 0 where
-  pub reads : reply (got (r .level) (r .next)) b u ≡ api-maturity b u
+-- a maturity and where what was read ends
+pub record MaturityTo (p : Parser ℕ) (r : Maturity) (b : ℕ) (u : List ℕ) : Type 0 where
+  pub reads : reply (got (r .level) (r .next)) b u ≡ p b u
   pub up : b ≤ r .next
   pub inside : r .next ≤ b + length u
   pub small : r .level < 4
-
--- a step whose value is dropped
-pub record Skips {A : Type 0} (m : Parser A) (r : Step) (b : ℕ) (u : List ℕ) : Type 0 where
-  pub value : A
-  pub reads : reply (stepAnswer (λ c. value) r) b u ≡ m b u
-
--- the same from an offset c of a part
-pub record SkipsAt {A : Type 0} (m : Parser A) (r : Step) (b : ℕ) (u : List ℕ) (c : ℕ) : Type 0 where
-  pub at : Rest b u c (drop (c - b) u)
-  pub skips : Skips m r c (drop (c - b) u)
-
-abbrev pub BlankAt : ℕ → ℕ → List ℕ → ℕ → Type 0
-BlankAt r b u c = SkipsAt whitespace0 (Next r) b u c
-
--- `preceded` by blanks
-abbrev pub behind-blanks : {A : Type 0} → Parser A → Parser A
-behind-blanks p = whitespace0 >> p
-
--- an integer from an offset c of a part
-pub record NumberAt (m : Parser ℕ) (r : Number) (b : ℕ) (u : List ℕ) (c : ℕ) : Type 0 where
-  pub at : Rest b u c (drop (c - b) u)
-  pub reads : numberReply r c (drop (c - b) u) ≡ m c (drop (c - b) u)
-
--- the answer of an optional part that stands at b
-abbrev pub optionalStep : Step → ℕ → Step
-optionalStep (Next c) b = Next c
-optionalStep (Not (Fail p)) b = Next b
-optionalStep (Not (Stop n p)) b = Not (Stop n p)
 
 -- a declaration by the words that its records take
 unfoldable pub counted : {A : Type 0} → (A → List Record) → Parser A → Parser ℕ

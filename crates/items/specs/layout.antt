@@ -1,8 +1,9 @@
 -- Records as words, and words as bytes: packed most significant bit first.
-use Prim.Native.Nat.{ℕ, zero, suc, _+_, _-_, _*_, _^_, _/_, _%_}
+use Prim.Native.Nat.{ℕ, suc, _+_, _-_, _*_, _^_}
 use mathlib.Core.List.{List, [], _∷_, _++_, map}
 use lib.ListN.{length}
-use Rattle.items.specs.records.{Extent, absent, at, Bits, bits, Further, value, spanned, Record, further-of-kind, each}
+use Rattle.lexing.specs.buffers.{each, words-bytes}
+use Rattle.items.specs.records.{Extent, absent, at, Bits, bits, Further, value, spanned, Record, further-of-kind}
 
 -- values one behind the other, most significant bit first; z stands above them
 unfoldable pub packed : ℕ → List Bits → ℕ
@@ -55,19 +56,6 @@ further-word L (spanned e) = packed 0 (L .span-word e)
 
 unfoldable pub record-words : Layout → Record → List ℕ
 record-words L r = map (packed 0) (L .first-words r) ++ map (further-word L) (r .further)
-
--- the n low bytes of a number, the most significant first
-unfoldable pub big-endian : ℕ → ℕ → List ℕ
-big-endian zero w = []
-big-endian (suc n) w = big-endian n (w / 256) ++ (w % 256 ∷ [])
-
--- the number that bytes stand for, the most significant first
-unfoldable pub from-big-endian : List ℕ → ℕ
-from-big-endian [] = 0
-from-big-endian (x ∷ l) = x * 256 ^ length l + from-big-endian l
-
-unfoldable pub words-bytes : List ℕ → List ℕ
-words-bytes l = each (big-endian 8) l
 
 unfoldable pub catalogue-words : Layout → List Record → List ℕ
 catalogue-words L l = each (record-words L) l

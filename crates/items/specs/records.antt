@@ -2,8 +2,9 @@
 use Prim.Native.Nat.{ℕ, zero, suc, _+_, _-_, _^_}
 use mathlib.Core.Bool.{Bool, true, false}
 use mathlib.Core.Option.{Option, none, some}
-use mathlib.Core.List.{List, [], _∷_, _++_, map}
+use mathlib.Core.List.{List, [], _∷_, map}
 use lib.ListN.{length, getD}
+use Rattle.lexing.specs.buffers.{each}
 use Rattle.lexing.specs.words.{Word, word}
 use Rattle.lexing.specs.integers.{Signed, signed}
 use Rattle.lexing.specs.blanks.{Doc, no-doc, doc-at}
@@ -135,11 +136,6 @@ command-record c =
 -- 9 event: the first privilege is read's
 unfoldable pub event-records : Event → List Record
 event-records e = documented 9 0 (e .maturity) (e .doc) (bits 2 (e .priority) ∷ bits 1 (e .fabric-sensitive) ∷ []) (word-extent (e .name)) (e .access) 0 (value (e .code) ∷ []) ∷ map field-record (e .fields)
-
--- every part's records, one after the other
-unfoldable pub each : {A B : Type 0} → (A → List B) → List A → List B
-each f [] = []
-each f (a ∷ l) = f a ++ each f l
 
 -- 1 cluster; the last revision wins, with none it is 0. place gives a type's place.
 unfoldable pub last-revision : ℕ → List Member → ℕ

@@ -7,18 +7,13 @@ ghost use Rattle.lexing.specs.answers.{docOf};
 ghost use Rattle.items.specs.entries.{choice-after-doc-maturity};
 ghost use Rattle.items.specs.records.{choice-records};
 ghost use Rattle.items.specs.layout.{text-limit, layout-20, catalogue-bytes};
-ghost use Rattle.items.specs.buffers.{put};
+ghost use Rattle.lexing.specs.buffers.{put};
 ghost use Rattle.items.specs.answers.{FrontFits, Room, Written};
 ghost use Rattle.items.specs.answers.choices.{ChoiceFrom, choiceHeadLost, ChoiceHeadBetween, ChoiceHeadTo, ChoiceCountTo};
 ghost use Rattle.items.specs.inner.choices.{choice-first};
 use crate::counts::Count;
 use crate::entries::constant_entries_list;
 use crate::entries::write_entries_list;
-use crate::names::Named;
-use crate::names::keyword_name;
-use crate::names::named_lost;
-use crate::names::type_behind;
-use crate::steps::blank_at;
 use crate::writing::First;
 use crate::writing::FrontParts;
 use crate::writing::Wrote;
@@ -26,10 +21,15 @@ use crate::writing::doc_bit;
 use crate::writing::doc_word;
 use crate::writing::first_word;
 use crate::writing::flag;
-use crate::writing::put_three;
 use crate::writing::span_word;
 use lexing::answers::Lost;
+use lexing::buffers::put_three;
+use lexing::names::Named;
+use lexing::names::keyword_name;
+use lexing::names::named_lost;
+use lexing::names::type_behind;
 use lexing::parts::rest_at;
+use lexing::steps::blank_at;
 
 // Up to the entries: whether it is shared, and the offsets of its name and of its base type and behind them.
 pub struct ChoiceHeadParts {

@@ -5,10 +5,10 @@ ghost use lib.ListN.{length};
 ghost use Rattle.items.specs.layout.{text-limit};
 ghost use Rattle.items.specs.answers.{countLost, countEnd};
 ghost use Rattle.items.specs.inner.counts.{EndsIn, ClosedTo};
-use crate::steps::tag_behind;
 use lexing::answers::Lost;
 use lexing::answers::Step;
 use lexing::answers::step_lost;
+use lexing::steps::tag_behind;
 
 // The words needed and the offset behind the declaration, or why there is none.
 pub enum Count {

@@ -8,29 +8,33 @@ ghost use Rattle.lexing.specs.words.{tag};
 ghost use Rattle.items.specs.entries.{constant-annotation, blank-annotation, annotations-in-brackets, constant-annotations-list, constant-entry, blank-entry, constant-entries, constant-entries-list};
 ghost use Rattle.items.specs.records.{entry-record};
 ghost use Rattle.items.specs.layout.{layout-20, catalogue-bytes, text-limit};
-ghost use Rattle.items.specs.buffers.{put};
-ghost use Rattle.items.specs.answers.{Skips, CountTo, Room, Written};
+ghost use Rattle.lexing.specs.buffers.{put};
+ghost use Rattle.lexing.specs.answers.{Skips};
+ghost use Rattle.items.specs.answers.{CountTo, Room, Written};
 ghost use Rattle.items.specs.answers.entries.{EntryTo, entryLost};
 ghost use Rattle.items.specs.inner.entries.{EndTo, parts-record};
 use crate::counts::Count;
 use crate::counts::closed;
 use crate::counts::count_end;
-use crate::maturity::api_maturity;
-use crate::names::code_behind;
-use crate::optional::optional;
-use crate::steps::blank_at;
-use crate::steps::tag_behind;
+use crate::maturity::maturity_between;
 use crate::writing::First;
 use crate::writing::Wrote;
 use crate::writing::first_word;
-use crate::writing::put_two;
 use lexing::answers::Lost;
 use lexing::answers::Step;
 use lexing::answers::step_lost;
 use lexing::blanks::whitespace0;
+use lexing::buffers::put_two;
 use lexing::integers::Number;
 use lexing::integers::number_lost;
+use lexing::names::Named;
+use lexing::names::code_behind;
+use lexing::names::named_lost;
+use lexing::names::word_behind;
+use lexing::optional::optional;
 use lexing::parts::rest_at;
+use lexing::steps::blank_at;
+use lexing::steps::tag_behind;
 use lexing::strings::quoted_string;
 use lexing::words::parse_id;
 use lexing::words::tag;
@@ -59,26 +63,25 @@ pub fn constant_annotation(part: &[u8], base: usize) -> Step
     requires { ⌜ base + length (now part) ≤ text-limit ⌝ }
     ensures { λ r. ⌜ Skips constant-annotation r base (now (part .entry)) ⌝ }
 {
-    let c1 = blank_at(part, base, base);
-    let key = parse_id(rest_at(part, base, c1), c1);
-    let Step::Next(c2) = key else {
-        return Step::Not(step_lost(key));
+    let key = word_behind(part, base, base);
+    let Named::Name(_, _, c1) = key else {
+        return Step::Not(named_lost(key));
     };
-    let equals = tag_behind(part, base, c2, b'=');
-    let Step::Next(c3) = equals else {
+    let equals = tag_behind(part, base, c1, b'=');
+    let Step::Next(c2) = equals else {
         return Step::Not(step_lost(equals));
     };
-    let c4 = blank_at(part, base, c3);
-    let value = quoted_string(rest_at(part, base, c4), c4);
-    let Step::Next(c5) = value else {
+    let c3 = blank_at(part, base, c2);
+    let value = quoted_string(rest_at(part, base, c3), c3);
+    let Step::Next(c4) = value else {
         return Step::Not(step_lost(value));
     };
-    let c6 = blank_at(part, base, c5);
-    let comma = optional_comma(rest_at(part, base, c6), c6);
-    let Step::Next(c7) = comma else {
+    let c5 = blank_at(part, base, c4);
+    let comma = optional_comma(rest_at(part, base, c5), c5);
+    let Step::Next(c6) = comma else {
         return Step::Not(step_lost(comma));
     };
-    Step::Next(c7)
+    Step::Next(c6)
 }
 
 // An annotation with the blanks before it.
@@ -153,27 +156,24 @@ pub fn constant_entry(part: &[u8], base: usize) -> EntryRead
     requires { ⌜ base + length (now part) ≤ text-limit ⌝ }
     ensures { λ r. ⌜ EntryTo constant-entry r base (now (part .entry)) ⌝ }
 {
-    let c1 = blank_at(part, base, base);
-    let m = api_maturity(rest_at(part, base, c1), c1);
-    let maturity = m.level;
-    let c2 = m.next;
-    let c3 = blank_at(part, base, c2);
-    let name = parse_id(rest_at(part, base, c3), c3);
-    let Step::Next(c4) = name else {
+    let m = maturity_between(part, base);
+    let start = m.next;
+    let name = parse_id(rest_at(part, base, start), start);
+    let Step::Next(end) = name else {
         return EntryRead::NoEntry(step_lost(name));
     };
-    let value = code_behind(part, base, c4);
-    let Number::Value(code, c5) = value else {
+    let value = code_behind(part, base, end);
+    let Number::Value(code, c) = value else {
         return EntryRead::NoEntry(number_lost(value));
     };
-    let last = entry_end(rest_at(part, base, c5), c5);
+    let last = entry_end(rest_at(part, base, c), c);
     let Step::Next(next) = last else {
         return EntryRead::NoEntry(step_lost(last));
     };
     let e = EntryParts {
-        maturity,
-        name: c3,
-        end: c4,
+        maturity: m.level,
+        name: start,
+        end,
         code,
     };
     EntryRead::Read(e, next)

@@ -8,8 +8,5 @@ pub mod entries;
 pub mod items;
 pub mod maturity;
 pub mod members;
-pub mod names;
-pub mod optional;
-pub mod steps;
 pub mod structs;
 pub mod writing;

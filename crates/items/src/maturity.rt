@@ -2,11 +2,14 @@
 ghost use Prim.Native.Nat.{_+_, _≤_, _<_};
 ghost use lib.ListN.{length};
 ghost use Rattle.lexing.specs.integers.{u64-max};
-ghost use Rattle.items.specs.answers.{MaturityTo};
+ghost use Rattle.items.specs.entries.{api-maturity};
+ghost use Rattle.items.specs.answers.{MaturityTo, maturity-between};
 ghost use Rattle.items.specs.inner.maturity.{MaturityBy};
 use lexing::answers::Step;
 use lexing::bytes::lower_of;
 use lexing::parts::peek;
+use lexing::parts::rest_at;
+use lexing::steps::blank_at;
 use lexing::words::keyword;
 
 // A maturity is always there: where no word says one, it is stable and nothing is read.
@@ -34,7 +37,7 @@ fn maturity_by(part: &[u8], base: usize, key: &[u8], level: u8) -> Maturity
 // The first letter leaves one keyword.
 pub fn api_maturity(part: &[u8], base: usize) -> Maturity
     requires { ⌜ base + length (now part) ≤ u64-max ⌝ }
-    ensures { λ r. ⌜ MaturityTo r base (now (part .entry)) ⌝ }
+    ensures { λ r. ⌜ MaturityTo api-maturity r base (now (part .entry)) ⌝ }
 {
     let x = lower_of(peek(part, 0));
     match x {
@@ -46,5 +49,20 @@ pub fn api_maturity(part: &[u8], base: usize) -> Maturity
             level: 0,
             next: base,
         },
+    }
+}
+
+// A maturity and the blanks around it.
+pub fn maturity_between(part: &[u8], base: usize) -> Maturity
+    requires { ⌜ base + length (now part) ≤ u64-max ⌝ }
+    ensures { λ r. ⌜ MaturityTo maturity-between r base (now (part .entry)) ⌝ }
+{
+    let c1 = blank_at(part, base, base);
+    let m = api_maturity(rest_at(part, base, c1), c1);
+    let c2 = m.next;
+    let next = blank_at(part, base, c2);
+    Maturity {
+        level: m.level,
+        next,
     }
 }

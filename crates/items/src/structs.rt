@@ -6,7 +6,7 @@ ghost use lib.ListN.{length, take};
 ghost use Rattle.lexing.specs.words.{isLower};
 ghost use Rattle.lexing.specs.answers.{numberReply, docOf};
 ghost use Rattle.items.specs.layout.{text-limit, layout-20, catalogue-bytes};
-ghost use Rattle.items.specs.buffers.{put};
+ghost use Rattle.lexing.specs.buffers.{put};
 ghost use Rattle.items.specs.records.{field-record, struct-records};
 ghost use Rattle.items.specs.structs.{max-length, parse-struct-field, closed-field, fields-run, struct-fields, response-code, parse-struct-after-doc-maturity};
 ghost use Rattle.items.specs.members.{or-else};
@@ -16,15 +16,7 @@ ghost use Rattle.items.specs.inner.structs.{optionalLength, lengthLost, 
 use crate::counts::Count;
 use crate::counts::closed;
 use crate::counts::count_end;
-use crate::maturity::api_maturity;
-use crate::names::Named;
-use crate::names::code_at;
-use crate::names::keyword_name;
-use crate::names::named_lost;
-use crate::steps::blank_at;
-use crate::steps::gap_at;
-use crate::steps::integer_behind;
-use crate::steps::tag_behind;
+use crate::maturity::maturity_between;
 use crate::writing::First;
 use crate::writing::FrontParts;
 use crate::writing::Wrote;
@@ -32,20 +24,28 @@ use crate::writing::doc_bit;
 use crate::writing::doc_word;
 use crate::writing::first_word;
 use crate::writing::flag;
-use crate::writing::put_four;
-use crate::writing::put_three;
 use crate::writing::span_word;
 use lexing::answers::Lost;
 use lexing::answers::Step;
 use lexing::answers::step_lost;
 use lexing::blanks::whitespace0;
+use lexing::buffers::put_four;
+use lexing::buffers::put_three;
 use lexing::integers::Number;
 use lexing::integers::number_lost;
+use lexing::names::Named;
+use lexing::names::code_at;
+use lexing::names::keyword_name;
+use lexing::names::named_lost;
+use lexing::names::word_apart;
+use lexing::names::word_behind;
 use lexing::parts::rest_at;
+use lexing::steps::blank_at;
+use lexing::steps::integer_behind;
+use lexing::steps::tag_behind;
 use lexing::word_sets::is_lower;
 use lexing::word_sets::keywords_set;
 use lexing::words::keyword;
-use lexing::words::parse_id;
 use lexing::words::tag;
 
 // A field: where its type's name starts and ends, its largest length where it has one, where its name starts and ends, whether it is a list, its code.
@@ -189,42 +189,37 @@ pub fn parse_field(part: &[u8], base: usize) -> FieldRead
     requires { ⌜ base + length (now part) ≤ text-limit ⌝ }
     ensures { λ r. ⌜ FieldTo r base (now (part .entry)) ⌝ }
 {
-    let c1 = blank_at(part, base, base);
-    let data_type = parse_id(rest_at(part, base, c1), c1);
-    let Step::Next(c2) = data_type else {
-        return FieldRead::NoField(step_lost(data_type));
+    let typed = word_behind(part, base, base);
+    let Named::Name(type_at, type_end, c1) = typed else {
+        return FieldRead::NoField(named_lost(typed));
     };
-    let length = optional_length(max_length(rest_at(part, base, c2), c2), c2);
-    let MaxLength::Length(has_maximum, maximum, c3) = length else {
+    let length = optional_length(max_length(rest_at(part, base, c1), c1), c1);
+    let MaxLength::Length(has_maximum, maximum, c2) = length else {
         return FieldRead::NoField(length_lost(length));
     };
-    let gap = gap_at(part, base, c3);
-    let Step::Next(c4) = gap else {
-        return FieldRead::NoField(step_lost(gap));
+    let named = word_apart(part, base, c2);
+    let Named::Name(name, end, c3) = named else {
+        return FieldRead::NoField(named_lost(named));
     };
-    let name = parse_id(rest_at(part, base, c4), c4);
-    let Step::Next(c5) = name else {
-        return FieldRead::NoField(step_lost(name));
-    };
-    let c6 = blank_at(part, base, c5);
-    let marker = list_marker(rest_at(part, base, c6), c6);
-    let c7 = marker.next;
-    let number = code_at(part, base, c7);
-    let Number::Value(code, c8) = number else {
+    let c4 = blank_at(part, base, c3);
+    let marker = list_marker(rest_at(part, base, c4), c4);
+    let c5 = marker.next;
+    let number = code_at(part, base, c5);
+    let Number::Value(code, c6) = number else {
         return FieldRead::NoField(number_lost(number));
     };
     FieldRead::Field(
         FieldParts {
-            type_at: c1,
-            type_end: c2,
+            type_at,
+            type_end,
             has_maximum,
             maximum,
-            name: c4,
-            end: c5,
+            name,
+            end,
             list: marker.list,
             code,
         },
-        c8,
+        c6,
     )
 }
 
@@ -241,14 +236,12 @@ pub fn parse_struct_field(part: &[u8], base: usize) -> StructFieldRead
     requires { ⌜ base + length (now part) ≤ text-limit ⌝ }
     ensures { λ r. ⌜ StructFieldTo parse-struct-field r base (now (part .entry)) ⌝ }
 {
-    let c1 = blank_at(part, base, base);
-    let m = api_maturity(rest_at(part, base, c1), c1);
-    let c2 = m.next;
-    let c3 = blank_at(part, base, c2);
-    let set = keywords_set(rest_at(part, base, c3), c3, 0);
-    let c4 = set.next;
-    let r = parse_field(rest_at(part, base, c4), c4);
-    let FieldRead::Field(field, c5) = r else {
+    let m = maturity_between(part, base);
+    let c1 = m.next;
+    let set = keywords_set(rest_at(part, base, c1), c1, 0);
+    let c2 = set.next;
+    let r = parse_field(rest_at(part, base, c2), c2);
+    let FieldRead::Field(field, c3) = r else {
         return StructFieldRead::NoStructField(field_lost(r));
     };
     StructFieldRead::StructField(
@@ -257,7 +250,7 @@ pub fn parse_struct_field(part: &[u8], base: usize) -> StructFieldRead
             flags: set.flags,
             field,
         },
-        c5,
+        c3,
     )
 }
 

@@ -1,13 +1,14 @@
-// The second pass's buffer: words, and the first word of a record.
+// The first words of a record, and what stands before a declaration.
 ghost use mathlib.Core.Path.{_≡_};
 ghost use Prim.Native.Nat.{_+_, _≤_};
 ghost use lib.ListN.{length};
 ghost use mathlib.Core.List.{[], _∷_};
 ghost use Rattle.lexing.specs.word_sets.{bit};
-ghost use Rattle.items.specs.layout.{big-endian, words-bytes, text-limit};
-ghost use Rattle.items.specs.buffers.{put};
+ghost use Rattle.lexing.specs.buffers.{put, words-bytes};
+ghost use Rattle.items.specs.layout.{text-limit};
 ghost use Rattle.items.specs.answers.{Fits, first-of, spanWord, DocFits, docWord, docBit};
 use lexing::blanks::DocSpan;
+use lexing::buffers::put_two;
 
 // What the first word of a record holds, from its top; the flags are seven bits, and an absent name is zeros.
 pub struct First {
@@ -98,44 +99,4 @@ pub fn put_documented(out: &mut [u8], at: usize, first: First, doc: DocSpan)
     ensures { λ _. ⌜ now (out .exit) ≡ put at (words-bytes (first-of first ∷ docWord doc ∷ [])) (now (out .entry)) ⌝ }
 {
     put_two(out, at, first_word(first), doc_word(doc));
-}
-
-// Words one behind the other.
-pub fn put_two(out: &mut [u8], at: usize, a: u64, b: u64)
-    requires { ⌜ at + 16 ≤ length (now out) ⌝ }
-    ensures { λ _. ⌜ now (out .exit) ≡ put at (words-bytes (a ∷ b ∷ [])) (now (out .entry)) ⌝ }
-{
-    put_word(out, at, a);
-    put_word(out, at + 8, b);
-}
-
-pub fn put_three(out: &mut [u8], at: usize, a: u64, b: u64, c: u64)
-    requires { ⌜ at + 24 ≤ length (now out) ⌝ }
-    ensures { λ _. ⌜ now (out .exit) ≡ put at (words-bytes (a ∷ b ∷ c ∷ [])) (now (out .entry)) ⌝ }
-{
-    put_two(out, at, a, b);
-    put_word(out, at + 16, c);
-}
-
-pub fn put_four(out: &mut [u8], at: usize, a: u64, b: u64, c: u64, d: u64)
-    requires { ⌜ at + 32 ≤ length (now out) ⌝ }
-    ensures { λ _. ⌜ now (out .exit) ≡ put at (words-bytes (a ∷ b ∷ c ∷ d ∷ [])) (now (out .entry)) ⌝ }
-{
-    put_two(out, at, a, b);
-    put_two(out, at + 16, c, d);
-}
-
-// A word as eight bytes, the most significant first.
-pub fn put_word(out: &mut [u8], at: usize, w: u64)
-    requires { ⌜ at + 8 ≤ length (now out) ⌝ }
-    ensures { λ _. ⌜ now (out .exit) ≡ put at (big-endian 8 w) (now (out .entry)) ⌝ }
-{
-    out[at] = (w / 0x100_0000_0000_0000 % 256) as u8;
-    out[at + 1] = (w / 0x1_0000_0000_0000 % 256) as u8;
-    out[at + 2] = (w / 0x100_0000_0000 % 256) as u8;
-    out[at + 3] = (w / 0x1_0000_0000 % 256) as u8;
-    out[at + 4] = (w / 0x100_0000 % 256) as u8;
-    out[at + 5] = (w / 0x1_0000 % 256) as u8;
-    out[at + 6] = (w / 0x100 % 256) as u8;
-    out[at + 7] = (w % 256) as u8;
 }

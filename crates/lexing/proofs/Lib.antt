@@ -15,6 +15,12 @@ pub mod TokenLocality
 -- what a reader's answer gives its caller; loops of the code against `many0` and `iter`
 pub mod Slicing
 pub mod Repetition
+-- a parser made of parsers; what an answer gives its caller; several steps taken as one; parts that are dropped; words by their offsets
+pub mod Composed
+pub mod AnswerLaws
+pub mod Pairs
+pub mod Dropping
+pub mod WordBetween
 -- the doc comment of a run of blanks stands in the run
 pub mod DocPlace
 -- what a first word rules out

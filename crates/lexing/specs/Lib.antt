@@ -7,7 +7,9 @@ pub mod integers
 pub mod strings
 pub mod word_sets
 pub mod utf8
+pub mod buffers
 pub mod outcomes
 pub mod unescaping
 pub mod answers
+pub mod names
 pub mod inner

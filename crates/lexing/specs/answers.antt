@@ -3,7 +3,7 @@ use Prim.Native.Nat.{ℕ, suc, _+_, _-_, _≤_, _<_}
 use mathlib.Core.Path.{_≡_}
 use mathlib.Core.List.{List}
 use lib.ListN.{length, take, drop}
-use Rattle.lexing.specs.reply.{Reply, ok, fail, stop}
+use Rattle.lexing.specs.reply.{Reply, ok, fail, stop, Parser, _>>_}
 use Rattle.lexing.specs.words.{Word, word}
 use Rattle.lexing.specs.integers.{Signed, signed}
 use Rattle.lexing.specs.blanks.{Whitespace, white, plain, doc-comment, Doc, no-doc, doc-at, whitespace0}
@@ -129,3 +129,46 @@ pub record WordSetTo (r : WordSet) (set b : ℕ) (u : List ℕ) : Type 0 where
   pub up : b ≤ r .next
   pub inside : r .next ≤ b + length u
   pub small : r .flags < 16
+
+-- the word between two offsets of a part that starts at b
+abbrev pub wordBetween : ℕ → List ℕ → ℕ → ℕ → Word
+wordBetween b u o e = word o (take (e - o) (drop (o - b) u))
+
+-- an answer t that is a parser's: f is what it says, W are bounds that its caller needs
+pub record ReadTo {T A : Type 0} (f : ℕ → List ℕ → T → Answer A) (W : ℕ → T → Type 0) (m : Parser A) (t : T) (b : ℕ) (u : List ℕ) : Type 0 where
+  pub reads : reply (f b u t) b u ≡ m b u
+  pub within : W b t
+
+-- a name from n to e, in what was read from b to c
+pub record NameIn (b n e c : ℕ) : Type 0 where
+  pub from : b ≤ n
+  pub up : n ≤ e
+  pub inside : e ≤ c
+
+-- a step whose value is dropped
+pub record Skips {A : Type 0} (m : Parser A) (r : Step) (b : ℕ) (u : List ℕ) : Type 0 where
+  pub value : A
+  pub reads : reply (stepAnswer (λ c. value) r) b u ≡ m b u
+
+-- the same from an offset c of a part
+pub record SkipsAt {A : Type 0} (m : Parser A) (r : Step) (b : ℕ) (u : List ℕ) (c : ℕ) : Type 0 where
+  pub at : Rest b u c (drop (c - b) u)
+  pub skips : Skips m r c (drop (c - b) u)
+
+abbrev pub BlankAt : ℕ → ℕ → List ℕ → ℕ → Type 0
+BlankAt r b u c = SkipsAt whitespace0 (Next r) b u c
+
+-- `preceded` by blanks
+abbrev pub behind-blanks : {A : Type 0} → Parser A → Parser A
+behind-blanks p = whitespace0 >> p
+
+-- an integer from an offset c of a part
+pub record NumberAt (m : Parser ℕ) (r : Number) (b : ℕ) (u : List ℕ) (c : ℕ) : Type 0 where
+  pub at : Rest b u c (drop (c - b) u)
+  pub reads : numberReply r c (drop (c - b) u) ≡ m c (drop (c - b) u)
+
+-- the answer of an optional part that stands at b
+abbrev pub optionalStep : Step → ℕ → Step
+optionalStep (Next c) b = Next c
+optionalStep (Not (Fail p)) b = Next b
+optionalStep (Not (Stop n p)) b = Not (Stop n p)

@@ -2,9 +2,13 @@
 // offsets in its answer are those of the text.
 pub mod answers;
 pub mod blanks;
+pub mod buffers;
 pub mod bytes;
 pub mod integers;
+pub mod names;
+pub mod optional;
 pub mod parts;
+pub mod steps;
 pub mod strings;
 pub mod unescaping;
 pub mod utf8;

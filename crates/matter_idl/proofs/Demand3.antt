@@ -5,7 +5,8 @@ use mathlib.Core.List.{List, [], _∷_}
 use lib.ListN.{length}
 use borrow.Author.Tests.{le-leb}
 use Rattle.lexing.specs.outcomes.{written, fitted}
-use Rattle.items.specs.records.{moved, each}
+use Rattle.items.specs.records.{moved}
+use Rattle.lexing.specs.buffers.{each}
 use Rattle.items.specs.layout.{Layout, layout-20, catalogue-bytes, text-limit}
 use Rattle.matter_idl.specs.hoisting.{no-ids, hoisted}
 use Rattle.matter_idl.specs.reading.{Verdict, accepted, turned-down, verdict, into-catalogue, reading}

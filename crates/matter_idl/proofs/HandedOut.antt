@@ -5,7 +5,8 @@ use mathlib.Core.List.{List, [], _∷_, map, map-append, head-eq-of-cons-eq, tai
 use native.Mathlib.Omega.{arith}
 use lib.ListN.{length}
 use Rattle.items.specs.items.{Item}
-use Rattle.items.specs.records.{Record, moved, each}
+use Rattle.items.specs.records.{Record, moved}
+use Rattle.lexing.specs.buffers.{each}
 use Rattle.items.specs.layout.{text-limit}
 use Rattle.items.proofs.Shift.{shiftItem}
 use Rattle.matter_idl.specs.hoisting.{Tables, no-ids, held, after-items, hoisted, found, with-place}

@@ -11,7 +11,7 @@ use Rattle.lexing.proofs.Chain.{here, Clean, to-trans, to-suf, resume, ext}
 use Rattle.lexing.proofs.Repetition.{before}
 use Rattle.items.specs.items.{Item, item}
 use Rattle.items.proofs.Locality.{item-local, item-consumes}
-use Rattle.items.proofs.Onward.{rest-on}
+use Rattle.lexing.proofs.Composed.{rest-on}
 use Rattle.items.proofs.Truth.{All, ItemTrue, item-true}
 use Rattle.items.proofs.items.Laws.{item-walks}
 use Rattle.matter_idl.specs.reading.{all-items}

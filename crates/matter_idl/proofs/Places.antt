@@ -8,7 +8,8 @@ use Rattle.items.specs.entries.{Choice}
 use Rattle.items.specs.structs.{Struct}
 use Rattle.items.specs.clusters.{Member, revision, bitmap, enum, struct, attribute, command, event}
 use Rattle.items.specs.items.{Item, cluster-item, endpoint-item, enum-item, bitmap-item, struct-item, blank-item}
-use Rattle.items.specs.records.{Record, each, documented, choice-records, struct-records, member-records, cluster-records, item-records}
+use Rattle.items.specs.records.{Record, documented, choice-records, struct-records, member-records, cluster-records, item-records}
+use Rattle.lexing.specs.buffers.{each}
 use Rattle.items.specs.layout.{layout-20, record-words, catalogue-words, word-count}
 use Rattle.items.specs.answers.items.{unhoisted-item}
 use Rattle.matter_idl.specs.hoisting.{Tables, after-item, hoisted, with-place}

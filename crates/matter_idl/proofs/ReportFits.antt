@@ -10,7 +10,7 @@ use Rattle.lexing.specs.reply.{Reply, ok, fail, stop}
 use Rattle.lexing.specs.utf8.{utf8-error}
 use Rattle.lexing.proofs.utf8.Laws.{utf8-inside}
 use Rattle.items.specs.items.{Item}
-use Rattle.items.specs.records.{each}
+use Rattle.lexing.specs.buffers.{each}
 use Rattle.items.specs.layout.{layout-20, packed, width, catalogue-words, text-limit}
 use Rattle.items.proofs.RecordsFit.{RecordFits, WordFits, Word64, word-less, layout-20-fits, catalogue-fits, all-map, all-each}
 use Rattle.items.proofs.RefusedPlaces.{RefusedIn}

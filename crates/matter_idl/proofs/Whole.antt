@@ -12,7 +12,7 @@ use Rattle.lexing.specs.utf8.{run, fault, utf8-error}
 use Rattle.lexing.proofs.utf8.Laws.{utf8-append}
 use Rattle.items.specs.items.{Item}
 use Rattle.items.specs.layout.{text-limit}
-use Rattle.items.proofs.Onward.{rest-whole}
+use Rattle.lexing.proofs.Composed.{rest-whole}
 use Rattle.items.proofs.RecordsFit.{all-append}
 use Rattle.items.proofs.Truth.{All, ItemTrue}
 use Rattle.matter_idl.specs.reading.{itemsWithin, all-items, Verdict, accepted, turned-down, by-reply, by-utf8, verdict-at, verdict}

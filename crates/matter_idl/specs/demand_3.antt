@@ -8,7 +8,8 @@ use lib.Dec.{eqb}
 use lib.ListN.{length}
 use Rattle.lexing.specs.outcomes.{Outcome, refused, written}
 use Rattle.items.specs.items.{Item}
-use Rattle.items.specs.records.{Record, moved, each}
+use Rattle.items.specs.records.{Record, moved}
+use Rattle.lexing.specs.buffers.{each}
 use Rattle.items.specs.layout.{Layout, layout-20, catalogue-bytes, text-limit}
 use Rattle.matter_idl.specs.hoisting.{Tables, no-ids, held, after-items, hoisted, found, with-place}
 use Rattle.matter_idl.specs.reading.{Verdict, accepted, turned-down, verdict, reading}

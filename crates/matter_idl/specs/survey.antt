@@ -6,8 +6,9 @@ use lib.Dec.{leb}
 use lib.ListN.{length}
 use Rattle.lexing.specs.outcomes.{Outcome, refused, written}
 use Rattle.items.specs.items.{Item}
-use Rattle.items.specs.records.{Bits, bits, each}
-use Rattle.items.specs.layout.{Layout, packed, words-bytes, catalogue-bytes, text-limit}
+use Rattle.items.specs.records.{Bits, bits}
+use Rattle.lexing.specs.buffers.{each, words-bytes}
+use Rattle.items.specs.layout.{Layout, packed, catalogue-bytes, text-limit}
 use Rattle.matter_idl.specs.hoisting.{no-ids, hoisted}
 use Rattle.matter_idl.specs.reading.{Verdict, accepted, turned-down, verdict-at}
 use Rattle.matter_idl.specs.sections.{sections}

@@ -3,13 +3,14 @@ ghost use mathlib.Core.Path.{_≡_};
 ghost use Prim.Native.Nat.{_+_, _/_, _%_, _^_, _≤_, _<_};
 ghost use lib.ListN.{length, take, drop};
 ghost use Rattle.lexing.specs.word_sets.{same-bytes};
-ghost use Rattle.items.specs.layout.{from-big-endian, words-of-kind, text-limit};
+ghost use Rattle.lexing.specs.buffers.{from-big-endian};
+ghost use Rattle.items.specs.layout.{words-of-kind, text-limit};
 ghost use Rattle.matter_idl.specs.inner.bits.{bits-size};
 ghost use Rattle.matter_idl.specs.inner.hoisting.{NameIn, word-hits, word-hash, is-unmarked, Catalogue, HeldTo, KnownTo, Marking, MarkedTo, Unhoisted, HoistedTo};
 use crate::filter::add;
 use crate::filter::hash_of;
 use crate::filter::may_hold;
-use items::writing::put_word;
+use lexing::buffers::put_word;
 
 // How many words a record of a kind takes.
 fn words_of(kind: u8) -> usize

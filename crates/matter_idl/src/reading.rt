@@ -2,7 +2,7 @@
 ghost use Prim.Native.Nat.{_+_, _≤_};
 ghost use lib.ListN.{length};
 ghost use Rattle.items.specs.layout.{text-limit};
-ghost use Rattle.items.specs.records.{each};
+ghost use Rattle.lexing.specs.buffers.{each};
 ghost use Rattle.items.specs.answers.{CountTo, Room};
 ghost use Rattle.items.specs.answers.items.{unhoisted-item};
 ghost use mathlib.Core.Path.{_≡_};

@@ -4,7 +4,7 @@ ghost use mathlib.Core.List.{[], _∷_};
 ghost use Prim.Native.Nat.{_+_, _*_, _^_, _≤_, _<_};
 ghost use lib.ListN.{length};
 ghost use Rattle.items.specs.layout.{layout-20, catalogue-bytes, text-limit, word-count};
-ghost use Rattle.items.specs.buffers.{put};
+ghost use Rattle.lexing.specs.buffers.{put};
 ghost use Rattle.matter_idl.specs.hoisting.{no-ids, hoisted};
 ghost use Rattle.matter_idl.specs.sections.{sections};
 ghost use Rattle.matter_idl.specs.reading.{verdict-at};
@@ -19,7 +19,7 @@ use crate::reading::verdict_at;
 use crate::reading::write_items;
 use crate::sections::section_at;
 use crate::sections::section_end;
-use items::writing::put_word;
+use lexing::buffers::put_word;
 use lexing::parts::rest_at;
 
 fn entry_word(start: usize, size: usize, number: usize, place: usize) -> u64

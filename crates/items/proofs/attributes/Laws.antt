@@ -9,9 +9,8 @@ use lib.ListN.{length, take, drop}
 use Rattle.lexing.specs.bytes.{ascii, within, lower}
 use Rattle.lexing.specs.reply.{Reply, ok, fail, stop, Parser, ret, _>>=_, _>>_, catch, opt, prepend, manyWithin, many0, stopAt, pick}
 use Rattle.lexing.specs.words.{Word, bytesOf, offsetOf, isKeyword, isLower, keyword, any-keyword}
-use Rattle.lexing.specs.blanks.{Doc}
 use Rattle.lexing.specs.word_sets.{same-bytes}
-use Rattle.lexing.specs.answers.{docOf, got, lost, Rest, lostReply, reply, tagReply, wordAt, wordReply}
+use Rattle.lexing.specs.answers.{docOf, got, lost, Rest, lostReply, reply, tagReply, wordAt, wordReply, ReadTo}
 use Rattle.lexing.specs.declared.answers.Lost.{Lost}
 use Rattle.lexing.specs.declared.blanks.DocSpan.{DocSpan}
 use Rattle.lexing.specs.declared.answers.Lost.the-variants.{Fail, Stop}
@@ -25,13 +24,13 @@ use Rattle.lexing.proofs.Repetition.{ManyAt, manyEnd, many0-start, many0-step, 
 use Rattle.lexing.proofs.words.Laws.{keyword-says}
 use Rattle.items.specs.members.{Access as AccessOf, access-entry, comma, separated-list0, access-list, Privileges as PrivilegesOf, granted-by, default-privileges, listed, attribute-access, Attribute as AttributeOf, parse-attribute-after-doc-maturity}
 use Rattle.items.specs.clusters.{mapped}
-use Rattle.items.specs.records.{each, plain, documented, field-record, attribute-records, absent, bits}
-use Rattle.items.specs.layout.{layout-20, record-words, catalogue-words, word-count, packed, width, from-top, offset, size, words-bytes, catalogue-bytes, text-limit}
-use Rattle.items.specs.answers.{ReadTo, CountTo, first-of, docWord, docBit}
+use Rattle.lexing.specs.buffers.{each, words-bytes, put}
+use Rattle.items.specs.records.{plain, documented, field-record, attribute-records, absent, bits}
+use Rattle.items.specs.layout.{layout-20, record-words, catalogue-words, word-count, packed, width, from-top, offset, size, catalogue-bytes, text-limit}
+use Rattle.items.specs.answers.{CountTo, first-of, docWord, docBit}
 use Rattle.items.specs.answers.attributes.{SmallPrivileges, PrivilegesTo, AttributeTo, attributeAt, AttributeBetween}
 use Rattle.items.specs.inner.attributes.{access-words, operation-of, operationBy, operationAnswer, operationLost, operationMeans, OperationTo, grantBy, grant-of, grantSmall, accessLost, AccessTo, separated-entry, grantsWith, grants-from, grantsSmall, listAnswer, listLost, listSmall, ListTo, listEnd, no-grants, optionalList, attribute-first, attribute-parts}
 use Rattle.items.specs.declared.counts.Count.the-variants.{Words}
-use Rattle.items.specs.buffers.{put}
 use Rattle.items.specs.inner.structs.{field-parts}
 use Rattle.items.specs.declared.attributes.AttributeParts.{AttributeParts}
 use Rattle.items.specs.declared.attributes.Operation.{Operation}
@@ -50,15 +49,16 @@ use Rattle.items.specs.declared.attributes.PrivilegesRead.{PrivilegesRea
 use Rattle.items.specs.declared.attributes.PrivilegesRead.the-variants.{Privileges, NoPrivileges}
 use Rattle.items.specs.declared.attributes.AttributeRead.{AttributeRead}
 use Rattle.items.specs.declared.attributes.AttributeRead.the-variants.{Attribute}
-use Rattle.items.proofs.Answers.{read-within, read-lost}
+use Rattle.lexing.proofs.AnswerLaws.{read-within, read-lost}
 use Rattle.items.proofs.Mapped.{TookAs, lost-as, mapped-ok, mapped-not, read-as, mapped-after}
 use Rattle.items.proofs.Locality.{access-entry-inside, access-entry-consumes, comma-local, separated-list0-inside, access-list-inside, attribute-access-inside, parse-attribute-consumes}
 use Rattle.items.proofs.counts.Laws.{read-counted}
 use Rattle.items.proofs.Choice.{or-both}
-use Rattle.items.proofs.RecordWords.{words-bytes-length, catalogue-bytes-append, catalogue-bytes-length}
-use Rattle.items.proofs.writing.Laws.{put-on, documented-bytes}
+use Rattle.lexing.proofs.buffers.Laws.{words-bytes-length, put-on}
+use Rattle.items.proofs.RecordWords.{catalogue-bytes-append, catalogue-bytes-length}
+use Rattle.items.proofs.writing.Laws.{documented-bytes}
 use Rattle.items.proofs.structs.Laws.{other-case, by-case, field-parts-is, field-parts-words, field-in-limit}
-use Rattle.items.proofs.optional.Laws.{opt-ok, opt-fail, opt-stop}
+use Rattle.lexing.proofs.optional.Laws.{opt-ok, opt-fail, opt-stop}
 
 -- the word of an entry
 pub read-operation : operation-of (ascii "read") ≡ Read

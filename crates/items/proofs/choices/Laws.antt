@@ -1,34 +1,54 @@
 -- Enums and bitmaps.
-use mathlib.Core.Path.{_≡_, refl, subst}
+use mathlib.Core.Path.{_≡_, refl, sym, _∙_, subst}
 use mathlib.Core.Bool.{Bool}
-use mathlib.Core.Option.{Option}
+use mathlib.Core.Option.{Option, none, some}
 use mathlib.Core.List.{List, [], _∷_, map}
-use Prim.Native.Nat.{ℕ, _+_, _-_, _*_, _≤_, _<_}
+use Prim.Native.Nat.{ℕ, _+_, _-_, _*_, _≤_}
 use native.Mathlib.Omega.{arith}
+use borrow.Author.Tests.{lt-ltb, le-ltb}
 use lib.Dec.{ltb}
 use lib.ListN.{length, drop}
-use Rattle.lexing.specs.reply.{ok, opt}
-use Rattle.lexing.specs.words.{Word, parse-id}
+use Rattle.lexing.specs.reply.{Reply, ok, fail, stop, Parser, opt}
+use Rattle.lexing.specs.words.{Word}
 use Rattle.lexing.specs.word_sets.{bit}
 use Rattle.lexing.proofs.Onward.{Onward}
-use Rattle.lexing.proofs.Locality.{chain-opt}
+use Rattle.lexing.proofs.Locality.{Consumes, chain-opt}
 use Rattle.lexing.proofs.Slicing.{Took, walks, rest-self}
 use Rattle.items.specs.entries.{present, Entry, shared-before, choice-head, constant-entries-list, choice-after-doc-maturity}
-use Rattle.items.specs.records.{at, spanned, flag, each, word-extent, documented, entry-record, choice-records}
-use Rattle.items.specs.layout.{packed, width, from-top, offset, size, layout-20, further-word, record-words, words-bytes, catalogue-words, catalogue-bytes, word-count, text-limit}
-use Rattle.items.specs.buffers.{put}
-use Rattle.items.specs.answers.{wordBetween, Front, first-of, spanWord, docWord, docBit, frontOf}
+use Rattle.items.specs.records.{at, spanned, flag, word-extent, documented, entry-record, choice-records}
+use Rattle.lexing.specs.buffers.{each, words-bytes, put}
+use Rattle.items.specs.layout.{packed, width, from-top, offset, size, layout-20, further-word, record-words, catalogue-words, catalogue-bytes, word-count, text-limit}
+use Rattle.lexing.specs.answers.{wordBetween}
+use Rattle.items.specs.answers.{Front, first-of, spanWord, docWord, docBit, frontOf}
 use Rattle.items.specs.inner.choices.{choice-first}
 use Rattle.items.specs.declared.writing.FrontParts.{FrontParts}
 use Rattle.items.specs.answers.choices.{ChoiceFrom, choiceHeadAt, ChoiceHeadBetween, ChoiceHeadTo}
 use Rattle.items.specs.declared.choices.ChoiceHeadParts.{ChoiceHeadParts}
 use Rattle.items.specs.declared.choices.ChoiceHeadRead.the-variants.{ChoiceHead}
-use Rattle.items.proofs.Answers.{read-is}
+use Rattle.lexing.proofs.AnswerLaws.{read-is, read-on}
 use Rattle.items.proofs.Headed.{Headed}
 use Rattle.items.proofs.WordBetween.{extent-between}
 use Rattle.items.proofs.writing.Laws.{documented-put}
 use Rattle.items.proofs.Locality.{shared-before-local, shared-before-consumes, choice-head-local, constant-entries-list-local}
-use Rattle.items.proofs.optional.Laws.{opt-present, skip-took}
+use Rattle.lexing.proofs.optional.Laws.{skip-took, opt-ok, opt-fail, opt-stop}
+
+-- a part that takes a byte is there where reading goes on behind its start
+pub opt-present : {A : Type 0} {m : Parser A} → Onward m → Consumes m → (b : ℕ) (u : List ℕ) {a : Option A} {c : ℕ} → ok a c (drop (c - b) u) ≡ opt m b u → present a ≡ ltb b c
+unfolding present
+opt-present {A} {m} w v b u {a} {c} e = go (m b u) refl
+  where
+    go : (x : Reply A) → m b u ≡ x → present a ≡ ltb b c
+    go (ok y d r) z =
+        let k : ok a c (drop (c - b) u) ≡ ok (some y) d r = e ∙ sym (opt-ok m b u y d r (sym z)) in
+        let is : a ≡ some y = cc in
+        let reads : ok y c (drop (c - b) u) ≡ ok y d r = cc in
+        rw (is, lt-ltb b c (read-on w v (reads ∙ sym z) .0))
+    go (fail p) z =
+        let k : ok a c (drop (c - b) u) ≡ ok none b u = e ∙ sym (opt-fail m b u p (sym z)) in
+        let is : a ≡ none = cc in
+        let here : c ≡ b = cc in
+        rw (is, le-ltb b c (omega (arith, here)))
+    go (stop n p) z = let k : ok a c (drop (c - b) u) ≡ stop n p = e ∙ sym (opt-stop m b u n p (sym z)) in let y : _≡_ {A = ℕ} 0 1 = cc in absurd (omega arith)
 
 -- `shared`, which may be missing
 pub record Shared (b : ℕ) (u : List ℕ) (f : ℕ) : Type 0 where

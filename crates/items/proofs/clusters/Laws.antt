@@ -31,7 +31,8 @@ use Rattle.items.specs.entries.{shared-before, choice-head, choice-after
 use Rattle.items.specs.structs.{struct-head, parse-struct-after-doc-maturity}
 use Rattle.items.specs.members.{parse-attribute-after-doc-maturity, parse-command-after-doc-maturity}
 use Rattle.items.specs.clusters.{revision, bitmap, enum, struct, attribute, command, event, parse-revision, member-tries, parse-cluster-member, cluster-members}
-use Rattle.items.specs.records.{Record, each, attribute-records, member-records}
+use Rattle.items.specs.records.{Record, attribute-records, member-records}
+use Rattle.lexing.specs.buffers.{each}
 use Rattle.items.specs.layout.{word-count}
 use Rattle.items.specs.answers.{CountTo, countLost, countEnd}
 use Rattle.items.specs.answers.choices.{ChoiceFrom, ChoiceCountTo}
@@ -51,7 +52,7 @@ use Rattle.items.proofs.RecordWords.{word-count-none, each-elementwise}
 use Rattle.items.proofs.counts.Laws.{Counting, counting-start, counting-more, counting-ends, count-took, count-none, read-counted, count-is, count-not, count-lost, count-mapped, count-value}
 use Rattle.items.proofs.Locality.{parse-revision-consumes as revision-consumes, member-tries-inside, parse-cluster-member-inside, parse-cluster-member-consumes}
 use Rattle.items.proofs.Choice.{or-fail, End, kept, lost, ends, Tries, more, last, keeps, left, Within, Reaches, choice}
-use Rattle.items.proofs.steps.Laws.{blank-is}
+use Rattle.lexing.proofs.steps.Laws.{blank-is}
 use Rattle.items.proofs.Letters.{Letters, all-out, outs-free, NoneOf, all-begin, initials-free}
 use Rattle.items.proofs.Tries.{bind-ok, bind-fail, then-ok, then-fail, opt-none, opt-some, mapped-fail, starts-shared, shared-any, revision-elsewhere, choice-elsewhere, struct-elsewhere, attribute-elsewhere, command-elsewhere, event-elsewhere}
 

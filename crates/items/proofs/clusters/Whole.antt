@@ -6,10 +6,10 @@ use Prim.Native.Nat.{ℕ, _+_, _-_, _≤_, _<_, max}
 use native.Mathlib.Omega.{arith}
 use lib.ListN.{length, drop}
 use Rattle.lexing.specs.bytes.{ascii}
-use Rattle.lexing.specs.reply.{Reply, ok, fail, stop, Parser, ret, _>>=_, _>>_, catch, failAt, _or_, further, opt, many0}
+use Rattle.lexing.specs.reply.{Reply, ok, fail, stop, Parser, ret, _>>_, catch, failAt, _or_, further, opt, many0}
 use Rattle.lexing.specs.words.{Word, keyword, any-keyword, tag}
 use Rattle.lexing.specs.blanks.{Doc, whitespace0}
-use Rattle.lexing.specs.answers.{Rest, wordAt, wordReply, lostReply}
+use Rattle.lexing.specs.answers.{Rest, wordAt, wordReply, lostReply, NameIn}
 use Rattle.lexing.specs.declared.answers.Lost.{Lost}
 use Rattle.lexing.specs.declared.answers.Lost.the-variants.{Fail, Stop}
 use Rattle.lexing.specs.declared.answers.Step.{Step}
@@ -27,10 +27,10 @@ use Rattle.items.specs.entries.{enclosed, where-missing, braces, api-mat
 use Rattle.items.specs.structs.{parse-struct-after-doc-maturity}
 use Rattle.items.specs.members.{parse-event-after-doc-maturity, parse-command-after-doc-maturity, parse-attribute-after-doc-maturity}
 use Rattle.items.specs.clusters.{Member, revision, bitmap, enum, struct, attribute, command, event, parse-revision, member-tries, parse-cluster-member, cluster-members, side, cluster-head, cluster-after-doc-maturity}
-use Rattle.items.specs.records.{Record, at, value, each, word-extent, documented, choice-records, struct-records, attribute-records, event-records, member-records, last-revision, cluster-records}
-use Rattle.items.specs.layout.{packed, width, from-top, offset, size, layout-20, record-words, words-bytes, further-word, catalogue-words, catalogue-bytes, word-count}
-use Rattle.items.specs.buffers.{put}
-use Rattle.items.specs.answers.{Front, frontOf, NameIn, Room, Written, first-of, docWord, docBit}
+use Rattle.items.specs.records.{Record, at, value, word-extent, documented, choice-records, struct-records, attribute-records, event-records, member-records, last-revision, cluster-records}
+use Rattle.lexing.specs.buffers.{each, words-bytes, put}
+use Rattle.items.specs.layout.{packed, width, from-top, offset, size, layout-20, record-words, further-word, catalogue-words, catalogue-bytes, word-count}
+use Rattle.items.specs.answers.{Front, frontOf, Room, Written, first-of, docWord, docBit}
 use Rattle.items.specs.answers.members.{command-records}
 use Rattle.items.specs.answers.clusters.{RevisionTo, clusterHeadAt, unhoisted-records}
 use Rattle.items.specs.inner.clusters.{found, member-try, KindTo, member-behind, members-rest, unhoisted, MemberWritten, MembersWritten, revisionWrote, cluster-first}
@@ -41,9 +41,9 @@ use Rattle.items.specs.declared.clusters.MemberKind.the-variants.{Revisi
 use Rattle.items.specs.declared.clusters.Candidate.{Candidate}
 use Rattle.items.specs.declared.clusters.ClusterHeadParts.{ClusterHeadParts}
 use Rattle.items.specs.declared.clusters.MembersWrote.{MembersWrote}
-use Rattle.items.proofs.Answers.{reads-as, read-took}
+use Rattle.lexing.proofs.AnswerLaws.{reads-as, read-took}
 use Rattle.items.proofs.Keywords.{keyword-missing}
-use Rattle.items.proofs.Onward.{onward-bind}
+use Rattle.lexing.proofs.Composed.{onward-bind}
 use Rattle.items.proofs.Headed.{Headed}
 use Rattle.items.proofs.Choice.{further-ok, ok-further}
 use Rattle.items.proofs.Tries.{maturity-words, bind-ok, then-ok, maturity-elsewhere}
@@ -51,7 +51,8 @@ use Rattle.items.proofs.Braces.{Step as Taken, lost-not, brace-first, b
 use Rattle.items.proofs.RecordWords.{Elementwise, each-elementwise, word-count-none, catalogue-bytes-none}
 use Rattle.items.proofs.Locality.{braces-chain, api-maturity-local, parse-revision-local, member-tries-inside, parse-cluster-member-inside, parse-cluster-member-consumes, side-local, cluster-head-local}
 use Rattle.items.proofs.WordBetween.{extent-between}
-use Rattle.items.proofs.writing.Laws.{put-nothing, documented-bytes, no-room, Writing, writing-start, writing-start-seen, writing-same, writing-fits, writing-more, writing-more-seen}
+use Rattle.lexing.proofs.buffers.Laws.{put-nothing}
+use Rattle.items.proofs.writing.Laws.{documented-bytes, no-room, Writing, writing-start, writing-start-seen, writing-same, writing-fits, writing-more, writing-more-seen}
 use Rattle.items.proofs.Recorded.{Recorded, recorded-at, recorded-room, recorded-written}
 use Rattle.items.proofs.clusters.Laws.{OtherWord, at-other, member-left, member-tries-on, members-on}
 

@@ -7,7 +7,7 @@ use lib.ListN.{length, drop, length-drop}
 use Rattle.lexing.specs.reply.{ok, Parser, _>>_, many0}
 use Rattle.lexing.specs.words.{tag}
 use Rattle.lexing.specs.blanks.{whitespace0}
-use Rattle.lexing.specs.answers.{Answer, got, Rest, lostReply, lostOf, reply}
+use Rattle.lexing.specs.answers.{Answer, got, Rest, lostReply, lostOf, reply, ReadTo, SkipsAt}
 use Rattle.lexing.specs.declared.answers.Lost.{Lost}
 use Rattle.lexing.specs.declared.answers.Lost.the-variants.{Fail, Stop}
 use Rattle.lexing.specs.declared.answers.Step.{Step}
@@ -19,11 +19,11 @@ use Rattle.lexing.proofs.Repetition.{ManyAt, manyEnd, many0-start, many0-step, 
 use Rattle.items.specs.clusters.{mapped}
 use Rattle.items.specs.records.{Record}
 use Rattle.items.specs.layout.{word-count}
-use Rattle.items.specs.answers.{ReadTo, SkipsAt, counted, countLost, countEnd, CountTo, Room}
+use Rattle.items.specs.answers.{counted, countLost, countEnd, CountTo, Room}
 use Rattle.items.specs.inner.counts.{EndsIn, closedCount, ClosedTo}
 use Rattle.items.specs.declared.counts.Count.{Count}
 use Rattle.items.specs.declared.counts.Count.the-variants.{Words, NoCount}
-use Rattle.items.proofs.Answers.{reads-as, read-on}
+use Rattle.lexing.proofs.AnswerLaws.{reads-as, read-on}
 use Rattle.items.proofs.Mapped.{mapped-twice, value-as, TookAs, took-as, lost-as, mapped-ok, mapped-not}
 use Rattle.items.proofs.RecordWords.{Elementwise, word-count-none, word-count-more}
 

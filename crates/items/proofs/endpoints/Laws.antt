@@ -5,14 +5,14 @@ use mathlib.Core.Bool.{Bool, true, false}
 use mathlib.Core.Option.{Option, none, some}
 use Prim.Native.Nat.{ℕ, zero, suc, _+_, _-_, _*_, _≤_, _<_}
 use native.Mathlib.Omega.{arith}
-use lib.ListN.{length, drop, take}
-use Rattle.lexing.specs.reply.{Reply, ok, fail, stop, Parser, _>>_, opt, keep}
-use Rattle.lexing.specs.bytes.{isLetter, isSpace, within}
-use Rattle.lexing.specs.words.{Word, word, keyword}
+use lib.ListN.{length, drop}
+use Rattle.lexing.specs.reply.{Reply, ok, fail, stop, Parser, _>>_, opt}
+use Rattle.lexing.specs.bytes.{within}
+use Rattle.lexing.specs.words.{Word, word}
 use Rattle.lexing.specs.integers.{signed, positive-integer, signed-integer}
-use Rattle.lexing.specs.blanks.{Doc, no-doc, one-blank, whitespace0, whitespace1}
+use Rattle.lexing.specs.blanks.{Doc, whitespace1}
 use Rattle.lexing.specs.strings.{Span, span, default-escape, default-string}
-use Rattle.lexing.specs.answers.{Answer, got, lost, reply, lostReply, Rest, lostOf, numberLost, numberReply, signedReply, spanTo, stringReply}
+use Rattle.lexing.specs.answers.{reply, lostReply, Rest, lostOf, numberLost, numberReply, signedReply, spanTo, stringReply, NameIn, wordBetween}
 use Rattle.lexing.specs.declared.answers.Lost.{Lost}
 use Rattle.lexing.specs.declared.answers.Lost.the-variants.{Fail, Stop}
 use Rattle.lexing.specs.declared.answers.Step.{Step}
@@ -23,17 +23,14 @@ use Rattle.lexing.specs.declared.integers.SignedNumber.{SignedNumber}
 use Rattle.lexing.specs.declared.integers.SignedNumber.the-variants.{Sized, NoSigned}
 use Rattle.lexing.proofs.Onward.{Onward}
 use Rattle.lexing.proofs.Locality.{Consumes, chain-opt, chain-then, consumes-then-right}
-use Rattle.lexing.proofs.TokenLocality.{whitespace0-chain, whitespace1-chain, no-group, one-blank-consumes}
-use Rattle.lexing.proofs.Repetition.{iter-fail}
-use Rattle.lexing.proofs.words.Laws.{keyword-no-word}
-use Rattle.lexing.proofs.Slicing.{Took, took, walks, rebase, begin, on, told-next, step-lost, integer-lost}
+use Rattle.lexing.proofs.TokenLocality.{whitespace0-chain, whitespace1-chain}
+use Rattle.lexing.proofs.Slicing.{Took, took, walks, begin, on, told-next, step-lost, integer-lost}
 use Rattle.items.specs.clusters.{mapped}
 use Rattle.items.specs.endpoints.{name-behind, device-version, Default as DefaultOf, number, signed-number, truth, text, value-tries, default-attribute-value, attribute-handling-type, AttributeInstance as AttributeInstanceOf, attribute-instantiation, named-after, Instance as InstanceOf, Part, attribute-instance, command-instance, event-instance, instance-tries, deep-run, deep-braces, DeviceType as DeviceTypeOf, device-type, device, binding, instantiation, instantiation-head, cluster-instantiation, part-tries, endpoint-head, endpoint}
-use Rattle.items.specs.records.{Bits, absent, at, bits, value, word-extent, plain, each, twos-complement, default-number, default-word, instance-record, part-records, endpoint-records}
+use Rattle.items.specs.records.{Bits, absent, at, bits, value, word-extent, plain, twos-complement, default-number, default-word, instance-record, part-records, endpoint-records}
+use Rattle.lexing.specs.buffers.{each, big-endian, words-bytes, put}
 use Rattle.items.specs.inner.endpoints.{blank-binding, plainWord, name-parts, device-parts, instance-parts, endpoint-first}
-use Rattle.items.specs.layout.{packed, width, from-top, offset, size, layout-20, further-word, record-words, big-endian, words-bytes, catalogue-words, catalogue-bytes, word-count, text-limit}
-use Rattle.items.specs.buffers.{put}
-use Rattle.items.specs.answers.{NameIn, wordBetween}
+use Rattle.items.specs.layout.{packed, width, from-top, offset, size, layout-20, further-word, record-words, catalogue-words, catalogue-bytes, word-count, text-limit}
 use Rattle.items.specs.answers.endpoints.{deviceTypeAt, InstanceIn, attributeInstanceAt, valueOf, valueAnswer, ValueIn, ValueTo, SpanIn, DefaultIn, optionalValue, defaultOf, OptionalTo}
 use Rattle.items.specs.declared.endpoints.DeviceTypeParts.{DeviceTypeParts}
 use Rattle.items.specs.declared.endpoints.AttributeInstanceParts.{AttributeInstanceParts}
@@ -47,11 +44,12 @@ use Rattle.items.specs.declared.endpoints.Default.the-variants.{Absent, 
 use Rattle.items.specs.declared.endpoints.DefaultRead.{DefaultRead}
 use Rattle.items.proofs.Locality.{name-behind-local, device-version-local, value-tries-local, default-attribute-value-local, attribute-handling-type-local, attribute-instantiation-inside, named-after-local, named-after-consumes, instance-tries-inside, instance-tries-consumes, deep-run-inside, instances-local, instantiation-head-local, device-type-inside, cluster-instantiation-inside, part-tries-inside, part-tries-consumes, parts-local, endpoint-head-local}
 use Rattle.items.proofs.Mapped.{mapped-ok, mapped-not}
-use Rattle.items.proofs.Answers.{read-within, read-took, last-lost}
-use Rattle.items.proofs.WordBetween.{word-moved, extent-between}
-use Rattle.items.proofs.optional.Laws.{opt-ok, opt-fail, opt-stop}
+use Rattle.lexing.proofs.AnswerLaws.{last-lost}
+use Rattle.items.proofs.WordBetween.{extent-between}
+use Rattle.lexing.proofs.optional.Laws.{opt-ok, opt-fail, opt-stop}
 use Rattle.items.proofs.Headed.{Headed}
-use Rattle.items.proofs.writing.Laws.{put-one, plain-bytes}
+use Rattle.lexing.proofs.buffers.Laws.{put-one}
+use Rattle.items.proofs.writing.Laws.{plain-bytes}
 use Rattle.items.proofs.Choice.{or-both, Past}
 use Rattle.items.proofs.Tries.{bind-fail, then-fail, then-ok, mapped-fail}
 use Rattle.items.proofs.Braces.{brace-keyword, brace-blank}

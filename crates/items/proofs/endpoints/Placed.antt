@@ -3,10 +3,7 @@ use mathlib.Core.Path.{_≡_, refl, sym, ap, _∙_, subst}
 use mathlib.Core.List.{List, [], _∷_, _++_}
 use Prim.Native.Nat.{ℕ, zero, suc, _+_, _-_, _*_, _≤_, _<_, max}
 use native.Mathlib.Omega.{arith}
-use mathlib.Core.Bool.{Bool, true, false}
-use lib.Dec.{eqb}
 use lib.ListN.{length, drop}
-use borrow.Author.Tests.{eqb-true}
 use Rattle.lexing.specs.reply.{Reply, ok, fail, stop, Parser, ret, _>>=_, _>>_, iterWithin, iter, position, failAt}
 use Rattle.lexing.specs.words.{tag}
 use Rattle.lexing.specs.blanks.{Doc, whitespace0}
@@ -22,18 +19,19 @@ use Rattle.items.specs.clusters.{mapped}
 use Rattle.items.specs.endpoints.{Tried as TriedOf, Deep, intercept, deep-step, deeper, deep-run, deep-place, deep-braces}
 use Rattle.items.specs.records.{Record}
 use Rattle.items.specs.layout.{layout-20, catalogue-bytes, word-count}
-use Rattle.items.specs.buffers.{put}
+use Rattle.lexing.specs.buffers.{put}
 use Rattle.items.specs.answers.{Room, Written}
 use Rattle.items.specs.answers.endpoints.{TryRoom, TryWritten}
 use Rattle.items.specs.inner.endpoints.{deep-close, deep-tail, deep-rest}
 use Rattle.items.specs.declared.writing.Wrote.{Wrote}
-use Rattle.items.proofs.Onward.{onward-bind}
+use Rattle.lexing.proofs.Composed.{onward-bind}
 use Rattle.items.proofs.Mapped.{mapped-ok, mapped-not, value-as}
 use Rattle.items.proofs.Locality.{deep-step-consumes, deep-run-inside}
 use Rattle.items.proofs.RecordWords.{Elementwise, word-count-none, word-count-more, catalogue-bytes-none, catalogue-bytes-length, catalogue-bytes-more}
 use Rattle.items.proofs.Braces.{lost-not, brace-first, Step, rest-is, taken, then-value, follows, close-took, close-caught}
 use Rattle.items.proofs.endpoints.Deep.{intercept-found, intercept-last, next-at, stop-at, deep-close-on}
-use Rattle.items.proofs.writing.Laws.{put-length, put-nothing, put-on, no-room}
+use Rattle.lexing.proofs.buffers.Laws.{put-length, put-nothing, put-on}
+use Rattle.items.proofs.writing.Laws.{no-room}
 
 -- where a closing brace stands every try fails
 abbrev pub Unclosing : {A : Type 0} → (ℕ → Parser (TriedOf A)) → Type 0

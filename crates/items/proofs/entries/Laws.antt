@@ -17,9 +17,9 @@ use Rattle.lexing.proofs.Locality.{Consumes, chain-ret, chain-many0, chain-opt,
 use Rattle.lexing.proofs.TokenLocality.{whitespace0-chain}
 use Rattle.lexing.proofs.Slicing.{Took, took, walks, rest-self, begin, on, told-next, step-lost, string-took}
 use Rattle.items.specs.entries.{Annotation, constant-annotation, blank-annotation, constant-annotations-list, Entry, constant-entry, blank-entry, constant-entries}
-use Rattle.items.specs.records.{Record, value, entry-record, plain, each}
-use Rattle.items.specs.layout.{packed, width, from-top, offset, size, further-word, word-count, catalogue-words, catalogue-bytes, record-words, words-bytes, layout-20}
-use Rattle.items.specs.buffers.{put}
+use Rattle.items.specs.records.{Record, value, entry-record, plain}
+use Rattle.lexing.specs.buffers.{each, words-bytes, put}
+use Rattle.items.specs.layout.{packed, width, from-top, offset, size, further-word, word-count, catalogue-words, catalogue-bytes, record-words, layout-20}
 use Rattle.items.specs.answers.{first-of, Room, Written}
 use Rattle.items.specs.answers.entries.{entryAt, entryLost, EntryBounds, EntryTo}
 use Rattle.items.specs.inner.entries.{entry-end, EndTo, parts-record}
@@ -27,8 +27,9 @@ use Rattle.items.specs.declared.entries.EntryParts.{EntryParts}
 use Rattle.items.specs.declared.entries.EntryRead.{EntryRead}
 use Rattle.items.specs.declared.entries.EntryRead.the-variants.{Read, NoEntry}
 use Rattle.items.proofs.Locality.{punct-local, constant-annotation-local, constant-annotation-consumes, constant-annotations-list-inside, constant-entry-inside, blank-entry-inside, blank-entry-consumes}
-use Rattle.items.proofs.Answers.{read-within, read-took, read-lost}
-use Rattle.items.proofs.WordBetween.{word-moved, extent-between}
+use Rattle.lexing.proofs.AnswerLaws.{read-within, read-took, read-lost}
+use Rattle.lexing.proofs.WordBetween.{word-moved}
+use Rattle.items.proofs.WordBetween.{extent-between}
 use Rattle.items.proofs.RecordWords.{map-elementwise}
 use Rattle.items.proofs.counts.Laws.{Counting, counting-more}
 use Rattle.items.proofs.writing.Laws.{Writing, writing-fits, writing-more, writing-ends}

@@ -12,9 +12,12 @@ use Rattle.lexing.specs.answers.{Rest, wordReply}
 use Rattle.lexing.specs.declared.answers.Lost.{Lost}
 use Rattle.lexing.specs.declared.answers.Step.{Step}
 use Rattle.lexing.specs.declared.answers.Step.the-variants.{Next, Not}
+use Rattle.lexing.proofs.Onward.{Onward}
+use Rattle.lexing.proofs.TokenLocality.{whitespace0-chain}
+use Rattle.lexing.proofs.Composed.{onward-ret, onward-bind, onward-then}
 use Rattle.lexing.proofs.Slicing.{Took, took, walks, reads-in, or-here, or-next}
 use Rattle.items.specs.entries.{api-maturity}
-use Rattle.items.specs.answers.{MaturityTo}
+use Rattle.items.specs.answers.{MaturityTo, maturity-between}
 use Rattle.items.specs.answers.members.{numbered}
 use Rattle.items.specs.inner.maturity.{MaturityBy}
 use Rattle.items.specs.declared.maturity.Maturity.{Maturity}
@@ -24,7 +27,7 @@ use Rattle.items.proofs.Alternatives.{leaves, one-left}
 use Rattle.items.proofs.Tries.{maturity-words, maturity-elsewhere}
 use Rattle.items.proofs.Locality.{api-maturity-local}
 
-pub maturity-is : (v b c : ℕ) (u : List ℕ) → v < 4 → ok v c (drop (c - b) u) ≡ api-maturity b u → MaturityTo (record { level = v; next = c }) b u
+pub maturity-is : (v b c : ℕ) (u : List ℕ) → v < 4 → ok v c (drop (c - b) u) ≡ api-maturity b u → MaturityTo api-maturity (record { level = v; next = c }) b u
 maturity-is v b c u s e = let p = reads-in (walks (api-maturity-local .on-chain)) b c u v e in record { reads = e; up = p .0; inside = p .1; small = s }
 
 -- a keyword, or no word
@@ -40,13 +43,23 @@ by-none k v b u {a} h {l} e = let z : b - b ≡ 0 = omega arith in record { read
 abbrev levels : List (List ℕ × ℕ)
 levels = (ascii "stable", 0) ∷ (ascii "provisional", 1) ∷ (ascii "internal", 2) ∷ (ascii "deprecated", 3) ∷ []
 
-pub maturity-left : {b : ℕ} {u : List ℕ} (x : ℕ) → lower (getD u 0 0) ≡ x → (k : List ℕ) (v : ℕ) → leaves x k v levels ≡ true → {r : Maturity} → MaturityBy k v r b u → MaturityTo r b u
+pub maturity-left : {b : ℕ} {u : List ℕ} (x : ℕ) → lower (getD u 0 0) ≡ x → (k : List ℕ) (v : ℕ) → leaves x k v levels ≡ true → {r : Maturity} → MaturityBy k v r b u → MaturityTo api-maturity r b u
 unfolding api-maturity numbered ret
 maturity-left {b} {u} x h k v e {r} g = maturity-is (r .level) b (r .next) u (g .small) (g .reads ∙ sym (one-left b u x h k v levels (ret 0) e tt))
 
-pub maturity-other : (b : ℕ) (u : List ℕ) (ys : List ℕ) → all-begin ys maturity-words ≡ true → (x : ℕ) → NoneOf ys x → lower (getD u 0 0) ≡ x → MaturityTo (record { level = 0; next = b }) b u
+pub maturity-other : (b : ℕ) (u : List ℕ) (ys : List ℕ) → all-begin ys maturity-words ≡ true → (x : ℕ) → NoneOf ys x → lower (getD u 0 0) ≡ x → MaturityTo api-maturity (record { level = 0; next = b }) b u
 maturity-other b u ys t x n h = let z : b - b ≡ 0 = omega arith in maturity-is 0 b b u (omega arith) (rw z (sym (maturity-elsewhere b u (initials-free b u ys x n h maturity-words t))))
 
 -- a maturity, as a step of a sequence
-pub maturity-took : {b n : ℕ} {u r : List ℕ} {t : Maturity} → Rest b u n r → MaturityTo t n r → Took api-maturity b u n (t .level) (t .next)
+pub maturity-took : {b n : ℕ} {u r : List ℕ} {t : Maturity} → Rest b u n r → MaturityTo api-maturity t n r → Took api-maturity b u n (t .level) (t .next)
 maturity-took q h = took (walks (api-maturity-local .on-chain)) q (h .reads)
+
+-- the same with the blanks around it
+between-on : Onward maturity-between
+between-on = onward-then (walks whitespace0-chain) (onward-bind (walks (api-maturity-local .on-chain)) (λ m. onward-then (walks whitespace0-chain) (onward-ret m)))
+
+pub between-is : (v b c : ℕ) (u : List ℕ) → ok v c (drop (c - b) u) ≡ maturity-between b u → v < 4 → MaturityTo maturity-between (record { level = v; next = c }) b u
+between-is v b c u e s = let p = reads-in between-on b c u v e in record { reads = e; up = p .0; inside = p .1; small = s }
+
+pub between-took : {b n : ℕ} {u r : List ℕ} {t : Maturity} → Rest b u n r → MaturityTo maturity-between t n r → Took maturity-between b u n (t .level) (t .next)
+between-took q h = took between-on q (h .reads)

@@ -9,9 +9,9 @@ use lib.Dec.{ltb}
 use lib.ListN.{length, drop}
 use borrow.Author.Tests.{lt-ltb, le-ltb}
 use Rattle.lexing.specs.bytes.{ascii}
-use Rattle.lexing.specs.reply.{Reply, ok, fail, Parser, _>>_, opt}
+use Rattle.lexing.specs.reply.{Reply, ok, Parser, _>>_, opt}
 use Rattle.lexing.specs.words.{Word, parse-id}
-use Rattle.lexing.specs.answers.{Rest, lostReply, reply, lostOf, wordAt, wordReply, docOf}
+use Rattle.lexing.specs.answers.{Rest, lostReply, reply, lostOf, wordAt, wordReply, docOf, wordBetween, optionalStep}
 use Rattle.lexing.specs.word_sets.{bit}
 use Rattle.lexing.specs.declared.answers.Lost.{Lost}
 use Rattle.lexing.specs.declared.answers.Lost.the-variants.{Fail, Stop}
@@ -24,9 +24,10 @@ use Rattle.lexing.proofs.TokenLocality.{parse-id-chain, keyword-chain, whitespa
 use Rattle.lexing.proofs.Slicing.{Took, took, walks, begin, on}
 use Rattle.items.specs.structs.{struct-fields, StructField as StructFieldOf}
 use Rattle.items.specs.members.{or-else, event-qualities, event-head, parse-event-after-doc-maturity, command-head, CommandTypes as CommandTypesOf, command-types, Command as CommandOf, parse-command-after-doc-maturity}
-use Rattle.items.specs.records.{bits, value, each, word-extent, documented, field-record, command-record, event-records, at, spanned, flag, optional-extent}
-use Rattle.items.specs.layout.{layout-20, record-words, catalogue-words, word-count, packed, width, from-top, offset, size, further-word, words-bytes, catalogue-bytes, text-limit}
-use Rattle.items.specs.answers.{optionOf, wordBetween, optionalStep, CountTo, Front, first-of, spanWord, docWord, docBit, frontOf}
+use Rattle.items.specs.records.{bits, value, word-extent, documented, field-record, command-record, event-records, at, spanned, flag, optional-extent}
+use Rattle.lexing.specs.buffers.{each, words-bytes, put}
+use Rattle.items.specs.layout.{layout-20, record-words, catalogue-words, word-count, packed, width, from-top, offset, size, further-word, catalogue-bytes, text-limit}
+use Rattle.items.specs.answers.{optionOf, CountTo, Front, first-of, spanWord, docWord, docBit, frontOf}
 use Rattle.items.specs.answers.members.{command-records, levelAnswer, levelLost, levelSmall, LevelTo, levelOr, SmallEventQualities, EventQualitiesTo, eventHeadAt, eventHeadLost, EventHeadBetween, EventHeadTo, optionalBetween, CommandHeadBetween, CommandHeadTo, commandTypesAt, CommandTypesBetween, CommandTypesTo, commandAt, CommandTo, CommandBetween}
 use Rattle.items.specs.declared.counts.Count.the-variants.{Words}
 use Rattle.items.specs.declared.members.Level.{Level}
@@ -46,15 +47,16 @@ use Rattle.items.specs.declared.members.CommandTypesRead.the-variants.{C
 use Rattle.items.specs.declared.members.CommandParts.{CommandParts}
 use Rattle.items.specs.declared.members.CommandRead.{CommandRead}
 use Rattle.items.specs.declared.members.CommandRead.the-variants.{Command}
-use Rattle.items.proofs.Answers.{read-within, read-took, read-lost, last-lost}
+use Rattle.lexing.proofs.AnswerLaws.{read-within, read-took, read-lost, last-lost}
 use Rattle.items.proofs.Mapped.{mapped-ok, mapped-not}
-use Rattle.items.proofs.Onward.{onward-then}
-use Rattle.items.proofs.WordBetween.{word-moved, extent-between}
-use Rattle.items.proofs.writing.Laws.{put-further, documented-bytes, documented-put}
+use Rattle.lexing.proofs.Composed.{onward-then}
+use Rattle.lexing.proofs.WordBetween.{word-moved}
+use Rattle.items.proofs.WordBetween.{extent-between}
+use Rattle.lexing.proofs.buffers.Laws.{put-further}
+use Rattle.items.proofs.writing.Laws.{documented-bytes, documented-put}
 use Rattle.items.proofs.structs.Laws.{present-is}
-use Rattle.items.proofs.optional.Laws.{opt-ok, opt-fail, opt-stop}
+use Rattle.lexing.proofs.optional.Laws.{opt-ok, opt-fail, opt-stop}
 use Rattle.items.proofs.Locality.{access-to-inside, command-types-inside, event-head-inside, parse-command-consumes}
-use Rattle.items.specs.buffers.{put}
 use Rattle.items.specs.clusters.{mapped}
 use Rattle.items.specs.inner.members.{event-access, event-first, extentIf, command-parts}
 use Rattle.items.specs.declared.writing.FrontParts.{FrontParts}

@@ -11,7 +11,7 @@ use Rattle.items.specs.answers.members.{LevelTo}
 use Rattle.items.specs.answers.members.{numbered}
 use Rattle.items.specs.declared.members.Level.{Level}
 use Rattle.items.specs.declared.members.Level.the-variants.{NoLevel}
-use Rattle.items.proofs.Answers.{read-not}
+use Rattle.lexing.proofs.AnswerLaws.{read-not}
 use Rattle.items.proofs.Letters.{NoneOf, all-begin, initials-free}
 use Rattle.items.proofs.Alternatives.{alternatives, keys, none-of-all}
 

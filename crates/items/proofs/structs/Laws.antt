@@ -12,7 +12,7 @@ use Rattle.lexing.specs.bytes.{ascii, within, lower}
 use Rattle.lexing.specs.reply.{ok, fail, stop, Parser, ret, opt, pick, many0}
 use Rattle.lexing.specs.words.{Word, bytesOf, isKeyword, isLower, keyword, any-keyword, tag}
 use Rattle.lexing.specs.word_sets.{same-bytes, bit}
-use Rattle.lexing.specs.answers.{Rest, lostReply, wordAt, wordReply, numberReply, numberLost}
+use Rattle.lexing.specs.answers.{Rest, lostReply, wordAt, wordReply, numberReply, numberLost, BlankAt, wordBetween}
 use Rattle.lexing.specs.declared.answers.Lost.{Lost}
 use Rattle.lexing.specs.declared.answers.Lost.the-variants.{Fail, Stop}
 use Rattle.lexing.specs.declared.answers.Step.the-variants.{Next}
@@ -27,11 +27,11 @@ use Rattle.lexing.proofs.words.Laws.{keyword-says}
 use Rattle.lexing.proofs.word_sets.Laws.{same-eq, like-keyword}
 use Rattle.items.specs.entries.{present}
 use Rattle.items.specs.structs.{StructField as StructFieldOf, max-length, list-marker, parse-field, parse-struct-field, closed-field, fields-run, struct-fields, regular, response-code, struct-kind, struct-type-of, struct-head, parse-struct-after-doc-maturity}
-use Rattle.items.specs.records.{Record, at, bits, value, spanned, flag, each, word-extent, plain, documented, field-record, struct-number, response-of, struct-records}
-use Rattle.items.specs.layout.{packed, width, from-top, offset, size, layout-20, further-word, record-words, words-bytes, catalogue-words, catalogue-bytes, word-count, text-limit}
+use Rattle.items.specs.records.{Record, at, bits, value, spanned, flag, word-extent, plain, documented, field-record, struct-number, response-of, struct-records}
+use Rattle.lexing.specs.buffers.{each, words-bytes, put}
+use Rattle.items.specs.layout.{packed, width, from-top, offset, size, layout-20, further-word, record-words, catalogue-words, catalogue-bytes, word-count, text-limit}
 use Rattle.items.specs.members.{or-else}
-use Rattle.items.specs.buffers.{put}
-use Rattle.items.specs.answers.{optionOf, BlankAt, wordBetween, Front, Room, Written, first-of, spanWord, docWord, docBit, frontOf}
+use Rattle.items.specs.answers.{optionOf, Front, Room, Written, first-of, spanWord, docWord, docBit, frontOf}
 use Rattle.items.specs.answers.structs.{fieldAt, fieldLost, FieldBetween, FieldTo, structFieldAt, structFieldLost, StructFieldBetween, StructFieldTo, StructFrom, behind-shared, not-shared, typeOf, headAt, headLost, HeadBetween, StructHeadTo}
 use Rattle.items.specs.inner.structs.{lengthReply, lengthLost, optionalLength, MarkerTo, kindBy, typeBy, struct-words, StructWordTo, codeReply, field-parts, kindNumber, responseNumber, struct-first}
 use Rattle.items.specs.declared.writing.FrontParts.{FrontParts}
@@ -52,15 +52,16 @@ use Rattle.items.specs.declared.structs.StructHeadRead.{StructHeadRead}
 use Rattle.items.specs.declared.structs.StructHeadRead.the-variants.{Head, NoHead}
 use Rattle.items.proofs.Locality.{max-length-local, list-marker-local, parse-field-inside, parse-struct-field-inside, closed-field-inside, closed-field-consumes, struct-fields-local, struct-type-of-local, struct-head-local}
 use Rattle.items.proofs.RecordWords.{map-elementwise}
-use Rattle.items.proofs.Answers.{read-within, read-took, read-lost}
+use Rattle.lexing.proofs.AnswerLaws.{read-within, read-took, read-lost}
 use Rattle.items.proofs.Headed.{Headed}
-use Rattle.items.proofs.WordBetween.{word-moved, extent-between}
+use Rattle.lexing.proofs.WordBetween.{word-moved}
+use Rattle.items.proofs.WordBetween.{extent-between}
 use Rattle.items.proofs.writing.Laws.{plain-bytes, documented-put, Writing, writing-fits, writing-more, writing-ends}
 use Rattle.items.proofs.counts.Laws.{Counting, counting-more}
 use Rattle.items.proofs.Choice.{or-lost}
 use Rattle.items.proofs.Tries.{shared-any}
-use Rattle.items.proofs.optional.Laws.{opt-ok, opt-fail, opt-stop}
-use Rattle.items.proofs.steps.Laws.{blank-at-took}
+use Rattle.lexing.proofs.optional.Laws.{opt-ok, opt-fail, opt-stop}
+use Rattle.lexing.proofs.steps.Laws.{blank-at-took}
 
 -- the two ways of a length that is absent
 pub length-fail : (r : Number) (b : ℕ) (l k : Lost) (p : ℕ) → r ≡ NoNumber l → k ≡ numberLost r → k ≡ Fail p → Length false 0 b ≡ optionalLength r b

@@ -2,12 +2,10 @@
 use mathlib.Core.Path.{_≡_, refl, sym, ap, _∙_, subst}
 use mathlib.Core.List.{List, [], _∷_, _++_, map, append-assoc, append-nil}
 use mathlib.Core.Bool.{Bool, true, false}
-use Prim.Native.Nat.{ℕ, _+_, _-_, _*_, _/_, _%_, _≤_, _<_}
+use Prim.Native.Nat.{ℕ, _+_, _-_, _*_, _≤_, _<_}
 use native.Mathlib.Omega.{arith}
-use native.Mathlib.Numerals.{towards-suc}
-use native.Mathlib.Nat.{add-assoc, add-zero, div-div-eq-div-mul}
-use lib.ListN.{length, drop, take, set, length-drop, length-append, take-append-drop}
-use lib.Seq.{sets, sets-eq, take-at, drop-at, take-take, take-append-le, length-take-le, drop-append-add, drop-drop}
+use lib.ListN.{length, drop, take, length-append}
+use lib.Seq.{drop-at, take-take, take-append-le, length-take-le}
 use Rattle.lexing.specs.reply.{Reply, ok, fail, stop, Parser, many0}
 use Rattle.lexing.specs.word_sets.{bit}
 use Rattle.lexing.specs.answers.{Rest, lostReply, docOf, BlankTo}
@@ -21,69 +19,15 @@ use Rattle.lexing.proofs.Locality.{Consumes}
 use Rattle.lexing.proofs.Onward.{Onward}
 use Rattle.lexing.proofs.Slicing.{Took, took}
 use Rattle.lexing.proofs.Repetition.{before, ManyAt, manyEnd, many0-start, many0-step, many0-ends}
-use Rattle.items.specs.records.{Extent, Bits, Further, Record, each, doc-extent, doc-bit, plain, documented}
-use Rattle.items.specs.layout.{packed, from-top, offset, size, layout-20, further-word, record-words, big-endian, words-bytes, catalogue-words, catalogue-bytes, word-count, text-limit}
-use Rattle.items.specs.buffers.{put}
+use Rattle.lexing.proofs.buffers.Laws.{put-length, put-nothing, put-on}
+use Rattle.items.specs.records.{Extent, Bits, Further, Record, doc-extent, doc-bit, plain, documented}
+use Rattle.lexing.specs.buffers.{each, words-bytes, put}
+use Rattle.items.specs.layout.{packed, from-top, offset, size, layout-20, further-word, record-words, catalogue-words, catalogue-bytes, word-count, text-limit}
 use Rattle.items.specs.answers.{Room, Written, first-of, Fits, docWord, docBit, DocFits, FrontFits}
 use Rattle.items.specs.declared.writing.FrontParts.{FrontParts}
 use Rattle.items.specs.declared.writing.Wrote.{Wrote}
-use Rattle.items.proofs.Answers.{read-on}
-use Rattle.items.proofs.RecordWords.{words-bytes-append, words-bytes-length, words-bytes-one, catalogue-bytes-none, catalogue-bytes-length, word-count-none, Elementwise, word-count-more, catalogue-bytes-more, word-count-grows}
-
-put-8 : (l : List ℕ) (i a b c d e f g h : ℕ) → i + 8 ≤ length l
-    → set (set (set (set (set (set (set (set l i a) (i + 1) b) (i + 2) c) (i + 3) d) (i + 4) e) (i + 5) f) (i + 6) g) (i + 7) h ≡ put i (a ∷ b ∷ c ∷ d ∷ e ∷ f ∷ g ∷ h ∷ []) l
-unfolding put
-put-8 l i a b c d e f g h hl =
-    let q : set (set (set (set (set (set (set (set l i a) (i + 1) b) (i + 2) c) (i + 3) d) (i + 4) e) (i + 5) f) (i + 6) g) (i + 7) h ≡ sets l i (a ∷ b ∷ c ∷ d ∷ e ∷ f ∷ g ∷ h ∷ []) = simp towards-suc in
-    q ∙ (sets-eq (a ∷ b ∷ c ∷ d ∷ e ∷ f ∷ g ∷ h ∷ []) l i hl ∙ append-assoc (take i l) (a ∷ b ∷ c ∷ d ∷ e ∷ f ∷ g ∷ h ∷ []) (drop (i + 8) l))
-
-big-endian-8 : (w : ℕ) → big-endian 8 w ≡ w / 72057594037927936 % 256 ∷ w / 281474976710656 % 256 ∷ w / 1099511627776 % 256 ∷ w / 4294967296 % 256 ∷ w / 16777216 % 256 ∷ w / 65536 % 256 ∷ w / 256 % 256 ∷ w % 256 ∷ []
-unfolding big-endian
-big-endian-8 w = simp div-div-eq-div-mul
-
--- the eight stores of the code
-pub put-word : (l : List ℕ) (i w : ℕ) → i + 8 ≤ length l
-    → set (set (set (set (set (set (set (set l i (w / 72057594037927936 % 256)) (i + 1) (w / 281474976710656 % 256)) (i + 2) (w / 1099511627776 % 256)) (i + 3) (w / 4294967296 % 256)) (i + 4) (w / 16777216 % 256)) (i + 5) (w / 65536 % 256)) (i + 6) (w / 256 % 256)) (i + 7) (w % 256)
-    ≡ put i (big-endian 8 w) l
-put-word l i w h = rw (big-endian-8 w) (put-8 l i _ _ _ _ _ _ _ _ h)
-
-pub put-length : (at : ℕ) (xs l : List ℕ) → at + length xs ≤ length l → length (put at xs l) ≡ length l
-unfolding put
-put-length at xs l h =
-    let t : length (take at l) ≡ at = length-take-le at l (omega arith) in
-    omega (arith, length-append (take at l) (xs ++ drop (at + length xs) l), length-append xs (drop (at + length xs) l), length-drop (at + length xs) l)
-
-pub put-nothing : (at : ℕ) (l : List ℕ) → put at [] l ≡ l
-unfolding put
-put-nothing at l = rw add-zero (take-append-drop at l)
-
--- two writes, one behind the other, are one
-pub put-put : (at : ℕ) (xs ys l : List ℕ) → at + length xs + length ys ≤ length l → put (at + length xs) ys (put at xs l) ≡ put at (xs ++ ys) l
-unfolding put
-put-put at xs ys l h =
-    let p : List ℕ = take at l ++ xs in
-    let r : List ℕ = drop (at + length xs) l in
-    let t : length (take at l) ≡ at = length-take-le at l (omega arith) in
-    let lp : length p ≡ at + length xs = omega (arith, length-append (take at l) xs) in
-    let e : take at l ++ (xs ++ r) ≡ p ++ r = sym (append-assoc (take at l) xs r) in
-    let d : drop (at + length xs + length ys) (p ++ r) ≡ drop (at + (length xs + length ys)) l =
-    ap (λ (n : ℕ). drop (n + length ys) (p ++ r)) (sym lp) ∙ (drop-append-add p r (length ys) ∙ (drop-drop (length ys) (at + length xs) l ∙ ap (λ (n : ℕ). drop n l) (add-assoc at (length xs) (length ys)))) in
-    rw (e, take-at p r (at + length xs) lp, d, length-append xs ys, append-assoc xs ys, append-assoc (take at l) xs)
-
--- the same where the second place is a number of its own
-pub put-on : (at to : ℕ) (xs ys l₀ l l' : List ℕ) → to ≡ at + length xs → to + length ys ≤ length l₀ → l ≡ put at xs l₀ → l' ≡ put to ys l → l' ≡ put at (xs ++ ys) l₀
-put-on at to xs ys l₀ l l' z h e e' = e' ∙ rw (e, z) (put-put at xs ys l₀ (omega arith))
-
--- a word, words behind words, and two words
-pub put-one : (at w : ℕ) (l l' : List ℕ) → l' ≡ put at (big-endian 8 w) l → l' ≡ put at (words-bytes (w ∷ [])) l
-put-one at w l l' e = rw words-bytes-one e
-
-pub put-further : (at to : ℕ) (ws vs l₀ l l' : List ℕ) → to ≡ at + 8 * length ws → to + 8 * length vs ≤ length l₀ → l ≡ put at (words-bytes ws) l₀ → l' ≡ put to (words-bytes vs) l → l' ≡ put at (words-bytes (ws ++ vs)) l₀
-put-further at to ws vs l₀ l l' z h e e' =
-    rw (words-bytes-append ws vs) (put-on at to (words-bytes ws) (words-bytes vs) l₀ l l' (omega (arith, words-bytes-length ws)) (omega (arith, words-bytes-length vs)) e e')
-
-pub put-two : (at a b : ℕ) (l l₁ l₂ : List ℕ) → at + 16 ≤ length l → l₁ ≡ put at (big-endian 8 a) l → l₂ ≡ put (at + 8) (big-endian 8 b) l₁ → l₂ ≡ put at (words-bytes (a ∷ b ∷ [])) l
-put-two at a b l l₁ l₂ h e₁ e₂ = put-further at (at + 8) (a ∷ []) (b ∷ []) l l₁ l₂ (omega arith) (omega arith) (put-one at a l l₁ e₁) (put-one (at + 8) b l₁ l₂ e₂)
+use Rattle.lexing.proofs.AnswerLaws.{read-on}
+use Rattle.items.proofs.RecordWords.{catalogue-bytes-none, catalogue-bytes-length, word-count-none, Elementwise, word-count-more, catalogue-bytes-more, word-count-grows}
 
 pub bit-small : (b : Bool) → bit b < 2
 unfolding bit

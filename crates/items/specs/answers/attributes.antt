@@ -2,12 +2,11 @@
 use Prim.Native.Nat.{ℕ, _<_}
 use mathlib.Core.Path.{_≡_}
 use mathlib.Core.List.{List}
-use Rattle.lexing.specs.answers.{Answer, got, lost, docOf}
+use Rattle.lexing.specs.answers.{Answer, got, lost, docOf, ReadTo}
 use Rattle.lexing.specs.declared.answers.Lost.{Lost}
 use Rattle.lexing.specs.declared.answers.Lost.the-variants.{Fail}
 use Rattle.lexing.specs.declared.blanks.DocSpan.{DocSpan}
 use Rattle.items.specs.members.{Privileges as PrivilegesOf, attribute-access, Attribute as AttributeOf, parse-attribute-after-doc-maturity}
-use Rattle.items.specs.answers.{ReadTo}
 use Rattle.items.specs.answers.structs.{structFieldAt, StructFieldBetween}
 use Rattle.items.specs.declared.attributes.PrivilegesRead.{PrivilegesRead}
 use Rattle.items.specs.declared.attributes.PrivilegesRead.the-variants.{Privileges, NoPrivileges}

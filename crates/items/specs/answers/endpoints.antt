@@ -7,14 +7,14 @@ use Rattle.lexing.specs.reply.{Parser, _>>_, opt}
 use Rattle.lexing.specs.integers.{signed}
 use Rattle.lexing.specs.blanks.{whitespace1}
 use Rattle.lexing.specs.strings.{span}
-use Rattle.lexing.specs.answers.{Answer, got, lost, reply}
+use Rattle.lexing.specs.answers.{Answer, got, lost, reply, ReadTo, NameIn, wordBetween}
 use Rattle.lexing.specs.declared.answers.Lost.{Lost}
 use Rattle.lexing.specs.declared.answers.Lost.the-variants.{Fail, Stop}
 use Rattle.items.specs.clusters.{mapped}
 use Rattle.items.specs.records.{Record}
 use Rattle.items.specs.layout.{word-count}
 use Rattle.items.specs.endpoints.{Tried as TriedOf, Deep, DeviceType as DeviceTypeOf, device-type, Default as DefaultOf, number, signed-number, truth, text, default-attribute-value, AttributeInstance as AttributeInstanceOf, attribute-instantiation}
-use Rattle.items.specs.answers.{ReadTo, NameIn, wordBetween, Room, Written}
+use Rattle.items.specs.answers.{Room, Written}
 use Rattle.items.specs.declared.writing.Wrote.{Wrote}
 use Rattle.items.specs.declared.endpoints.DeviceTypeParts.{DeviceTypeParts}
 use Rattle.items.specs.declared.endpoints.DeviceTypeRead.{DeviceTypeRead}

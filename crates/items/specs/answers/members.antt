@@ -6,12 +6,12 @@ use mathlib.Core.List.{List, [], _∷_}
 use lib.Dec.{ltb}
 use Rattle.lexing.specs.reply.{Parser, ret, _>>_}
 use Rattle.lexing.specs.words.{Word, keyword}
-use Rattle.lexing.specs.answers.{Answer, got, lost, docOf}
+use Rattle.lexing.specs.answers.{Answer, got, lost, docOf, ReadTo, wordBetween}
 use Rattle.lexing.specs.declared.answers.Lost.{Lost}
 use Rattle.lexing.specs.declared.answers.Lost.the-variants.{Fail, Stop}
 use Rattle.lexing.specs.declared.blanks.DocSpan.{DocSpan}
 use Rattle.items.specs.members.{EventQualities as EventQualitiesOf, event-qualities, EventHead as EventHeadOf, event-head, parse-event-after-doc-maturity, CommandHead as CommandHeadOf, command-head, CommandTypes as CommandTypesOf, command-types, Command as CommandOf, parse-command-after-doc-maturity}
-use Rattle.items.specs.answers.{optionOf, ReadTo, wordBetween, Front, CountsTo}
+use Rattle.items.specs.answers.{optionOf, Front, CountsTo}
 use Rattle.items.specs.records.{Record, command-record, event-records}
 use Rattle.items.specs.declared.counts.Count.{Count}
 use Rattle.items.specs.declared.members.Level.{Level}

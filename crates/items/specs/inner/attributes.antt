@@ -7,13 +7,12 @@ use Rattle.lexing.specs.bytes.{ascii}
 use Rattle.lexing.specs.reply.{Parser, _>>_}
 use Rattle.lexing.specs.words.{Word, offsetOf, bytesOf, any-keyword}
 use Rattle.lexing.specs.word_sets.{same-bytes}
-use Rattle.lexing.specs.answers.{Answer, got, lost, wordAt, reply, docOf}
+use Rattle.lexing.specs.answers.{Answer, got, lost, wordAt, reply, docOf, ReadTo}
 use Rattle.lexing.specs.declared.answers.Lost.{Lost}
 use Rattle.lexing.specs.declared.answers.Lost.the-variants.{Fail, Stop}
 use Rattle.items.specs.clusters.{mapped}
 use Rattle.items.specs.records.{Record, absent, bits, documented}
 use Rattle.items.specs.members.{Access as AccessOf, access-entry, comma}
-use Rattle.items.specs.answers.{ReadTo}
 use Rattle.items.specs.answers.attributes.{SmallPrivileges}
 use Rattle.items.specs.inner.structs.{field-parts}
 use Rattle.items.specs.declared.writing.FrontParts.{FrontParts}

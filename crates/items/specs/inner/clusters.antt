@@ -15,7 +15,8 @@ use Rattle.items.specs.entries.{where-missing, api-maturity, parse-bitma
 use Rattle.items.specs.structs.{parse-struct-after-doc-maturity}
 use Rattle.items.specs.members.{parse-attribute-after-doc-maturity, parse-command-after-doc-maturity, parse-event-after-doc-maturity}
 use Rattle.items.specs.clusters.{Member, bitmap, enum, struct, attribute, command, event, mapped, parse-revision, member-tries, cluster-members}
-use Rattle.items.specs.records.{Record, at, value, documented, each, last-revision, member-records}
+use Rattle.items.specs.records.{Record, at, value, documented, last-revision, member-records}
+use Rattle.lexing.specs.buffers.{each}
 use Rattle.items.specs.answers.{Written}
 use Rattle.items.specs.answers.choices.{ChoiceFrom}
 use Rattle.items.specs.answers.structs.{StructFrom}

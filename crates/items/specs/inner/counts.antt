@@ -7,7 +7,7 @@ use Rattle.lexing.specs.bytes.{byte}
 use Rattle.lexing.specs.words.{tag}
 use Rattle.lexing.specs.declared.answers.Step.{Step}
 use Rattle.lexing.specs.declared.answers.Step.the-variants.{Next, Not}
-use Rattle.items.specs.answers.{SkipsAt, behind-blanks}
+use Rattle.lexing.specs.answers.{SkipsAt, behind-blanks}
 use Rattle.items.specs.declared.counts.Count.{Count}
 use Rattle.items.specs.declared.counts.Count.the-variants.{Words, NoCount}
 

@@ -8,7 +8,7 @@ use lib.ListN.{length}
 use Rattle.lexing.specs.bytes.{ascii}
 use Rattle.lexing.specs.reply.{Reply, Parser, ret, opt}
 use Rattle.lexing.specs.words.{Word, any-keyword}
-use Rattle.lexing.specs.answers.{Answer, got, lost, reply, docOf}
+use Rattle.lexing.specs.answers.{Answer, got, lost, reply, docOf, BlankAt}
 use Rattle.lexing.specs.declared.answers.Lost.{Lost}
 use Rattle.lexing.specs.declared.answers.Lost.the-variants.{Fail, Stop}
 use Rattle.lexing.specs.declared.integers.Number.{Number}
@@ -16,7 +16,7 @@ use Rattle.lexing.specs.declared.integers.Number.the-variants.{Value, NoNumber}
 use Rattle.items.specs.structs.{list-marker, StructType, regular, request, shared, response-code, struct-type-of}
 use Rattle.items.specs.members.{or-else}
 use Rattle.items.specs.records.{Record, at, bits, value, spanned, flag, plain, documented}
-use Rattle.items.specs.answers.{optionOf, BlankAt}
+use Rattle.items.specs.answers.{optionOf}
 use Rattle.items.specs.answers.structs.{typeOf}
 use Rattle.items.specs.declared.structs.MaxLength.{MaxLength}
 use Rattle.items.specs.declared.structs.MaxLength.the-variants.{Length, NoLength}

@@ -12,7 +12,8 @@ use lib.Seq.{drop-cons, length-take-le}
 use borrow.Author.Tests.{leb-true, eqb-true, eq-eqb, ne-eqb}
 use Rattle.lexing.specs.word_sets.{same-bytes}
 use Rattle.items.specs.records.{at, Record, further-of-kind}
-use Rattle.items.specs.layout.{offset, size, from-big-endian, words-of-kind, text-limit}
+use Rattle.items.specs.layout.{offset, size, words-of-kind, text-limit}
+use Rattle.lexing.specs.buffers.{from-big-endian}
 use Rattle.matter_idl.specs.inner.hoisting.{NameIn, word-hits, Catalogue, flags-shared, is-unmarked}
 use Rattle.matter_idl.specs.hoisting.{bytes-at, hits, found}
 use Rattle.matter_idl.proofs.hoisting.Walk.{Walk, FirstOf, kind-of, place-of, offset-of, size-of, walk-first, walk-next, Standing, stands-room, stands-inside, walk-stands, walk-over}

@@ -10,11 +10,12 @@ use lib.Seq.{take-at, drop-append-add, drop-at}
 use Rattle.items.specs.clusters.{Member, revision, bitmap, enum, struct, attribute, command, event}
 use Rattle.items.specs.items.{Item}
 use Rattle.items.specs.records.{at, Record, item-records}
-use Rattle.items.specs.layout.{packed, from-top, offset, size, layout-20, words-of-kind, big-endian, from-big-endian, catalogue-bytes, word-count, text-limit}
-use Rattle.items.specs.buffers.{put}
+use Rattle.items.specs.layout.{packed, from-top, offset, size, layout-20, words-of-kind, catalogue-bytes, word-count, text-limit}
+use Rattle.lexing.specs.buffers.{big-endian, from-big-endian, put}
 use Rattle.items.specs.answers.items.{unhoisted-item}
 use Rattle.items.proofs.Truth.{All, ItemTrue}
-use Rattle.items.proofs.RecordWords.{big-endian-length, catalogue-bytes-append, catalogue-bytes-length, catalogue-bytes-none}
+use Rattle.lexing.proofs.buffers.Laws.{big-endian-length}
+use Rattle.items.proofs.RecordWords.{catalogue-bytes-append, catalogue-bytes-length, catalogue-bytes-none}
 use Rattle.items.proofs.RecordsFit.{RecordFits, first-bits, first-word, item-fits, all-append}
 use Rattle.matter_idl.specs.hoisting.{Tables, no-ids, held, mark, place-by, after-item, hoisted, bytes-at, found, with-place}
 use Rattle.matter_idl.specs.inner.filter.{Grown, hash-of, Holds, HoldsId, Filtered}

@@ -12,7 +12,8 @@ use Rattle.items.specs.members.{Attribute, Command, Event}
 use Rattle.items.specs.clusters.{Member, revision, bitmap, enum, struct, attribute, command, event}
 use Rattle.items.specs.endpoints.{Instance, attribute-instance, command-instance, event-instance, Part, device, binding, instantiation}
 use Rattle.items.specs.items.{Item, cluster-item, endpoint-item, enum-item, bitmap-item, struct-item, blank-item}
-use Rattle.items.specs.records.{bits, value, spanned, Record, response-of, flag, word-extent, plain, documented, entry-record, choice-records, field-record, struct-number, struct-records, attribute-records, command-record, event-records, each, member-records, cluster-records, instance-record, part-records, endpoint-records, item-records}
+use Rattle.items.specs.records.{bits, value, spanned, Record, response-of, flag, word-extent, plain, documented, entry-record, choice-records, field-record, struct-number, struct-records, attribute-records, command-record, event-records, member-records, cluster-records, instance-record, part-records, endpoint-records, item-records}
+use Rattle.lexing.specs.buffers.{each}
 use Rattle.items.specs.layout.{packed, width, from-top}
 use Rattle.items.specs.answers.items.{unhoisted-item}
 use Rattle.items.proofs.Truth.{All, WordTrue, ChoiceTrue, true-choice, StructTrue, true-struct, MemberTrue, true-cluster, ItemTrue}

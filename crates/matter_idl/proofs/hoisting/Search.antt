@@ -14,7 +14,8 @@ use Rattle.items.specs.members.{Event, Command, Attribute}
 use Rattle.items.specs.clusters.{Member, revision, bitmap, enum, struct, attribute, command, event}
 use Rattle.items.specs.endpoints.{Instance, attribute-instance, command-instance, event-instance, Part, device, binding, instantiation}
 use Rattle.items.specs.items.{Item, cluster-item, endpoint-item, enum-item, bitmap-item, struct-item, blank-item}
-use Rattle.items.specs.records.{Record, plain, documented, entry-record, choice-records, field-record, struct-records, attribute-records, command-record, event-records, each, member-records, cluster-records, instance-record, part-records, endpoint-records, item-records, word-extent}
+use Rattle.items.specs.records.{Record, plain, documented, entry-record, choice-records, field-record, struct-records, attribute-records, command-record, event-records, member-records, cluster-records, instance-record, part-records, endpoint-records, item-records, word-extent}
+use Rattle.lexing.specs.buffers.{each}
 use Rattle.items.proofs.Truth.{All, WordTrue, ChoiceTrue, true-choice, StructTrue, true-struct, MemberTrue, true-cluster, ItemTrue}
 use Rattle.items.proofs.RecordsFit.{name-whole}
 use Rattle.matter_idl.specs.hoisting.{Tables, no-ids, held, mark, join, choice-id, struct-id, is-shared, place-by, after-member, after-members, after-item, after-items, hoisted, bytes-at, hits, found}

@@ -12,7 +12,8 @@ use Rattle.items.specs.structs.{Struct, StructField}
 use Rattle.items.specs.clusters.{Member, revision, bitmap, enum, struct, attribute, command, event}
 use Rattle.items.specs.endpoints.{Instance, attribute-instance, command-instance, event-instance, Part, device, binding, instantiation}
 use Rattle.items.specs.items.{Item, cluster-item, endpoint-item, enum-item, bitmap-item, struct-item, blank-item}
-use Rattle.items.specs.records.{Record, plain, documented, entry-record, choice-records, field-record, struct-records, attribute-records, command-record, event-records, each, member-records, cluster-records, instance-record, part-records, endpoint-records, item-records}
+use Rattle.items.specs.records.{Record, plain, documented, entry-record, choice-records, field-record, struct-records, attribute-records, command-record, event-records, member-records, cluster-records, instance-record, part-records, endpoint-records, item-records}
+use Rattle.lexing.specs.buffers.{each}
 use Rattle.items.proofs.RecordsFit.{all-append}
 use Rattle.items.proofs.Truth.{All}
 use Rattle.matter_idl.specs.hoisting.{Tables, place-by, after-item, hoisted}

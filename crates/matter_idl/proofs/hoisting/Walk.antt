@@ -6,10 +6,12 @@ use native.Mathlib.Omega.{arith}
 use lib.ListN.{length, take, drop, length-append}
 use lib.Seq.{take-at, drop-at}
 use Rattle.items.specs.records.{Extent, absent, at, Record}
-use Rattle.items.specs.layout.{from-top, offset, size, layout-20, further-word, record-words, catalogue-words, words-of-kind, big-endian, from-big-endian, words-bytes, catalogue-bytes, word-count, text-limit}
+use Rattle.items.specs.layout.{from-top, offset, size, layout-20, further-word, record-words, catalogue-words, words-of-kind, catalogue-bytes, word-count, text-limit}
+use Rattle.lexing.specs.buffers.{big-endian, from-big-endian, words-bytes}
 use Rattle.items.proofs.Truth.{All}
 use Rattle.items.proofs.Packing.{word-back}
-use Rattle.items.proofs.RecordWords.{each-one, big-endian-length, words-bytes-append, words-bytes-one, catalogue-bytes-append, catalogue-bytes-length, word-count-append, word-count-none}
+use Rattle.lexing.proofs.buffers.Laws.{each-one, big-endian-length, words-bytes-append, words-bytes-one}
+use Rattle.items.proofs.RecordWords.{catalogue-bytes-append, catalogue-bytes-length, word-count-append, word-count-none}
 use Rattle.items.proofs.RecordsFit.{ExtentIn, RecordFits, words-count, words-fit, layout-20-fits, first-word, words-split, kind-back, place-back, flags-back, name-offset-back, name-size-back}
 use Rattle.matter_idl.specs.inner.hoisting.{NameIn}
 

@@ -8,9 +8,9 @@ use lib.Dec.{leb}
 use lib.ListN.{length}
 use Rattle.lexing.specs.outcomes.{refused, written, afterwards}
 use Rattle.items.specs.layout.{layout-20, catalogue-bytes, word-count, text-limit}
-use Rattle.items.specs.buffers.{put}
+use Rattle.lexing.specs.buffers.{put}
 use Rattle.items.proofs.RecordWords.{catalogue-bytes-length}
-use Rattle.items.proofs.writing.Laws.{put-length}
+use Rattle.lexing.proofs.buffers.Laws.{put-length}
 use Rattle.matter_idl.specs.hoisting.{no-ids, hoisted}
 use Rattle.matter_idl.specs.sections.{sections}
 use Rattle.matter_idl.specs.survey.{accepted-items, entries, report-20, report-bytes, Surveyed, not-surveyed, surveyed, for-catalogue, for-report, into-buffers, survey}

@@ -17,13 +17,13 @@ use Rattle.lexing.proofs.Runs.{same}
 use Rattle.lexing.proofs.Onward.{Ends, Onward}
 use Rattle.lexing.proofs.Slicing.{rest-self, took}
 use Rattle.lexing.proofs.utf8.Laws.{utf8-inside}
-use Rattle.items.specs.records.{each}
+use Rattle.lexing.specs.buffers.{each}
 use Rattle.items.specs.layout.{text-limit}
 use Rattle.items.specs.answers.{CountTo, countLost, Room}
 use Rattle.items.specs.answers.items.{unhoisted-item}
 use Rattle.items.specs.declared.counts.Count.{Count}
 use Rattle.items.specs.declared.counts.Count.the-variants.{Words, NoCount}
-use Rattle.items.proofs.Onward.{onward-ret, onward-bind}
+use Rattle.lexing.proofs.Composed.{onward-ret, onward-bind}
 use Rattle.items.proofs.RefusedPlaces.{RefusedIn, Placed, placed-ret, placed-bind, item-in}
 use Rattle.items.proofs.counts.Laws.{count-value, count-none}
 use Rattle.items.proofs.items.Laws.{item-walks}

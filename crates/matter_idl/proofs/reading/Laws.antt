@@ -18,9 +18,9 @@ use Rattle.lexing.proofs.Repetition.{ManyAt, many0-step}
 use Rattle.lexing.proofs.Slicing.{Took, rest-self, rest-from, rebase, blank-took, or-here, took}
 use Rattle.items.specs.items.{Item, blank-item, item, declaration}
 use Rattle.items.proofs.Truth.{All, ItemTrue, item-true}
-use Rattle.items.specs.records.{Record, each, item-records}
-use Rattle.items.specs.layout.{layout-20, big-endian, catalogue-bytes, word-count}
-use Rattle.items.specs.buffers.{put}
+use Rattle.items.specs.records.{Record, item-records}
+use Rattle.lexing.specs.buffers.{each, big-endian, put}
+use Rattle.items.specs.layout.{layout-20, catalogue-bytes, word-count}
 use Rattle.items.specs.answers.{CountTo, Room, Written}
 use Rattle.items.specs.answers.items.{unhoisted-item, DeclarationCountTo}
 use Rattle.items.specs.declared.writing.Wrote.{Wrote}
@@ -28,14 +28,15 @@ use Rattle.items.specs.declared.counts.Count.{Count}
 use Rattle.items.specs.declared.counts.Count.the-variants.{Words, NoCount}
 use Rattle.items.proofs.Locality.{item-consumes}
 use Rattle.items.proofs.RecordsFit.{first-word, all-append}
-use Rattle.items.proofs.RecordWords.{Elementwise, each-elementwise, big-endian-length, catalogue-bytes-none, catalogue-bytes-append, catalogue-bytes-length}
+use Rattle.items.proofs.RecordWords.{Elementwise, each-elementwise, catalogue-bytes-none, catalogue-bytes-append, catalogue-bytes-length}
+use Rattle.lexing.proofs.buffers.Laws.{big-endian-length, put-nothing, put-length, put-on}
 use Rattle.items.proofs.Braces.{rest-is}
 use Rattle.items.proofs.Tries.{then-ok, then-fail}
 use Rattle.items.proofs.clusters.Laws.{rest-clear}
 use Rattle.items.proofs.counts.Laws.{Counting, counting-start, counting-more, count-took, count-lost, count-is, count-not, count-pass}
 use Rattle.items.proofs.items.Laws.{item-is, declaration-walks, item-walks, item-words, item-lost, item-blank}
 use Rattle.items.proofs.items.Ends.{item-cases}
-use Rattle.items.proofs.writing.Laws.{Writing, writing-start, writing-start-seen, writing-same, writing-fits, writing-more, writing-more-seen, no-room, put-nothing, put-length, put-on}
+use Rattle.items.proofs.writing.Laws.{Writing, writing-start, writing-start-seen, writing-same, writing-fits, writing-more, writing-more-seen, no-room}
 use Rattle.matter_idl.specs.hoisting.{Tables, place-by, after-items, hoisted}
 use Rattle.matter_idl.specs.reading.{all-items}
 use Rattle.matter_idl.proofs.Places.{hoisted-words, item-words as words-of-places}

@@ -9,9 +9,9 @@ use Rattle.lexing.specs.reply.{ok}
 use Rattle.lexing.specs.answers.{Rest, docOf, BlankTo}
 use Rattle.lexing.specs.declared.blanks.Blank.{Blank}
 use Rattle.items.specs.items.{Item, declaration}
-use Rattle.items.specs.records.{Record, each}
+use Rattle.items.specs.records.{Record}
+use Rattle.lexing.specs.buffers.{each, put}
 use Rattle.items.specs.layout.{layout-20, catalogue-bytes, word-count}
-use Rattle.items.specs.buffers.{put}
 use Rattle.items.specs.answers.{Room, Written}
 use Rattle.items.specs.answers.items.{unhoisted-item}
 use Rattle.items.specs.declared.writing.Wrote.{Wrote}

@@ -8,12 +8,11 @@ use lib.ListN.{length, take, drop, length-append, length-take, length-drop}
 use Rattle.lexing.specs.answers.{Rest}
 use Rattle.lexing.proofs.Slicing.{rebase}
 use Rattle.items.specs.items.{Item}
-use Rattle.items.specs.records.{each}
-use Rattle.items.specs.layout.{big-endian, word-count, text-limit}
-use Rattle.items.specs.buffers.{put}
+use Rattle.lexing.specs.buffers.{each, big-endian, put}
+use Rattle.items.specs.layout.{word-count, text-limit}
 use Rattle.items.specs.answers.items.{unhoisted-item}
-use Rattle.items.proofs.RecordWords.{each-append, words-bytes-append, words-bytes-length, word-count-append, word-count-none}
-use Rattle.items.proofs.writing.Laws.{put-one}
+use Rattle.lexing.proofs.buffers.Laws.{each-append, words-bytes-append, words-bytes-length, put-one}
+use Rattle.items.proofs.RecordWords.{word-count-append, word-count-none}
 use Rattle.matter_idl.specs.hoisting.{no-ids, hoisted}
 use Rattle.matter_idl.specs.reading.{verdict-at}
 use Rattle.matter_idl.specs.sections.{sections}

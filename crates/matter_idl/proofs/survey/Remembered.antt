@@ -12,7 +12,7 @@ use Rattle.lexing.specs.reply.{Reply, ok, fail, stop}
 use Rattle.lexing.specs.utf8.{utf8-error}
 use Rattle.lexing.proofs.Slicing.{suf-drop}
 use Rattle.items.specs.items.{Item}
-use Rattle.items.specs.records.{each}
+use Rattle.lexing.specs.buffers.{each}
 use Rattle.items.specs.layout.{word-count, text-limit}
 use Rattle.items.specs.answers.{Room}
 use Rattle.items.specs.answers.items.{unhoisted-item}

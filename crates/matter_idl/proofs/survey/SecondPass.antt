@@ -7,11 +7,10 @@ use lib.ListN.{length, take, drop, getD, length-append, length-drop}
 use lib.Seq.{drop-drop, getD-at}
 use Rattle.lexing.specs.answers.{Rest}
 use Rattle.items.specs.items.{Item}
-use Rattle.items.specs.records.{each}
-use Rattle.items.specs.layout.{layout-20, words-bytes, catalogue-bytes, word-count, text-limit}
-use Rattle.items.specs.buffers.{put}
+use Rattle.lexing.specs.buffers.{each, words-bytes, put}
+use Rattle.items.specs.layout.{layout-20, catalogue-bytes, word-count, text-limit}
 use Rattle.items.proofs.RecordWords.{catalogue-bytes-length}
-use Rattle.items.proofs.writing.Laws.{put-length, put-nothing, put-on}
+use Rattle.lexing.proofs.buffers.Laws.{put-length, put-nothing, put-on}
 use Rattle.matter_idl.specs.hoisting.{no-ids, hoisted}
 use Rattle.matter_idl.specs.reading.{verdict-at}
 use Rattle.matter_idl.specs.sections.{sections}

@@ -7,7 +7,8 @@ use lib.Dec.{eqb}
 use lib.ListN.{length}
 use Rattle.lexing.specs.word_sets.{same-bytes}
 use Rattle.items.specs.records.{Extent, at, Record}
-use Rattle.items.specs.layout.{from-top, offset, layout-20, big-endian, catalogue-bytes, word-count}
+use Rattle.items.specs.layout.{from-top, offset, layout-20, catalogue-bytes, word-count}
+use Rattle.lexing.specs.buffers.{big-endian}
 use Rattle.items.specs.items.{Item}
 use Rattle.items.specs.answers.items.{unhoisted-item}
 use Rattle.items.proofs.Truth.{All, ItemTrue}

@@ -5,9 +5,9 @@ use Rattle.items.proofs.members.Laws.{level-small, level-took, level-lo
 use Rattle.items.proofs.attributes.Laws.{access-not, access-is, operation-took, operation-not}
 use native.Mathlib.Omega.{arith}
 use Rattle.lexing.proofs.Slicing.{walks, begin, go, on, lose, done}
-use Rattle.items.proofs.Pairs.{pair-on, pair-fall}
+use Rattle.lexing.proofs.Pairs.{pair-on, pair-fall}
 use Rattle.items.proofs.Locality.{access-privilege-local}
-use Rattle.items.proofs.steps.Laws.{blank-at-took, tag-behind-took, skips-lost}
+use Rattle.lexing.proofs.steps.Laws.{blank-at-took, tag-behind-took, skips-lost}
 
 blank-at-requires : tie.Need-blank-at-requires
 blank-at-requires c κs = omega (arith, c .before .pre)

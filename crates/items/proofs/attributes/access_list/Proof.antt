@@ -7,8 +7,8 @@ use mathlib.Core.Path.{refl}
 use native.Mathlib.Omega.{arith}
 use Rattle.lexing.specs.bytes.{ascii}
 use Rattle.lexing.proofs.Slicing.{begin, go, on, lose, done}
-use Rattle.items.proofs.Pairs.{pair-on, pair-fall}
-use Rattle.items.proofs.steps.Laws.{blank-at-took, tag-behind-took, keyword-behind-took, skips-lost}
+use Rattle.lexing.proofs.Pairs.{pair-on, pair-fall}
+use Rattle.lexing.proofs.steps.Laws.{blank-at-took, tag-behind-took, keyword-behind-took, skips-lost}
 use Rattle.items.specs.inner.attributes.{no-grants}
 use Rattle.items.proofs.Mapped.{read-as}
 

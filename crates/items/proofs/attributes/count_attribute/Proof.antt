@@ -3,7 +3,7 @@ use Rattle.items.proofs.attributes.count_attribute.Statement.{statement
 use Rattle.items.proofs.attributes.count_attribute.Tie as tie
 use mathlib.Core.Path.{refl}
 use Rattle.items.specs.answers.attributes.{attributeLost}
-use Rattle.items.proofs.Answers.{read-lost}
+use Rattle.lexing.proofs.AnswerLaws.{read-lost}
 use Rattle.items.proofs.counts.Laws.{count-not}
 use Rattle.items.proofs.attributes.Laws.{attribute-counted}
 

@@ -11,9 +11,9 @@ use mathlib.Core.Path.{refl}
 use native.Mathlib.Omega.{arith}
 use Rattle.lexing.specs.bytes.{ascii}
 use Rattle.lexing.proofs.Slicing.{rest-self, begin, go, on, lose, fall, done, set-took}
-use Rattle.items.proofs.Answers.{read-is, read-not, read-lost, read-took}
-use Rattle.items.proofs.Pairs.{pair-on, pair-fall, closed-go, closed-lose}
-use Rattle.items.proofs.steps.Laws.{gap-at-took, keyword-behind-took, skips-lost}
+use Rattle.lexing.proofs.AnswerLaws.{read-is, read-not, read-lost, read-took}
+use Rattle.lexing.proofs.Pairs.{pair-on, pair-fall, closed-go, closed-lose}
+use Rattle.lexing.proofs.steps.Laws.{gap-at-took, keyword-behind-took, skips-lost}
 use Rattle.items.specs.answers.attributes.{privilegesLost}
 
 keywords-set-requires : tie.Need-keywords-set-requires

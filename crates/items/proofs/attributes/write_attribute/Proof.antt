@@ -6,7 +6,7 @@ use native.Mathlib.Omega.{arith}
 use Rattle.lexing.proofs.Slicing.{rest-self, walks}
 use Rattle.lexing.proofs.Locality.{chain-inside}
 use Rattle.items.specs.answers.attributes.{attributeLost}
-use Rattle.items.proofs.Answers.{reads-as, read-within, read-took, read-lost}
+use Rattle.lexing.proofs.AnswerLaws.{reads-as, read-within, read-took, read-lost}
 use Rattle.items.proofs.Locality.{parse-attribute-inside}
 use Rattle.items.proofs.writing.Laws.{no-room, read-room, read-written, front-kept, written-same}
 use Rattle.items.proofs.attributes.Laws.{attribute-words, attribute-parts-is, attribute-in-limit}

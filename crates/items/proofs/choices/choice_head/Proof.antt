@@ -1,15 +1,15 @@
 use Rattle.items.proofs.choices.choice_head.Statement.{statement}
 use Rattle.items.proofs.choices.choice_head.Tie as tie
 use Rattle.items.specs.entries.{choice-head}
-use Rattle.items.proofs.names.Laws.{named-in, named-more, named-took, keyword-name-on, type-behind-on}
+use Rattle.lexing.proofs.names.Laws.{named-in, named-more, named-took, keyword-name-on, type-behind-on}
 use Rattle.items.proofs.choices.Laws.{choice-head-is, shared-took}
 use mathlib.Core.Path.{refl}
 use native.Mathlib.Omega.{arith}
 use Rattle.lexing.proofs.Slicing.{begin, go, on, done}
-use Rattle.items.proofs.Answers.{read-not, read-lost}
-use Rattle.items.proofs.Pairs.{three-go, three-lose, four-go, four-lose}
-use Rattle.items.proofs.steps.Laws.{blank-at-took}
-use Rattle.items.specs.answers.names.{namedLost}
+use Rattle.lexing.proofs.AnswerLaws.{read-not, read-lost}
+use Rattle.lexing.proofs.Pairs.{three-go, three-lose, four-go, four-lose}
+use Rattle.lexing.proofs.steps.Laws.{blank-at-took}
+use Rattle.lexing.specs.names.{namedLost}
 
 rest-at-requires : tie.Need-rest-at-requires
 rest-at-requires c κs = let t = (shared-took (c .before .before .pre .1)) .step in omega (arith, t .up, t .inside)

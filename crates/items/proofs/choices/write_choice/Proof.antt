@@ -5,7 +5,7 @@ use native.Mathlib.Omega.{arith}
 use Rattle.lexing.proofs.Slicing.{rest-self}
 use Rattle.items.specs.answers.{frontOf}
 use Rattle.items.specs.answers.choices.{choiceHeadLost}
-use Rattle.items.proofs.Answers.{read-took, read-lost, read-within}
+use Rattle.lexing.proofs.AnswerLaws.{read-took, read-lost, read-within}
 use Rattle.items.proofs.Headed.{headed-found, headed-room, headed-written}
 use Rattle.items.proofs.writing.Laws.{written-same}
 use Rattle.items.proofs.choices.Laws.{choice-head-onward, entries-list-onward, choice-headed, choice-first-is, choice-in-limit}

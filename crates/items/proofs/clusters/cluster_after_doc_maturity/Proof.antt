@@ -5,7 +5,7 @@ use mathlib.Core.Path.{refl}
 use native.Mathlib.Omega.{arith}
 use Rattle.lexing.proofs.Slicing.{rest-self}
 use Rattle.items.specs.answers.clusters.{clusterHeadLost}
-use Rattle.items.proofs.Answers.{read-took, read-lost}
+use Rattle.lexing.proofs.AnswerLaws.{read-took, read-lost}
 use Rattle.items.proofs.Headed.{headed-lost, headed-pass, headed-counted}
 use Rattle.items.proofs.Locality.{cluster-head-consumes}
 use Rattle.items.proofs.counts.Laws.{count-took, count-lost}

@@ -2,16 +2,16 @@ use borrow.Author.Needs.{needs}
 use Rattle.items.proofs.clusters.cluster_head.Statement.{statement}
 use Rattle.items.proofs.clusters.cluster_head.Tie as tie
 use Rattle.items.specs.clusters.{cluster-head}
-use Rattle.items.proofs.names.Laws.{named-in, named-took, keyword-name-on, code-behind-on, number-at-took, number-at-lost}
+use Rattle.lexing.proofs.names.Laws.{named-in, named-took, keyword-name-on, code-behind-on, number-at-took, number-at-lost}
 use mathlib.Core.Path.{refl}
 use native.Mathlib.Omega.{arith}
 use Rattle.lexing.proofs.Slicing.{rest-self, begin, on, fall, done}
-use Rattle.items.proofs.Answers.{read-is, read-not, read-lost}
-use Rattle.items.proofs.Pairs.{three-go, three-lose, four-go, four-lose}
-use Rattle.items.proofs.steps.Laws.{blank-at-took}
-use Rattle.items.specs.answers.names.{namedLost}
-use Rattle.items.proofs.Dropping.{opt-skips}
-use Rattle.items.proofs.optional.Laws.{skip-took, skip-lost}
+use Rattle.lexing.proofs.AnswerLaws.{read-is, read-not, read-lost}
+use Rattle.lexing.proofs.Pairs.{three-go, three-lose, four-go, four-lose}
+use Rattle.lexing.proofs.steps.Laws.{blank-at-took}
+use Rattle.lexing.specs.names.{namedLost}
+use Rattle.lexing.proofs.Dropping.{opt-skips}
+use Rattle.lexing.proofs.optional.Laws.{skip-took, skip-lost}
 use Rattle.items.proofs.clusters.Whole.{side-on}
 
 side-requires : tie.Need-side-requires

@@ -3,7 +3,7 @@ use Rattle.items.proofs.clusters.count_revision.Statement.{statement}
 use Rattle.items.proofs.clusters.count_revision.Tie as tie
 use mathlib.Core.Path.{refl}
 use Rattle.lexing.specs.answers.{numberLost}
-use Rattle.items.proofs.Answers.{read-lost}
+use Rattle.lexing.proofs.AnswerLaws.{read-lost}
 use Rattle.items.proofs.clusters.Laws.{revision-counted, revision-lost}
 
 parse-revision-requires : tie.Need-parse-revision-requires

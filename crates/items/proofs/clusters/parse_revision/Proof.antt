@@ -5,10 +5,10 @@ use Rattle.items.specs.clusters.{parse-revision}
 use mathlib.Core.Path.{refl}
 use native.Mathlib.Omega.{arith}
 use Rattle.lexing.proofs.Slicing.{rest-self, begin, done, integer-lost}
-use Rattle.items.proofs.Answers.{read-is, read-not}
-use Rattle.items.proofs.Pairs.{pair-on, pair-fall, three-go, three-lose}
-use Rattle.items.proofs.steps.Laws.{tag-behind-took, skips-lost}
-use Rattle.items.proofs.names.Laws.{number-took, keyword-number-on}
+use Rattle.lexing.proofs.AnswerLaws.{read-is, read-not}
+use Rattle.lexing.proofs.Pairs.{pair-on, pair-fall, three-go, three-lose}
+use Rattle.lexing.proofs.steps.Laws.{tag-behind-took, skips-lost}
+use Rattle.lexing.proofs.names.Laws.{number-took, keyword-number-on}
 
 slice-aggregate-keyword-number : tie.Need-slice-aggregate-keyword-number
 slice-aggregate-keyword-number c = search needs

@@ -2,12 +2,12 @@ use borrow.Author.Needs.{needs}
 use Rattle.items.proofs.clusters.side.Statement.{statement}
 use Rattle.items.proofs.clusters.side.Tie as tie
 use Rattle.items.specs.clusters.{side}
-use Rattle.items.proofs.Dropping.{no-word, skip-is, skip-not}
+use Rattle.lexing.proofs.Dropping.{no-word, skip-is, skip-not}
 use native.Mathlib.Omega.{arith}
 use Rattle.lexing.specs.bytes.{ascii}
 use Rattle.lexing.specs.answers.{wordAt}
 use Rattle.lexing.proofs.Slicing.{rest-self, begin, go, on, lose, fall, done, step-lost}
-use Rattle.items.proofs.steps.Laws.{gap-at-took, skips-lost}
+use Rattle.lexing.proofs.steps.Laws.{gap-at-took, skips-lost}
 use Rattle.items.proofs.clusters.Whole.{either-took}
 
 slice-aggregate-either : tie.Need-slice-aggregate-either

@@ -2,8 +2,8 @@ use borrow.Author.Needs.{needs}
 use Rattle.items.proofs.endpoints.attribute_instance_end.Statement.{statement}
 use Rattle.items.proofs.endpoints.attribute_instance_end.Tie as tie
 use Rattle.items.specs.endpoints.{attribute-instantiation}
-use Rattle.items.proofs.Answers.{reads-as}
-use Rattle.items.proofs.Dropping.{skip-is, skip-not}
+use Rattle.lexing.proofs.AnswerLaws.{reads-as}
+use Rattle.lexing.proofs.Dropping.{skip-is, skip-not}
 use Rattle.items.proofs.endpoints.Laws.{no-instance}
 
 attribute-instantiation-requires : tie.Need-attribute-instantiation-requires

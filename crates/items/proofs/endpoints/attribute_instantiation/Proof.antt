@@ -3,16 +3,16 @@ use Rattle.items.proofs.endpoints.attribute_instantiation.Statement.{st
 use Rattle.items.proofs.endpoints.attribute_instantiation.Tie as tie
 use Rattle.items.specs.endpoints.{attribute-instantiation}
 use Rattle.items.specs.answers.endpoints.{defaultLost}
-use Rattle.items.proofs.Answers.{read-within, read-is, read-not, read-lost, read-took}
-use Rattle.items.proofs.names.Laws.{named-in, named-took, keyword-name-on}
+use Rattle.lexing.proofs.AnswerLaws.{read-within, read-is, read-not, read-lost, read-took}
+use Rattle.lexing.proofs.names.Laws.{named-in, named-took, keyword-name-on}
 use Rattle.items.proofs.endpoints.Laws.{default-within, handling-on, optional-on}
 use mathlib.Core.Path.{refl}
 use native.Mathlib.Omega.{arith}
 use Rattle.lexing.proofs.Slicing.{rest-self, begin, go, on, lose, fall, done}
-use Rattle.items.proofs.Pairs.{pair-on, pair-fall, three-go, three-lose}
+use Rattle.lexing.proofs.Pairs.{pair-on, pair-fall, three-go, three-lose}
 use Rattle.items.proofs.members.Laws.{level-took, level-lost}
-use Rattle.items.proofs.steps.Laws.{gap-at-took, tag-behind-took, skips-lost}
-use Rattle.items.specs.answers.names.{namedLost}
+use Rattle.lexing.proofs.steps.Laws.{gap-at-took, tag-behind-took, skips-lost}
+use Rattle.lexing.specs.names.{namedLost}
 
 attribute-handling-type-requires : tie.Need-attribute-handling-type-requires
 attribute-handling-type-requires c κs = search needs

@@ -4,12 +4,12 @@ use Rattle.items.proofs.endpoints.cluster_instantiation.Tie as tie
 use mathlib.Core.Path.{refl}
 use native.Mathlib.Omega.{arith}
 use Rattle.lexing.proofs.Slicing.{rest-self}
-use Rattle.items.specs.answers.names.{namedLost}
-use Rattle.items.proofs.Answers.{read-lost}
+use Rattle.lexing.specs.names.{namedLost}
+use Rattle.lexing.proofs.AnswerLaws.{read-lost}
 use Rattle.items.proofs.Headed.{headed-lost, headed-pass, headed-counted}
 use Rattle.items.proofs.Locality.{instantiation-head-consumes}
 use Rattle.items.proofs.counts.Laws.{count-took, count-lost}
-use Rattle.items.proofs.names.Laws.{named-took}
+use Rattle.lexing.proofs.names.Laws.{named-took}
 use Rattle.items.proofs.endpoints.Laws.{instances-on, instantiation-head-on, instantiation-headed}
 
 instantiation-head-requires : tie.Need-instantiation-head-requires

@@ -5,7 +5,8 @@ use native.Mathlib.Omega.{arith}
 use Prim.Native.Nat.{_-_, _+_}
 use lib.ListN.{length}
 use Rattle.lexing.proofs.Slicing.{blank-took}
-use Rattle.items.specs.records.{each, part-records}
+use Rattle.lexing.specs.buffers.{each}
+use Rattle.items.specs.records.{part-records}
 use Rattle.items.specs.endpoints.{part-tries}
 use Rattle.items.proofs.Locality.{part-tries-inside, part-tries-consumes}
 use Rattle.items.proofs.RecordWords.{each-elementwise}

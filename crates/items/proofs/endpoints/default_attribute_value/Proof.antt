@@ -8,9 +8,9 @@ use native.Mathlib.Omega.{arith}
 use Rattle.lexing.specs.bytes.{ascii}
 use Rattle.lexing.specs.answers.{wordAt}
 use Rattle.lexing.proofs.Slicing.{rest-self, begin, on, fall, keyword-took, step-lost}
-use Rattle.items.proofs.Answers.{read-not}
-use Rattle.items.proofs.Pairs.{pair-on, pair-fall}
-use Rattle.items.proofs.steps.Laws.{blank-at-took, tag-behind-took, skips-lost}
+use Rattle.lexing.proofs.AnswerLaws.{read-not}
+use Rattle.lexing.proofs.Pairs.{pair-on, pair-fall}
+use Rattle.lexing.proofs.steps.Laws.{blank-at-took, tag-behind-took, skips-lost}
 
 slice-aggregate-keyword : tie.Need-slice-aggregate-keyword
 slice-aggregate-keyword c = search needs

@@ -6,7 +6,7 @@ use Rattle.lexing.proofs.Slicing.{rest-self, integer-lost}
 use Rattle.items.proofs.Headed.{headed-lost, headed-pass, headed-counted}
 use Rattle.items.proofs.Locality.{endpoint-head-consumes}
 use Rattle.items.proofs.counts.Laws.{count-took, count-lost}
-use Rattle.items.proofs.names.Laws.{number-took}
+use Rattle.lexing.proofs.names.Laws.{number-took}
 use Rattle.items.proofs.endpoints.Laws.{parts-on, endpoint-head-on, endpoint-headed}
 
 endpoint-head-requires : tie.Need-endpoint-head-requires

@@ -4,9 +4,9 @@ use Rattle.items.proofs.endpoints.endpoint_head.Tie as tie
 use Rattle.items.specs.endpoints.{endpoint-head}
 use native.Mathlib.Omega.{arith}
 use Rattle.lexing.proofs.Slicing.{begin, on, done, integer-lost}
-use Rattle.items.proofs.Pairs.{three-go, three-lose}
-use Rattle.items.proofs.steps.Laws.{blank-at-took}
-use Rattle.items.proofs.names.Laws.{number-took, keyword-number-on}
+use Rattle.lexing.proofs.Pairs.{three-go, three-lose}
+use Rattle.lexing.proofs.steps.Laws.{blank-at-took}
+use Rattle.lexing.proofs.names.Laws.{number-took, keyword-number-on}
 
 blank-at-requires : tie.Need-blank-at-requires
 blank-at-requires c κs = omega (arith, c .before .pre)

@@ -7,13 +7,13 @@ use mathlib.Core.List.{[], _∷_}
 use Rattle.lexing.proofs.Slicing.{rest-self}
 use Rattle.items.specs.endpoints.{attribute-instantiation, Instance, attribute-instance, command-instance, event-instance, instance-tries}
 use Rattle.items.specs.records.{instance-record}
-use Rattle.items.specs.answers.names.{namedLost}
-use Rattle.items.proofs.optional.Laws.{skip-took, skip-lost}
-use Rattle.items.proofs.Answers.{read-lost}
+use Rattle.lexing.specs.names.{namedLost}
+use Rattle.lexing.proofs.optional.Laws.{skip-took, skip-lost}
+use Rattle.lexing.proofs.AnswerLaws.{read-lost}
 use Rattle.items.proofs.Mapped.{mapped-not}
 use Rattle.items.proofs.Locality.{attribute-instantiation-consumes, named-after-consumes}
 use Rattle.items.proofs.endpoints.Deep.{weighed-not, intercept-next, intercept-stop, intercept-last, try-here, try-is}
-use Rattle.items.proofs.names.Laws.{named-took}
+use Rattle.lexing.proofs.names.Laws.{named-took}
 use Rattle.items.proofs.endpoints.Laws.{attribute-instance-on, named-after-on, attribute-words, command-words, event-words}
 
 attribute-instance-end-requires : tie.Need-attribute-instance-end-requires

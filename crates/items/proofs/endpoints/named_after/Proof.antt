@@ -2,14 +2,14 @@ use borrow.Author.Needs.{needs}
 use Rattle.items.proofs.endpoints.named_after.Statement.{statement}
 use Rattle.items.proofs.endpoints.named_after.Tie as tie
 use Rattle.items.specs.endpoints.{named-after}
-use Rattle.items.proofs.names.Laws.{named-wider, named-took}
+use Rattle.lexing.proofs.names.Laws.{named-wider, named-took}
 use mathlib.Core.Path.{refl}
 use native.Mathlib.Omega.{arith}
 use Rattle.lexing.proofs.Slicing.{rest-self, begin, go, lose, done}
-use Rattle.items.proofs.Answers.{read-is, read-not, read-lost}
-use Rattle.items.proofs.Pairs.{pair-on, pair-fall}
-use Rattle.items.proofs.steps.Laws.{tag-behind-took, skips-lost}
-use Rattle.items.specs.answers.names.{namedLost}
+use Rattle.lexing.proofs.AnswerLaws.{read-is, read-not, read-lost}
+use Rattle.lexing.proofs.Pairs.{pair-on, pair-fall}
+use Rattle.lexing.proofs.steps.Laws.{tag-behind-took, skips-lost}
+use Rattle.lexing.specs.names.{namedLost}
 use Rattle.items.proofs.endpoints.Laws.{name-behind-on}
 
 name-behind-requires : tie.Need-name-behind-requires

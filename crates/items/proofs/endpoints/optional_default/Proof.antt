@@ -8,7 +8,7 @@ use Rattle.lexing.proofs.Slicing.{rest-self, begin, fall, gap-took, gap-lost}
 use Rattle.items.specs.endpoints.{default-attribute-value}
 use Rattle.items.specs.declared.endpoints.ValueRead.the-variants.{NoValue}
 use mathlib.Core.Path.{refl}
-use Rattle.items.proofs.Answers.{read-not}
+use Rattle.lexing.proofs.AnswerLaws.{read-not}
 use Rattle.items.proofs.endpoints.Laws.{optional-is, value-behind}
 
 whitespace1-requires : tie.Need-whitespace1-requires

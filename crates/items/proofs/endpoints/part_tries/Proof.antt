@@ -6,15 +6,15 @@ use mathlib.Core.Path.{refl}
 use Rattle.lexing.proofs.Slicing.{rest-self}
 use Rattle.items.specs.endpoints.{device-type, cluster-instantiation, device, binding, instantiation, part-tries}
 use Rattle.items.specs.records.{part-records}
-use Rattle.items.specs.answers.names.{namedLost}
+use Rattle.lexing.specs.names.{namedLost}
 use Rattle.items.specs.answers.endpoints.{deviceTypeLost}
 use Rattle.items.specs.inner.endpoints.{blank-binding}
-use Rattle.items.proofs.Answers.{read-took, read-lost}
+use Rattle.lexing.proofs.AnswerLaws.{read-took, read-lost}
 use Rattle.items.proofs.Mapped.{mapped-not}
 use Rattle.items.proofs.Locality.{device-type-consumes}
 use Rattle.items.proofs.counts.Laws.{count-took, count-none}
 use Rattle.items.proofs.endpoints.Deep.{weighed-not, intercept-next, intercept-stop, intercept-last, try-here, try-is, try-counts}
-use Rattle.items.proofs.names.Laws.{named-took}
+use Rattle.lexing.proofs.names.Laws.{named-took}
 use Rattle.items.proofs.endpoints.Laws.{device-type-on, blank-binding-on, blank-binding-consumes, cluster-instantiation-on, device-words, binding-words}
 
 device-type-requires : tie.Need-device-type-requires

@@ -5,7 +5,7 @@ use native.Mathlib.Omega.{arith}
 use Rattle.lexing.proofs.Slicing.{or-here}
 use Rattle.items.specs.endpoints.{value-tries}
 use mathlib.Core.Path.{refl}
-use Rattle.items.proofs.Answers.{read-is, read-not}
+use Rattle.lexing.proofs.AnswerLaws.{read-is, read-not}
 use Rattle.items.proofs.Choice.{or-past, or-stop}
 use Rattle.items.proofs.endpoints.Laws.{number-try, number-stop, number-not, signed-try, signed-not}
 

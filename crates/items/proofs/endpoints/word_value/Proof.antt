@@ -8,7 +8,7 @@ use Rattle.lexing.proofs.Slicing.{or-here}
 use Rattle.items.specs.endpoints.{truth, value-tries}
 use Rattle.items.proofs.Keywords.{keyword-value, keyword-not}
 use mathlib.Core.Path.{refl}
-use Rattle.items.proofs.Answers.{read-is, read-not}
+use Rattle.lexing.proofs.AnswerLaws.{read-is, read-not}
 use Rattle.items.proofs.Choice.{or-past}
 use Rattle.items.proofs.endpoints.Laws.{text-try, text-long, text-not, text-past}
 

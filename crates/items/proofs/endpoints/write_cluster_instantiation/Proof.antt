@@ -4,11 +4,11 @@ use Rattle.items.proofs.endpoints.write_cluster_instantiation.Tie as ti
 use mathlib.Core.Path.{refl, sym, ap}
 use native.Mathlib.Omega.{arith}
 use Rattle.lexing.proofs.Slicing.{rest-self}
-use Rattle.items.specs.answers.names.{namedLost}
-use Rattle.items.proofs.Answers.{read-lost}
+use Rattle.lexing.specs.names.{namedLost}
+use Rattle.lexing.proofs.AnswerLaws.{read-lost}
 use Rattle.items.proofs.Headed.{headed-found, headed-room, headed-written}
 use Rattle.items.proofs.writing.Laws.{written-same}
-use Rattle.items.proofs.names.Laws.{named-in, named-took}
+use Rattle.lexing.proofs.names.Laws.{named-in, named-took}
 use Rattle.items.proofs.endpoints.Laws.{instances-on, instantiation-head-on, instantiation-headed, instantiation-first-is, name-in-limit}
 
 instantiation-head-requires : tie.Need-instantiation-head-requires

@@ -7,7 +7,7 @@ use Rattle.lexing.specs.answers.{numberLost}
 use Rattle.lexing.proofs.Slicing.{rest-self, integer-lost}
 use Rattle.items.proofs.Headed.{headed-found, headed-room, headed-written}
 use Rattle.items.proofs.writing.Laws.{written-same}
-use Rattle.items.proofs.names.Laws.{number-took}
+use Rattle.lexing.proofs.names.Laws.{number-took}
 use Rattle.items.proofs.endpoints.Laws.{parts-on, endpoint-head-on, endpoint-headed, endpoint-first-is}
 
 endpoint-head-requires : tie.Need-endpoint-head-requires

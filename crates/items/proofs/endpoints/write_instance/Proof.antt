@@ -7,18 +7,18 @@ use native.Mathlib.Omega.{arith}
 use mathlib.Core.List.{[], _∷_}
 use Rattle.lexing.specs.bytes.{ascii}
 use Rattle.lexing.proofs.Slicing.{rest-self}
-use Rattle.items.specs.buffers.{put}
+use Rattle.lexing.specs.buffers.{put}
 use Rattle.items.specs.layout.{layout-20, catalogue-bytes}
 use Rattle.items.specs.records.{Record, instance-record}
 use Rattle.items.specs.clusters.{mapped}
 use Rattle.items.specs.endpoints.{attribute-instantiation, named-after, attribute-instance, command-instance, event-instance, instance-tries}
-use Rattle.items.specs.answers.names.{namedLost}
+use Rattle.lexing.specs.names.{namedLost}
 use Rattle.items.specs.answers.endpoints.{attributeInstanceLost}
-use Rattle.items.proofs.Answers.{read-took, read-within, read-lost}
+use Rattle.lexing.proofs.AnswerLaws.{read-took, read-within, read-lost}
 use Rattle.items.proofs.Mapped.{mapped-not}
 use Rattle.items.proofs.writing.Laws.{no-room}
 use Rattle.items.proofs.endpoints.Placed.{try-took, try-fits, try-written, first-found, second-found, third-found, first-missed, second-missed, third-room}
-use Rattle.items.proofs.names.Laws.{named-in, named-took}
+use Rattle.lexing.proofs.names.Laws.{named-in, named-took}
 use Rattle.items.proofs.endpoints.Laws.{attribute-instance-on, named-after-on, attribute-words, command-words, event-words, name-parts-is, instance-parts-is, name-in-limit, instance-in-limit}
 
 attribute-instantiation-requires : tie.Need-attribute-instantiation-requires

@@ -6,18 +6,18 @@ use mathlib.Core.Path.{refl, sym, ap, _∙_}
 use native.Mathlib.Omega.{arith}
 use mathlib.Core.List.{List, [], _∷_}
 use Rattle.lexing.proofs.Slicing.{rest-self}
-use Rattle.items.specs.buffers.{put}
+use Rattle.lexing.specs.buffers.{put}
 use Rattle.items.specs.layout.{layout-20, catalogue-bytes}
 use Rattle.items.specs.records.{Record, part-records}
 use Rattle.items.specs.clusters.{mapped}
 use Rattle.items.specs.endpoints.{device-type, cluster-instantiation, device, binding, instantiation, part-tries}
 use Rattle.items.specs.inner.endpoints.{blank-binding}
-use Rattle.items.specs.answers.names.{namedLost}
+use Rattle.lexing.specs.names.{namedLost}
 use Rattle.items.specs.answers.endpoints.{deviceTypeLost}
-use Rattle.items.proofs.Answers.{read-took, read-within, read-lost}
+use Rattle.lexing.proofs.AnswerLaws.{read-took, read-within, read-lost}
 use Rattle.items.proofs.Mapped.{mapped-ok, mapped-not}
 use Rattle.items.proofs.endpoints.Placed.{try-took, try-fits, try-written, try-passed, mapped-room, first-found, second-found, third-found, first-missed, second-missed, third-room}
-use Rattle.items.proofs.names.Laws.{named-in, named-took}
+use Rattle.lexing.proofs.names.Laws.{named-in, named-took}
 use Rattle.items.proofs.endpoints.Laws.{device-type-on, blank-binding-on, device-words, binding-words, name-parts-is, device-parts-is, name-in-limit}
 
 device-type-requires : tie.Need-device-type-requires

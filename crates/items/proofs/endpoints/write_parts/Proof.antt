@@ -2,7 +2,8 @@ use borrow.Author.Needs.{needs}
 use Rattle.items.proofs.endpoints.write_parts.Statement.{statement}
 use Rattle.items.proofs.endpoints.write_parts.Tie as tie
 use native.Mathlib.Omega.{arith}
-use Rattle.items.specs.records.{each, part-records}
+use Rattle.lexing.specs.buffers.{each}
+use Rattle.items.specs.records.{part-records}
 use Prim.Native.Nat.{_-_, _+_}
 use lib.ListN.{length}
 use Rattle.lexing.proofs.Slicing.{blank-took, tag-took, told-not}

@@ -3,12 +3,12 @@ use Rattle.items.proofs.entries.annotations_in_brackets.Statement.{stat
 use Rattle.items.proofs.entries.annotations_in_brackets.Tie as tie
 use mathlib.Core.List.{[]}
 use Rattle.items.specs.entries.{annotations-in-brackets}
-use Rattle.items.proofs.Dropping.{skip-is, skip-not}
+use Rattle.lexing.proofs.Dropping.{skip-is, skip-not}
 use native.Mathlib.Omega.{arith}
 use Rattle.lexing.proofs.Slicing.{rest-self, begin, go, on, lose, fall, done, tag-took, step-lost}
-use Rattle.items.proofs.Pairs.{pair-on, pair-fall}
-use Rattle.items.proofs.steps.Laws.{tag-behind-took, skips-lost}
-use Rattle.items.proofs.optional.Laws.{skip-took, skip-lost}
+use Rattle.lexing.proofs.Pairs.{pair-on, pair-fall}
+use Rattle.lexing.proofs.steps.Laws.{tag-behind-took, skips-lost}
+use Rattle.lexing.proofs.optional.Laws.{skip-took, skip-lost}
 use Rattle.items.proofs.entries.Laws.{annotations-onward}
 
 tag-requires : tie.Need-tag-requires

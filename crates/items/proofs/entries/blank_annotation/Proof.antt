@@ -3,7 +3,7 @@ use Rattle.items.proofs.entries.blank_annotation.Statement.{statement}
 use Rattle.items.proofs.entries.blank_annotation.Tie as tie
 use Rattle.lexing.proofs.Slicing.{rest-self, blank-took}
 use Rattle.items.specs.entries.{blank-annotation}
-use Rattle.items.proofs.Dropping.{skip-behind}
+use Rattle.lexing.proofs.Dropping.{skip-behind}
 use Rattle.items.proofs.entries.Laws.{annotation-onward}
 
 whitespace0-requires : tie.Need-whitespace0-requires

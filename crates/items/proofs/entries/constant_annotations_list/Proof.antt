@@ -2,7 +2,7 @@ use borrow.Author.Needs.{needs}
 use Rattle.items.proofs.entries.constant_annotations_list.Statement.{statement}
 use Rattle.items.proofs.entries.constant_annotations_list.Tie as tie
 use Rattle.items.specs.entries.{constant-annotations-list}
-use Rattle.items.proofs.Dropping.{opt-skips}
+use Rattle.lexing.proofs.Dropping.{opt-skips}
 
 annotations-in-brackets-requires : tie.Need-annotations-in-brackets-requires
 annotations-in-brackets-requires c κs = search needs

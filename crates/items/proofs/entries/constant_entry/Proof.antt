@@ -1,3 +1,4 @@
+use borrow.Author.Needs.{needs}
 use Rattle.items.proofs.entries.constant_entry.Statement.{statement}
 use Rattle.items.proofs.entries.constant_entry.Tie as tie
 use Rattle.items.specs.entries.{constant-entry}
@@ -6,30 +7,20 @@ use Rattle.items.proofs.entries.Laws.{end-up, end-took, end-none}
 use mathlib.Core.Path.{refl, sym}
 use native.Mathlib.Omega.{arith}
 use Rattle.lexing.specs.answers.{wordAt}
-use Rattle.lexing.proofs.Slicing.{begin, go, on, lose, word-took, step-lost}
-use Rattle.items.proofs.Answers.{read-is, read-not, last-lost}
-use Rattle.items.proofs.Pairs.{four-go, four-lose}
-use Rattle.items.proofs.maturity.Laws.{maturity-took}
-use Rattle.items.proofs.steps.Laws.{blank-at-took}
-use Rattle.items.proofs.names.Laws.{code-behind-on, number-at-took, number-at-lost}
+use Rattle.lexing.proofs.Slicing.{rest-self, begin, go, lose, word-took, step-lost}
+use Rattle.lexing.proofs.AnswerLaws.{read-is, read-not, last-lost}
+use Rattle.lexing.proofs.Pairs.{four-go, four-lose, between-go}
+use Rattle.items.proofs.maturity.Laws.{between-took}
+use Rattle.lexing.proofs.names.Laws.{code-behind-on, number-at-took, number-at-lost}
 
-blank-at-requires : tie.Need-blank-at-requires
-blank-at-requires c κs = omega (arith, c .before .pre)
+maturity-between-requires : tie.Need-maturity-between-requires
+maturity-between-requires c κs = search needs
 
 rest-at-requires : tie.Need-rest-at-requires
-rest-at-requires c κs = let t = blank-at-took (c .blank-at .ensures) in omega (arith, t .up, t .inside)
-
-api-maturity-requires : tie.Need-api-maturity-requires
-api-maturity-requires c κs = omega (arith, c .rest-at .ensures .size, c .before .before .before .pre)
-
-blank-at-requires-2 : tie.Need-blank-at-requires-2
-blank-at-requires-2 c κs = let t = maturity-took (c .before .rest-at .ensures) (c .api-maturity .ensures) in omega (arith, t .up, t .inside, c .before .rest-at .ensures .from, c .before .before .before .before .pre)
-
-rest-at-requires-2 : tie.Need-rest-at-requires-2
-rest-at-requires-2 c κs = let t = blank-at-took (c .blank-at2 .ensures) in omega (arith, t .up, t .inside, c .blank-at2 .ensures .at .from)
+rest-at-requires c κs = let t = between-took (rest-self _ _) (c .maturity-between .ensures) in omega (arith, t .up, t .inside)
 
 parse-id-requires : tie.Need-parse-id-requires
-parse-id-requires c κs = omega (arith, c .rest-at2 .ensures .size, c .before .before .before .before .before .before .pre)
+parse-id-requires c κs = omega (arith, c .rest-at .ensures .size, c .before .before .before .pre)
 
 enum-known-name : tie.Need-enum-known-name
 enum-known-name c = c .match .keys1
@@ -42,10 +33,10 @@ step-lost-requires c κs = tt
 
 returns : tie.Need-returns
 unfolding constant-entry entry-end
-returns c = read-not _ refl tt (begin (constant-entry) _ _ (on _ (blank-at-took (c .before .before .before .before .before .before .before .before .blank-at .ensures)) (go _ (maturity-took (c .before .before .before .before .before .before .before .rest-at .ensures) (c .before .before .before .before .before .before .api-maturity .ensures)) (on _ (blank-at-took (c .before .before .before .before .before .blank-at2 .ensures)) (lose _ _ (c .step-lost .result) (c .before .before .before .before .rest-at2 .ensures) (step-lost (wordAt _ _) (c .step-lost .ensures) (c .before .enum-told .given .1) _ _ _ (c .before .before .before .parse-id .ensures)))))))
+returns c = read-not _ refl tt (begin (constant-entry) _ _ (between-go _ _ _ _ (between-took (rest-self _ _) (c .before .before .before .before .before .maturity-between .ensures)) (lose _ _ (c .step-lost .result) (c .before .before .before .before .rest-at .ensures) (step-lost (wordAt _ _) (c .step-lost .ensures) (c .before .enum-told .given .1) _ _ _ (c .before .before .before .parse-id .ensures)))))
 
 code-behind-requires : tie.Need-code-behind-requires
-code-behind-requires c κs = let t = word-took (c .before .before .before .before .rest-at2 .ensures) (c .before .name .given .1) (c .before .before .before .parse-id .ensures) in omega (arith, t .up, t .inside, c .before .before .before .before .rest-at2 .ensures .from, c .before .before .before .before .before .before .before .before .before .before .pre)
+code-behind-requires c κs = let t = word-took (c .before .before .before .before .rest-at .ensures) (c .before .name .given .1) (c .before .before .before .parse-id .ensures) in omega (arith, t .up, t .inside, c .before .before .before .before .rest-at .ensures .from, c .before .before .before .before .before .before .before .pre)
 
 enum-known-value : tie.Need-enum-known-value
 enum-known-value c = c .match2 .keys1
@@ -58,13 +49,13 @@ number-lost-requires c κs = tt
 
 returns-2 : tie.Need-returns-2
 unfolding constant-entry entry-end
-returns-2 c = read-not _ refl tt (begin (constant-entry) _ _ (on _ (blank-at-took (c .before .before .before .before .before .before .before .before .before .before .before .before .blank-at .ensures)) (go _ (maturity-took (c .before .before .before .before .before .before .before .before .before .before .before .rest-at .ensures) (c .before .before .before .before .before .before .before .before .before .before .api-maturity .ensures)) (on _ (blank-at-took (c .before .before .before .before .before .before .before .before .before .blank-at2 .ensures)) (go _ (word-took (c .before .before .before .before .before .before .before .before .rest-at2 .ensures) (c .before .before .before .before .before .name .given .1) (c .before .before .before .before .before .before .before .parse-id .ensures)) (four-lose _ _ _ _ _ (c .number-lost .result) (c .before .before .before .code-behind .ensures .at) (number-at-lost (c .before .before .before .code-behind .ensures) (c .number-lost .ensures) (c .before .enum-told2 .given .1))))))))
+returns-2 c = read-not _ refl tt (begin (constant-entry) _ _ (between-go _ _ _ _ (between-took (rest-self _ _) (c .before .before .before .before .before .before .before .before .before .maturity-between .ensures)) (go _ (word-took (c .before .before .before .before .before .before .before .before .rest-at .ensures) (c .before .before .before .before .before .name .given .1) (c .before .before .before .before .before .before .before .parse-id .ensures)) (four-lose _ _ _ _ _ (c .number-lost .result) (c .before .before .before .code-behind .ensures .at) (number-at-lost (c .before .before .before .code-behind .ensures) (c .number-lost .ensures) (c .before .enum-told2 .given .1))))))
 
-rest-at-requires-3 : tie.Need-rest-at-requires-3
-rest-at-requires-3 c κs = let t = number-at-took (c .before .before .before .code-behind .ensures) code-behind-on (c .before .value .given .1) in omega (arith, t .up, t .inside, c .before .before .before .code-behind .ensures .at .from)
+rest-at-requires-2 : tie.Need-rest-at-requires-2
+rest-at-requires-2 c κs = let t = number-at-took (c .before .before .before .code-behind .ensures) code-behind-on (c .before .value .given .1) in omega (arith, t .up, t .inside, c .before .before .before .code-behind .ensures .at .from)
 
 entry-end-requires : tie.Need-entry-end-requires
-entry-end-requires c κs = omega (arith, c .rest-at3 .ensures .size, c .before .before .before .before .before .before .before .before .before .before .before .before .before .before .before .pre)
+entry-end-requires c κs = omega (arith, c .rest-at2 .ensures .size, c .before .before .before .before .before .before .before .before .before .before .before .before .pre)
 
 enum-known-last : tie.Need-enum-known-last
 enum-known-last c = c .match3 .keys1
@@ -77,21 +68,18 @@ step-lost-requires-2 c κs = tt
 
 returns-3 : tie.Need-returns-3
 unfolding constant-entry entry-end
-returns-3 c = read-not _ refl tt (begin (constant-entry) _ _ (on _ (blank-at-took (c .before .before .before .before .before .before .before .before .before .before .before .before .before .before .before .before .before .blank-at .ensures)) (go _ (maturity-took (c .before .before .before .before .before .before .before .before .before .before .before .before .before .before .before .before .rest-at .ensures) (c .before .before .before .before .before .before .before .before .before .before .before .before .before .before .before .api-maturity .ensures)) (on _ (blank-at-took (c .before .before .before .before .before .before .before .before .before .before .before .before .before .before .blank-at2 .ensures)) (go _ (word-took (c .before .before .before .before .before .before .before .before .before .before .before .before .before .rest-at2 .ensures) (c .before .before .before .before .before .before .before .before .before .before .name .given .1) (c .before .before .before .before .before .before .before .before .before .before .before .before .parse-id .ensures)) (four-go _ _ _ _ _ (number-at-took (c .before .before .before .before .before .before .before .before .code-behind .ensures) code-behind-on (c .before .before .before .before .before .before .value .given .1)) (last-lost (entry-end _) (c .step-lost2 .result) (c .before .before .before .before .rest-at3 .ensures) (end-none _ (c .step-lost2 .ensures) (c .before .enum-told3 .given .1) (c .before .before .before .entry-end .ensures)))))))))
+returns-3 c = read-not _ refl tt (begin (constant-entry) _ _ (between-go _ _ _ _ (between-took (rest-self _ _) (c .before .before .before .before .before .before .before .before .before .before .before .before .before .before .maturity-between .ensures)) (go _ (word-took (c .before .before .before .before .before .before .before .before .before .before .before .before .before .rest-at .ensures) (c .before .before .before .before .before .before .before .before .before .before .name .given .1) (c .before .before .before .before .before .before .before .before .before .before .before .before .parse-id .ensures)) (four-go _ _ _ _ _ (number-at-took (c .before .before .before .before .before .before .before .before .code-behind .ensures) code-behind-on (c .before .before .before .before .before .before .value .given .1)) (last-lost (entry-end _) (c .step-lost2 .result) (c .before .before .before .before .rest-at2 .ensures) (end-none _ (c .step-lost2 .ensures) (c .before .enum-told3 .given .1) (c .before .before .before .entry-end .ensures)))))))
 
 returns-4 : tie.Need-returns-4
 unfolding constant-entry entry-end
-returns-4 c = read-is refl (begin (constant-entry) _ _ (on _ (blank-at-took (c .before .before .before .before .before .before .before .before .before .before .before .before .before .before .before .before .before .blank-at .ensures)) (go _ (maturity-took (c .before .before .before .before .before .before .before .before .before .before .before .before .before .before .before .before .rest-at .ensures) (c .before .before .before .before .before .before .before .before .before .before .before .before .before .before .before .api-maturity .ensures)) (on _ (blank-at-took (c .before .before .before .before .before .before .before .before .before .before .before .before .before .before .blank-at2 .ensures)) (go _ (word-took (c .before .before .before .before .before .before .before .before .before .before .before .before .before .rest-at2 .ensures) (c .before .before .before .before .before .before .before .before .before .before .name .given .1) (c .before .before .before .before .before .before .before .before .before .before .before .before .parse-id .ensures)) (four-go _ _ _ _ _ (number-at-took (c .before .before .before .before .before .before .before .before .code-behind .ensures) code-behind-on (c .before .before .before .before .before .before .value .given .1)) (sym ((end-took _ (c .before .before .before .before .rest-at3 .ensures) (c .before .last .given .1) (c .before .before .before .entry-end .ensures)) .goes)))))))) (record { from = omega (arith, (blank-at-took (c .before .before .before .before .before .before .before .before .before .before .before .before .before .before .blank-at2 .ensures)) .up, c .before .before .before .before .before .before .before .before .before .before .before .before .before .before .blank-at2 .ensures .at .from); up = (word-took (c .before .before .before .before .before .before .before .before .before .before .before .before .before .rest-at2 .ensures) (c .before .before .before .before .before .before .before .before .before .before .name .given .1) (c .before .before .before .before .before .before .before .before .before .before .before .before .parse-id .ensures)) .up; inside = omega (arith, (number-at-took (c .before .before .before .before .before .before .before .before .code-behind .ensures) code-behind-on (c .before .before .before .before .before .before .value .given .1)) .up, end-up (c .before .last .given .1) (c .before .before .before .entry-end .ensures)); small = c .before .before .before .before .before .before .before .before .before .before .before .before .before .before .before .api-maturity .ensures .small })
+returns-4 c = read-is refl (begin (constant-entry) _ _ (between-go _ _ _ _ (between-took (rest-self _ _) (c .before .before .before .before .before .before .before .before .before .before .before .before .before .before .maturity-between .ensures)) (go _ (word-took (c .before .before .before .before .before .before .before .before .before .before .before .before .before .rest-at .ensures) (c .before .before .before .before .before .before .before .before .before .before .name .given .1) (c .before .before .before .before .before .before .before .before .before .before .before .before .parse-id .ensures)) (four-go _ _ _ _ _ (number-at-took (c .before .before .before .before .before .before .before .before .code-behind .ensures) code-behind-on (c .before .before .before .before .before .before .value .given .1)) (sym ((end-took _ (c .before .before .before .before .rest-at2 .ensures) (c .before .last .given .1) (c .before .before .before .entry-end .ensures)) .goes)))))) (record { from = c .before .before .before .before .before .before .before .before .before .before .before .before .before .before .maturity-between .ensures .up; up = (word-took (c .before .before .before .before .before .before .before .before .before .before .before .before .before .rest-at .ensures) (c .before .before .before .before .before .before .before .before .before .before .name .given .1) (c .before .before .before .before .before .before .before .before .before .before .before .before .parse-id .ensures)) .up; inside = omega (arith, (number-at-took (c .before .before .before .before .before .before .before .before .code-behind .ensures) code-behind-on (c .before .before .before .before .before .before .value .given .1)) .up, end-up (c .before .last .given .1) (c .before .before .before .entry-end .ensures)); small = c .before .before .before .before .before .before .before .before .before .before .before .before .before .before .maturity-between .ensures .small })
 
 pub constant-entry-spec : {M : Type 1} → statement M
 constant-entry-spec =
     tie.close
     (tie.spec
-    blank-at-requires
+    maturity-between-requires
     rest-at-requires
-    api-maturity-requires
-    blank-at-requires-2
-    rest-at-requires-2
     parse-id-requires
     enum-known-name
     enum-told
@@ -102,7 +90,7 @@ constant-entry-spec =
     enum-told-2
     number-lost-requires
     returns-2
-    rest-at-requires-3
+    rest-at-requires-2
     entry-end-requires
     enum-known-last
     enum-told-3

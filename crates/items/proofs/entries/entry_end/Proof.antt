@@ -4,9 +4,9 @@ use Rattle.items.specs.inner.entries.{entry-end}
 use Rattle.items.proofs.entries.Laws.{end-is, end-not, annotations-list-onward}
 use native.Mathlib.Omega.{arith}
 use Rattle.lexing.proofs.Slicing.{begin, on, fall, done}
-use Rattle.items.proofs.Pairs.{pair-on, pair-fall}
-use Rattle.items.proofs.steps.Laws.{blank-at-took, tag-behind-took, skips-lost}
-use Rattle.items.proofs.optional.Laws.{skip-took, skip-lost}
+use Rattle.lexing.proofs.Pairs.{pair-on, pair-fall}
+use Rattle.lexing.proofs.steps.Laws.{blank-at-took, tag-behind-took, skips-lost}
+use Rattle.lexing.proofs.optional.Laws.{skip-took, skip-lost}
 
 blank-at-requires : tie.Need-blank-at-requires
 blank-at-requires c κs = omega (arith, c .before .pre)

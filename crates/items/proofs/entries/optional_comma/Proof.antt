@@ -1,7 +1,7 @@
 use borrow.Author.Needs.{needs}
 use Rattle.items.proofs.entries.optional_comma.Statement.{statement}
 use Rattle.items.proofs.entries.optional_comma.Tie as tie
-use Rattle.items.proofs.Dropping.{opt-skips, tag-skips}
+use Rattle.lexing.proofs.Dropping.{opt-skips, tag-skips}
 
 tag-requires : tie.Need-tag-requires
 tag-requires c κs = search needs

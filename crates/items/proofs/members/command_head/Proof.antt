@@ -9,10 +9,10 @@ use native.Mathlib.Omega.{arith}
 use Rattle.lexing.specs.bytes.{ascii}
 use Rattle.lexing.specs.answers.{wordAt}
 use Rattle.lexing.proofs.Slicing.{rest-self, begin, go, on, lose, done, set-took, word-took, step-lost}
-use Rattle.items.proofs.Answers.{read-not}
-use Rattle.items.proofs.Pairs.{pair-on, pair-fall}
+use Rattle.lexing.proofs.AnswerLaws.{read-not}
+use Rattle.lexing.proofs.Pairs.{pair-on, pair-fall}
 use Rattle.items.proofs.Locality.{access-to-inside}
-use Rattle.items.proofs.steps.Laws.{blank-at-took, keyword-behind-took, skips-lost}
+use Rattle.lexing.proofs.steps.Laws.{blank-at-took, keyword-behind-took, skips-lost}
 use Rattle.lexing.proofs.Locality.{chain-inside, chain-then}
 use Rattle.lexing.proofs.TokenLocality.{whitespace0-chain}
 

@@ -1,15 +1,15 @@
 use Rattle.items.proofs.members.command_types.Statement.{statement}
 use Rattle.items.proofs.members.command_types.Tie as tie
 use Rattle.items.specs.members.{command-types}
-use Rattle.items.proofs.names.Laws.{named-in, named-took, type-behind-on}
+use Rattle.lexing.proofs.names.Laws.{named-in, named-took, type-behind-on}
 use mathlib.Core.Path.{refl}
 use native.Mathlib.Omega.{arith}
 use Rattle.lexing.proofs.Slicing.{begin, go, on, lose, done}
-use Rattle.items.proofs.Answers.{read-is, read-not, read-lost}
-use Rattle.items.proofs.Pairs.{pair-on, pair-fall, four-go, four-lose}
+use Rattle.lexing.proofs.AnswerLaws.{read-is, read-not, read-lost}
+use Rattle.lexing.proofs.Pairs.{pair-on, pair-fall, four-go, four-lose}
 use Rattle.items.proofs.members.Laws.{optional-word-took, optional-word-lost}
-use Rattle.items.proofs.steps.Laws.{blank-at-took, tag-behind-took, skips-lost}
-use Rattle.items.specs.answers.names.{namedLost}
+use Rattle.lexing.proofs.steps.Laws.{blank-at-took, tag-behind-took, skips-lost}
+use Rattle.lexing.specs.names.{namedLost}
 
 tag-behind-requires : tie.Need-tag-behind-requires
 tag-behind-requires c κs = omega (arith, c .before .pre)

@@ -3,7 +3,7 @@ use Rattle.items.proofs.members.count_command.Statement.{statement}
 use Rattle.items.proofs.members.count_command.Tie as tie
 use mathlib.Core.Path.{refl}
 use Rattle.items.specs.answers.members.{commandLost}
-use Rattle.items.proofs.Answers.{read-lost}
+use Rattle.lexing.proofs.AnswerLaws.{read-lost}
 use Rattle.items.proofs.counts.Laws.{count-not}
 use Rattle.items.proofs.members.Laws.{command-counted}
 

@@ -8,7 +8,7 @@ use Rattle.lexing.specs.bytes.{ascii}
 use Rattle.lexing.specs.answers.{wordAt}
 use Rattle.lexing.proofs.Slicing.{begin, on, fall, keyword-took, step-lost}
 use Rattle.items.proofs.Locality.{access-to-inside}
-use Rattle.items.proofs.steps.Laws.{gap-at-took, skips-lost}
+use Rattle.lexing.proofs.steps.Laws.{gap-at-took, skips-lost}
 use Rattle.lexing.proofs.Locality.{chain-inside}
 
 gap-at-requires : tie.Need-gap-at-requires

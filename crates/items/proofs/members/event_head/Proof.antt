@@ -7,11 +7,11 @@ use mathlib.Core.Path.{refl}
 use native.Mathlib.Omega.{arith}
 use Rattle.lexing.specs.answers.{wordAt}
 use Rattle.lexing.proofs.Slicing.{walks, rest-self, begin, go, on, lose, done, word-took, step-lost}
-use Rattle.items.proofs.Answers.{read-is, read-not, read-lost, read-took}
-use Rattle.items.proofs.Pairs.{four-go, four-lose}
+use Rattle.lexing.proofs.AnswerLaws.{read-is, read-not, read-lost, read-took}
+use Rattle.lexing.proofs.Pairs.{four-go, four-lose}
 use Rattle.items.proofs.Locality.{event-qualities-inside}
-use Rattle.items.proofs.steps.Laws.{blank-at-took}
-use Rattle.items.proofs.names.Laws.{code-behind-on, number-at-took, number-at-lost}
+use Rattle.lexing.proofs.steps.Laws.{blank-at-took}
+use Rattle.lexing.proofs.names.Laws.{code-behind-on, number-at-took, number-at-lost}
 use Rattle.lexing.proofs.Locality.{chain-inside}
 use Rattle.items.specs.answers.members.{eventQualitiesLost}
 

@@ -9,10 +9,10 @@ use Rattle.items.proofs.members.Laws.{event-access-on, level-small, eve
 use mathlib.Core.Path.{refl}
 use native.Mathlib.Omega.{arith}
 use Rattle.lexing.proofs.Slicing.{walks, rest-self, begin, go, on, lose, done, set-took}
-use Rattle.items.proofs.Answers.{read-not}
-use Rattle.items.proofs.Pairs.{four-go, four-lose}
+use Rattle.lexing.proofs.AnswerLaws.{read-not}
+use Rattle.lexing.proofs.Pairs.{four-go, four-lose}
 use Rattle.items.proofs.Locality.{event-priority-local}
-use Rattle.items.proofs.steps.Laws.{blank-at-took}
+use Rattle.lexing.proofs.steps.Laws.{blank-at-took}
 
 keywords-set-requires : tie.Need-keywords-set-requires
 keywords-set-requires c κs = search needs

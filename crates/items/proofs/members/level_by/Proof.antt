@@ -5,7 +5,7 @@ use mathlib.Core.Path.{refl}
 use Rattle.items.specs.answers.members.{numbered}
 use Rattle.lexing.specs.declared.answers.Lost.the-variants.{Fail}
 use Rattle.items.proofs.Keywords.{keyword-value, keyword-not}
-use Rattle.items.proofs.Answers.{read-is, read-not}
+use Rattle.lexing.proofs.AnswerLaws.{read-is, read-not}
 
 keyword-requires : tie.Need-keyword-requires
 keyword-requires c κs = search needs

@@ -7,11 +7,11 @@ use Rattle.items.proofs.members.Laws.{command-head-within, command-type
 use mathlib.Core.Path.{refl}
 use native.Mathlib.Omega.{arith}
 use Rattle.lexing.proofs.Slicing.{walks, rest-self, begin, go, lose, done}
-use Rattle.items.proofs.Answers.{read-not, read-lost, read-took}
-use Rattle.items.proofs.Pairs.{pair-on, pair-fall, four-go, four-lose}
+use Rattle.lexing.proofs.AnswerLaws.{read-not, read-lost, read-took}
+use Rattle.lexing.proofs.Pairs.{pair-on, pair-fall, four-go, four-lose}
 use Rattle.items.proofs.Locality.{command-head-inside}
-use Rattle.items.proofs.steps.Laws.{tag-behind-took, skips-lost}
-use Rattle.items.proofs.names.Laws.{code-behind-on, number-at-took, number-at-lost}
+use Rattle.lexing.proofs.steps.Laws.{tag-behind-took, skips-lost}
+use Rattle.lexing.proofs.names.Laws.{code-behind-on, number-at-took, number-at-lost}
 use Rattle.lexing.proofs.Locality.{chain-inside}
 use Rattle.items.specs.answers.members.{commandHeadLost, commandTypesLost}
 

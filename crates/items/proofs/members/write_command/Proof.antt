@@ -8,7 +8,7 @@ use Rattle.lexing.proofs.Slicing.{rest-self, walks}
 use Rattle.lexing.proofs.Locality.{chain-inside}
 use Rattle.items.specs.records.{Record}
 use Rattle.items.specs.answers.members.{commandLost}
-use Rattle.items.proofs.Answers.{reads-as, read-within, read-took, read-lost}
+use Rattle.lexing.proofs.AnswerLaws.{reads-as, read-within, read-took, read-lost}
 use Rattle.items.proofs.Locality.{parse-command-inside}
 use Rattle.items.proofs.writing.Laws.{no-room, read-room, read-written, front-kept, written-same}
 use Rattle.items.proofs.members.Laws.{command-words, command-parts-is, command-in-limit}

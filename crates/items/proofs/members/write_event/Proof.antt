@@ -6,7 +6,7 @@ use native.Mathlib.Omega.{arith}
 use Rattle.lexing.proofs.Slicing.{rest-self}
 use Rattle.items.specs.answers.{frontOf}
 use Rattle.items.specs.answers.members.{eventHeadLost}
-use Rattle.items.proofs.Answers.{read-within}
+use Rattle.lexing.proofs.AnswerLaws.{read-within}
 use Rattle.items.proofs.Headed.{headed-found, headed-room, headed-written}
 use Rattle.items.proofs.writing.Laws.{written-same}
 use Rattle.items.proofs.structs.Laws.{struct-fields-on}

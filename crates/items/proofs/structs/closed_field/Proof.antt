@@ -5,9 +5,9 @@ use Rattle.items.proofs.structs.Laws.{struct-field-between, between-wid
 use mathlib.Core.Path.{refl}
 use native.Mathlib.Omega.{arith}
 use Rattle.lexing.proofs.Slicing.{begin, go, on, lose, done}
-use Rattle.items.proofs.Answers.{read-is, read-not}
-use Rattle.items.proofs.Pairs.{pair-on, pair-fall}
-use Rattle.items.proofs.steps.Laws.{blank-at-took, tag-behind-took, skips-lost}
+use Rattle.lexing.proofs.AnswerLaws.{read-is, read-not}
+use Rattle.lexing.proofs.Pairs.{pair-on, pair-fall}
+use Rattle.lexing.proofs.steps.Laws.{blank-at-took, tag-behind-took, skips-lost}
 
 blank-at-requires : tie.Need-blank-at-requires
 blank-at-requires c κs = omega (arith, c .before .pre)

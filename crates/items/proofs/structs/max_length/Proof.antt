@@ -3,8 +3,8 @@ use Rattle.items.proofs.structs.max_length.Tie as tie
 use Rattle.items.specs.structs.{max-length}
 use native.Mathlib.Omega.{arith}
 use Rattle.lexing.proofs.Slicing.{begin, done}
-use Rattle.items.proofs.Pairs.{pair-go, pair-on, pair-lose, pair-fall}
-use Rattle.items.proofs.steps.Laws.{tag-behind-took, integer-behind-took, skips-lost, integer-behind-lost}
+use Rattle.lexing.proofs.Pairs.{pair-go, pair-on, pair-lose, pair-fall}
+use Rattle.lexing.proofs.steps.Laws.{tag-behind-took, integer-behind-took, skips-lost, integer-behind-lost}
 
 tag-behind-requires : tie.Need-tag-behind-requires
 tag-behind-requires c κs = omega (arith, c .before .pre)

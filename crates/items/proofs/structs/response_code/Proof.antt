@@ -3,9 +3,9 @@ use Rattle.items.proofs.structs.response_code.Tie as tie
 use Rattle.items.specs.structs.{response-code}
 use native.Mathlib.Omega.{arith}
 use Rattle.lexing.proofs.Slicing.{begin, on, done}
-use Rattle.items.proofs.Pairs.{three-go, three-lose}
-use Rattle.items.proofs.steps.Laws.{blank-at-took}
-use Rattle.items.proofs.names.Laws.{equals-code-on, number-at-took, number-at-lost}
+use Rattle.lexing.proofs.Pairs.{three-go, three-lose}
+use Rattle.lexing.proofs.steps.Laws.{blank-at-took}
+use Rattle.lexing.proofs.names.Laws.{equals-code-on, number-at-took, number-at-lost}
 
 code-at-requires : tie.Need-code-at-requires
 code-at-requires c κs = omega (arith, c .before .pre)

@@ -2,15 +2,15 @@ use borrow.Author.Needs.{needs}
 use Rattle.items.proofs.structs.struct_head.Statement.{statement}
 use Rattle.items.proofs.structs.struct_head.Tie as tie
 use Rattle.items.specs.structs.{struct-head}
-use Rattle.items.proofs.names.Laws.{named-in, named-took, keyword-name-on}
+use Rattle.lexing.proofs.names.Laws.{named-in, named-took, keyword-name-on}
 use Rattle.items.proofs.SetSizes.{fits}
 use mathlib.Core.Path.{refl}
 use native.Mathlib.Omega.{arith}
 use Rattle.lexing.proofs.Slicing.{rest-self, begin, go, on, lose, done, set-took}
-use Rattle.items.proofs.Answers.{read-is, read-not, read-lost}
-use Rattle.items.proofs.Pairs.{three-go, three-lose}
-use Rattle.items.proofs.steps.Laws.{blank-at-took}
-use Rattle.items.specs.answers.names.{namedLost}
+use Rattle.lexing.proofs.AnswerLaws.{read-is, read-not, read-lost}
+use Rattle.lexing.proofs.Pairs.{three-go, three-lose}
+use Rattle.lexing.proofs.steps.Laws.{blank-at-took}
+use Rattle.lexing.specs.names.{namedLost}
 use Rattle.items.proofs.structs.Laws.{struct-word-took, type-took, type-none}
 
 struct-word-requires : tie.Need-struct-word-requires

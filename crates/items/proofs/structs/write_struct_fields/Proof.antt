@@ -5,7 +5,7 @@ use mathlib.Core.Path.{refl, sym, ap}
 use native.Mathlib.Omega.{arith}
 use Rattle.lexing.specs.answers.{lostOf}
 use Rattle.lexing.proofs.Slicing.{rest-self, tag-took, told-not}
-use Rattle.items.proofs.steps.Laws.{tag-behind-took, skips-lost}
+use Rattle.lexing.proofs.steps.Laws.{tag-behind-took, skips-lost}
 use Rattle.items.specs.structs.{fields-run, struct-fields}
 use Rattle.items.proofs.Braces.{braces-open, braces-room, braces-close, braces-written}
 use Rattle.items.proofs.writing.Laws.{written-took, written-same}

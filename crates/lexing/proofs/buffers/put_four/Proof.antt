@@ -1,0 +1,26 @@
+use borrow.Author.Needs.{needs}
+use Rattle.lexing.proofs.buffers.put_four.Statement.{statement}
+use Rattle.lexing.proofs.buffers.put_four.Tie as tie
+use mathlib.Core.List.{[], _∷_}
+use native.Mathlib.Omega.{arith}
+use denote.Ref.{now}
+use Rattle.lexing.proofs.buffers.Laws.{put-further}
+
+put-two-requires : tie.Need-put-two-requires
+put-two-requires c κs = search needs
+
+add-put-two : tie.Need-add-put-two
+add-put-two c = search needs
+
+put-two-requires-2 : tie.Need-put-two-requires-2
+put-two-requires-2 c κs = search needs
+
+same-length : tie.Need-same-length
+same-length c = search needs
+
+returns : tie.Need-returns
+returns c = put-further (c .before .before .before .before .before .before .before .before .before .args .at) _ (c .before .before .before .before .before .before .before .before .before .args .a ∷ c .before .before .before .before .before .before .before .before .before .args .b ∷ []) (c .before .before .before .before .before .before .before .before .before .args .c ∷ c .before .before .before .before .before .before .before .before .before .args .d ∷ []) (now (c .before .before .before .before .before .before .before .before .before .args .out)) _ _ (omega arith) (omega (arith, c .before .before .before .before .before .before .before .before .before .pre)) (c .before .before .before .before .before .before .put-two .ensures) (c .before .before .put-two2 .ensures)
+
+pub put-four-spec : {M : Type 1} → statement M
+put-four-spec =
+    tie.close (tie.spec put-two-requires add-put-two put-two-requires-2 same-length returns)

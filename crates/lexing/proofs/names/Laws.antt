@@ -1,0 +1,99 @@
+-- Names and codes as steps of a sequence.
+use mathlib.Core.Path.{_≡_, refl, sym, ap, _∙_, subst}
+use mathlib.Core.List.{List}
+use Prim.Native.Nat.{ℕ, _+_, _-_, _≤_, _<_}
+use native.Mathlib.Omega.{arith}
+use lib.ListN.{length, drop}
+use Rattle.lexing.specs.reply.{Parser, ok, _>>_}
+use Rattle.lexing.specs.words.{Word, parse-id}
+use Rattle.lexing.specs.integers.{positive-integer}
+use Rattle.lexing.specs.blanks.{whitespace0}
+use Rattle.lexing.specs.answers.{Rest, lostReply, numberLost, numberReply, NameIn, NumberAt, wordBetween}
+use Rattle.lexing.specs.declared.answers.Lost.{Lost}
+use Rattle.lexing.specs.declared.integers.Number.{Number}
+use Rattle.lexing.specs.declared.integers.Number.the-variants.{Value, NoNumber}
+use Rattle.lexing.proofs.Onward.{Onward, advances-onward, parse-id-advances, tag-advances, integer-advances}
+use Rattle.lexing.proofs.TokenLocality.{keyword-chain, whitespace0-chain, whitespace1-chain}
+use Rattle.lexing.proofs.Slicing.{Took, took, on, walks, rebase, integer-lost}
+use Rattle.lexing.specs.names.{NamedIn, NamedTo, NamedAt, namedLost, blank-word, gap-word, keyword-name, keyword-number, type-behind, equals-code}
+use Rattle.lexing.specs.declared.names.Named.{Named}
+use Rattle.lexing.specs.declared.names.Named.the-variants.{Name, NoName}
+use Rattle.lexing.proofs.AnswerLaws.{read-within, read-took, read-lost}
+use Rattle.lexing.proofs.Composed.{onward-then}
+use Rattle.lexing.proofs.WordBetween.{word-moved}
+
+behind-on : {A : Type 0} {m : Parser A} → Onward m → Onward (whitespace0 >> m)
+behind-on w = onward-then (walks whitespace0-chain) w
+
+pub blank-word-on : Onward blank-word
+blank-word-on = behind-on (advances-onward parse-id-advances)
+
+pub gap-word-on : Onward gap-word
+gap-word-on = onward-then (walks whitespace1-chain) (advances-onward parse-id-advances)
+
+pub keyword-name-on : (k : List ℕ) → Onward (keyword-name k)
+keyword-name-on k = onward-then (walks (keyword-chain k)) (onward-then (walks whitespace1-chain) (advances-onward parse-id-advances))
+
+pub keyword-number-on : (k : List ℕ) → Onward (keyword-number k)
+keyword-number-on k = onward-then (walks (keyword-chain k)) (onward-then (walks whitespace1-chain) (advances-onward integer-advances))
+
+pub type-behind-on : Onward type-behind
+type-behind-on = behind-on (onward-then (advances-onward (tag-advances 58)) (behind-on (advances-onward parse-id-advances)))
+
+pub integer-on : Onward (whitespace0 >> positive-integer)
+integer-on = behind-on (advances-onward integer-advances)
+
+pub equals-code-on : Onward equals-code
+equals-code-on = onward-then (advances-onward (tag-advances 61)) integer-on
+
+pub code-behind-on : Onward (whitespace0 >> equals-code)
+code-behind-on = behind-on equals-code-on
+
+-- a word reads a byte or more
+pub name-more : {b n : ℕ} {u : List ℕ} {a : Word} {c : ℕ} → Took parse-id b u n a c → n < c
+name-more {b} {n} {u} {a} {c} t = (rw (t .goes) at (parse-id-advances .reads n (drop (n - b) u))) .2
+
+module _ {m : Parser Word} {n : ℕ} {r : List ℕ} {a : Named} {x e c : ℕ} (h : NamedTo m a n r) (d : a ≡ Name x e c) where
+  pub named-in : NameIn n x e c
+  named-in = read-within h d .0
+
+  pub named-more : x < e
+  named-more = read-within h d .1
+
+  -- in more that was read
+  pub named-wider : {b d : ℕ} → b ≤ n → c ≤ d → NamedIn b (Name x e d)
+  named-wider p q = (record { from = omega (arith, p, named-in .from); up = named-in .up; inside = omega (arith, q, named-in .inside) }, named-more)
+
+  pub named-took : (w : Onward m) {b : ℕ} {u : List ℕ} → Rest b u n r → Took m b u n (wordBetween b u x e) c
+  named-took w {b} {u} q = rw (← word-moved b n u r x e q (named-in .from)) (read-took h d w q refl)
+
+-- a number that another reader than that of integers gives
+pub number-took : {m : Parser ℕ} (w : Onward m) {b n : ℕ} {u r : List ℕ} {a : Number} {v c : ℕ} → Rest b u n r → a ≡ Value v c → numberReply a n r ≡ m n r → Took m b u n v c
+number-took {m} w {b} {n} {u} {r} q e h = took w q (subst (λ (x : Number). numberReply x n r ≡ m n r) e h)
+
+-- a number from an offset of a part: behind a step that was read, taken and lost
+module _ {b n : ℕ} {u : List ℕ} {m : Parser ℕ} where
+  pub number-after : {A : Type 0} {k : Parser A} → Onward m → (r : Number) {a : A} {c : ℕ} → Rest b u n (drop (n - b) u) → Took k b u n a c → NumberAt m r b u c → NumberAt (k >> m) r b u n
+  number-after w (Value v e) q t h =
+      let s : Took m b u _ v e = took w (h .at) (h .reads) in
+      record { at = q; reads = ap (λ z. ok v e z) (rebase b n e u (q .from) (omega (arith, t .up, s .up))) ∙ on m t (sym (s .goes)) }
+  number-after w (NoNumber l) q t h = record { at = q; reads = on m t (h .reads) }
+
+  module _ {a : Number} (h : NumberAt m a b u n) where
+    pub number-at-took : Onward m → {v c : ℕ} → a ≡ Value v c → Took m b u n v c
+    number-at-took w e = took w (h .at) (subst (λ (x : Number). numberReply x n (drop (n - b) u) ≡ m n (drop (n - b) u)) e (h .reads))
+
+    pub number-at-lost : {l l' : Lost} → l' ≡ numberLost a → a ≡ NoNumber l → lostReply l' ≡ m n (drop (n - b) u)
+    number-at-lost e d = integer-lost e d n (drop (n - b) u) (m n (drop (n - b) u)) (h .reads)
+
+-- a name from an offset of a part: read there, taken and lost
+module _ {b n : ℕ} {u : List ℕ} {m : Parser Word} {a : Named} where
+  pub named-at : {r : List ℕ} → Rest b u n r → NamedTo m a n r → NamedAt m a b u n
+  named-at q h = record { at = record { from = q .from; same = refl; size = ap (λ v. n + length v) (sym (q .same)) ∙ q .size }; named = subst (λ v. NamedTo m a n v) (q .same) h }
+
+  module _ (h : NamedAt m a b u n) where
+    pub named-at-took : {x e c : ℕ} → a ≡ Name x e c → Onward m → Took m b u n (wordBetween b u x e) c
+    named-at-took d w = named-took (h .named) d w (h .at)
+
+    pub named-at-lost : {l l' : Lost} → l' ≡ namedLost a → a ≡ NoName l → lostReply l' ≡ m n (drop (n - b) u)
+    named-at-lost e d = read-lost (h .named) d namedLost e refl

@@ -1,0 +1,92 @@
+-- Steps from an offset of a part: what they answer, and what they give the sequence that takes them.
+use mathlib.Core.Path.{_≡_, refl, sym, ap, _∙_, subst}
+use mathlib.Core.List.{List}
+use Prim.Native.Nat.{ℕ, _+_, _-_, _≤_}
+use borrow.Author.Tests.{eq-eqb, ne-eqb}
+use lib.ListN.{length, drop}
+use Rattle.lexing.specs.reply.{Parser, ret, _>>=_, _>>_, position, failAt, pick}
+use Rattle.lexing.specs.words.{keyword, tag}
+use Rattle.lexing.specs.integers.{positive-integer}
+use Rattle.lexing.specs.blanks.{no-doc, whitespace0, whitespace1}
+use Rattle.lexing.specs.answers.{Rest, BlankTo, docOf, lostOf, lostReply, numberAnswer, numberLost, numberReply, tagReply, wordReply, Skips, SkipsAt, BlankAt, NumberAt}
+use Rattle.lexing.specs.declared.answers.Lost.{Lost}
+use Rattle.lexing.specs.declared.answers.Lost.the-variants.{Fail}
+use Rattle.lexing.specs.declared.answers.Step.{Step}
+use Rattle.lexing.specs.declared.answers.Step.the-variants.{Next, Not}
+use Rattle.lexing.specs.declared.blanks.Blank.{Blank}
+use Rattle.lexing.specs.declared.integers.Number.{Number}
+use Rattle.lexing.specs.declared.integers.Number.the-variants.{Value, NoNumber}
+use Rattle.lexing.proofs.Onward.{Onward, advances-onward, tag-advances, integer-advances}
+use Rattle.lexing.proofs.Slicing.{Took, took, walks, rest-self, integer-lost}
+use Rattle.lexing.proofs.TokenLocality.{keyword-chain, whitespace0-chain, whitespace1-chain}
+use Rattle.lexing.proofs.Dropping.{behind, skip-behind, tag-skips, keyword-skips}
+use Rattle.lexing.proofs.Composed.{onward-then}
+use Rattle.lexing.proofs.optional.Laws.{skip-took, skip-lost}
+
+blank-on : Onward whitespace0
+blank-on = walks whitespace0-chain
+
+pub blank-bounds : {n b : ℕ} {u : List ℕ} → Skips whitespace0 (Next n) b u → (b ≤ n) × (n ≤ b + length u)
+blank-bounds {n} {b} {u} h = let t = skip-took blank-on (rest-self b u) refl h in (t .up, t .inside)
+
+module _ {b c : ℕ} {u r : List ℕ} (q : Rest b u c r) where
+  rest-here : Rest b u c (drop (c - b) u)
+  rest-here = record { from = q .from; same = refl; size = ap (λ v. c + length v) (sym (q .same)) ∙ q .size }
+
+  skips-at : {A : Type 0} {m : Parser A} {a : Step} → Skips m a c r → SkipsAt m a b u c
+  skips-at {A} {m} {a} h = record { at = rest-here; skips = subst (λ v. Skips m a c v) (q .same) h }
+
+  pub blank-skipped : {n : ℕ} → Skips whitespace0 (Next n) c r → BlankAt n b u c
+  blank-skipped h = skips-at h
+
+  pub blank-is : {t : Blank} → BlankTo t c r → BlankAt (t .next) b u c
+  blank-is {t} h = skips-at (record { value = docOf (t .doc); reads = h .reads })
+
+  module _ {n : ℕ} (h : Skips whitespace0 (Next n) c r) where
+    pub gap-is : (n ≡ c → ⊥) → SkipsAt whitespace1 (Next n) b u c
+    unfolding whitespace1 _>>=_ position pick ret
+    gap-is e = skips-at (record { value = h .value; reads = rw (sym (h .reads), whitespace1, _>>=_) (rw (ne-eqb c n (λ z. e (sym z)), pick)) })
+
+    pub gap-not : n ≡ c → SkipsAt whitespace1 (Not (Fail c)) b u c
+    unfolding whitespace1 _>>=_ position pick failAt
+    gap-not e = skips-at (record { value = no-doc; reads = rw (sym (h .reads), whitespace1, _>>=_) (rw (eq-eqb c n (sym e), pick)) })
+
+  -- a token behind blanks
+  module _ {n : ℕ} (h : Skips whitespace0 (Next n) c r) {v : List ℕ} (p : Rest c r n v) where
+    blanks : Took whitespace0 c r c (h .value) n
+    blanks = skip-took blank-on (rest-self c r) refl h
+
+    pub tag-behind-is : (k : ℕ) (a : Step) → tagReply a n v ≡ tag k n v → SkipsAt (whitespace0 >> tag k) a b u c
+    tag-behind-is k a e = skips-at (skip-behind (advances-onward (tag-advances k)) p blanks (tag-skips k a e))
+
+    pub keyword-behind-is : (k : List ℕ) (a : Step) → wordReply a n v ≡ keyword k n v → SkipsAt (whitespace0 >> keyword k) a b u c
+    keyword-behind-is k a e = skips-at (skip-behind (walks (keyword-chain k)) p blanks (keyword-skips k a e))
+
+    pub integer-behind-is : (a : Number) → numberReply a n v ≡ positive-integer n v → NumberAt (whitespace0 >> positive-integer) a b u c
+    integer-behind-is a e =
+        let x = behind (advances-onward integer-advances) (numberAnswer a) p blanks e in
+        record { at = rest-here; reads = subst (λ w. numberReply a c w ≡ (whitespace0 >> positive-integer) c w) (q .same) x }
+
+-- as steps of a sequence
+module _ {b n : ℕ} {u : List ℕ} where
+  pub blank-at-took : {c : ℕ} (h : BlankAt c b u n) → Took whitespace0 b u n (h .skips .value) c
+  blank-at-took h = skip-took blank-on (h .at) refl (h .skips)
+
+  pub gap-at-took : {a : Step} {c : ℕ} → a ≡ Next c → (h : SkipsAt whitespace1 a b u n) → Took whitespace1 b u n (h .skips .value) c
+  gap-at-took e h = skip-took (walks whitespace1-chain) (h .at) e (h .skips)
+
+  pub tag-behind-took : (t : ℕ) {a : Step} {c : ℕ} → a ≡ Next c → (h : SkipsAt (whitespace0 >> tag t) a b u n) → Took (whitespace0 >> tag t) b u n (h .skips .value) c
+  tag-behind-took t e h = skip-took (onward-then blank-on (advances-onward (tag-advances t))) (h .at) e (h .skips)
+
+  pub keyword-behind-took : (k : List ℕ) {a : Step} {c : ℕ} → a ≡ Next c → (h : SkipsAt (whitespace0 >> keyword k) a b u n) → Took (whitespace0 >> keyword k) b u n (h .skips .value) c
+  keyword-behind-took k e h = skip-took (onward-then blank-on (walks (keyword-chain k))) (h .at) e (h .skips)
+
+  pub skips-lost : {A : Type 0} {m : Parser A} {a : Step} {l l' : Lost} → l' ≡ lostOf a → a ≡ Not l → SkipsAt m a b u n → lostReply l' ≡ m n (drop (n - b) u)
+  skips-lost e d h = skip-lost e d n (drop (n - b) u) (h .skips)
+
+  module _ {a : Number} (h : NumberAt (whitespace0 >> positive-integer) a b u n) where
+    pub integer-behind-took : {v c : ℕ} → a ≡ Value v c → Took (whitespace0 >> positive-integer) b u n v c
+    integer-behind-took e = took (onward-then blank-on (advances-onward integer-advances)) (h .at) (subst (λ (x : Number). numberReply x n (drop (n - b) u) ≡ (whitespace0 >> positive-integer) n (drop (n - b) u)) e (h .reads))
+
+    pub integer-behind-lost : {l l' : Lost} → l' ≡ numberLost a → a ≡ NoNumber l → lostReply l' ≡ (whitespace0 >> positive-integer) n (drop (n - b) u)
+    integer-behind-lost e d = integer-lost e d n (drop (n - b) u) ((whitespace0 >> positive-integer) n (drop (n - b) u)) (h .reads)

@@ -1,0 +1,158 @@
+// What several heads have in them: a keyword and a name or a number, a colon and a type's name, an equals sign and a code.
+ghost use mathlib.Core.Path.{_≡_};
+ghost use Prim.Native.Nat.{_+_, _≤_};
+ghost use lib.ListN.{length};
+ghost use Rattle.lexing.specs.integers.{u64-max};
+ghost use Rattle.lexing.specs.answers.{numberReply, NumberAt, behind-blanks};
+ghost use Rattle.lexing.specs.names.{namedLost, NamedTo, NamedAt, blank-word, gap-word, keyword-name, keyword-number, type-behind, equals-code};
+use crate::answers::Lost;
+use crate::answers::Step;
+use crate::answers::step_lost;
+use crate::integers::Number;
+use crate::integers::number_lost;
+use crate::integers::positive_integer;
+use crate::parts::rest_at;
+use crate::steps::blank_at;
+use crate::steps::gap_at;
+use crate::steps::integer_behind;
+use crate::steps::tag_behind;
+use crate::words::keyword;
+use crate::words::parse_id;
+use crate::words::tag;
+
+// Where a name starts and ends, and the offset behind all that was read.
+pub enum Named {
+    Name(usize, usize, usize),
+    NoName(Lost),
+}
+
+pub fn named_lost(r: Named) -> Lost
+    ensures { λ x. ⌜ x ≡ namedLost r ⌝ }
+{
+    match r {
+        Named::Name(_, _, c) => Lost::Fail(c),
+        Named::NoName(l) => l,
+    }
+}
+
+// Blanks and a name.
+fn blank_word(part: &[u8], base: usize) -> Named
+    requires { ⌜ base + length (now part) ≤ u64-max ⌝ }
+    ensures { λ r. ⌜ NamedTo blank-word r base (now (part .entry)) ⌝ }
+{
+    let c1 = blank_at(part, base, base);
+    let name = parse_id(rest_at(part, base, c1), c1);
+    let Step::Next(c2) = name else {
+        return Named::NoName(step_lost(name));
+    };
+    Named::Name(c1, c2, c2)
+}
+
+// At least one blank and a name.
+fn gap_word(part: &[u8], base: usize) -> Named
+    requires { ⌜ base + length (now part) ≤ u64-max ⌝ }
+    ensures { λ r. ⌜ NamedTo gap-word r base (now (part .entry)) ⌝ }
+{
+    let gap = gap_at(part, base, base);
+    let Step::Next(c1) = gap else {
+        return Named::NoName(step_lost(gap));
+    };
+    let name = parse_id(rest_at(part, base, c1), c1);
+    let Step::Next(c2) = name else {
+        return Named::NoName(step_lost(name));
+    };
+    Named::Name(c1, c2, c2)
+}
+
+// Both from an offset of a part.
+pub fn word_behind(part: &[u8], base: usize, c: usize) -> Named
+    requires { ⌜ ((base ≤ c) × (c ≤ base + length (now part))) × (base + length (now part) ≤ u64-max) ⌝ }
+    ensures { λ r. ⌜ NamedAt blank-word r base (now (part .entry)) c ⌝ }
+{
+    blank_word(rest_at(part, base, c), c)
+}
+
+pub fn word_apart(part: &[u8], base: usize, c: usize) -> Named
+    requires { ⌜ ((base ≤ c) × (c ≤ base + length (now part))) × (base + length (now part) ≤ u64-max) ⌝ }
+    ensures { λ r. ⌜ NamedAt gap-word r base (now (part .entry)) c ⌝ }
+{
+    gap_word(rest_at(part, base, c), c)
+}
+
+// A keyword and the name behind it.
+pub fn keyword_name(part: &[u8], base: usize, key: &[u8]) -> Named
+    requires { ⌜ base + length (now part) ≤ u64-max ⌝ }
+    ensures { λ r. ⌜ NamedTo (keyword-name (now (key .entry))) r base (now (part .entry)) ⌝ }
+{
+    let word = keyword(part, base, key);
+    let Step::Next(c1) = word else {
+        return Named::NoName(step_lost(word));
+    };
+    let gap = gap_at(part, base, c1);
+    let Step::Next(c2) = gap else {
+        return Named::NoName(step_lost(gap));
+    };
+    let name = parse_id(rest_at(part, base, c2), c2);
+    let Step::Next(c3) = name else {
+        return Named::NoName(step_lost(name));
+    };
+    Named::Name(c2, c3, c3)
+}
+
+// A keyword and the number behind it.
+pub fn keyword_number(part: &[u8], base: usize, key: &[u8]) -> Number
+    requires { ⌜ base + length (now part) ≤ u64-max ⌝ }
+    ensures { λ r. ⌜ numberReply r base (now (part .entry)) ≡ keyword-number (now (key .entry)) base (now (part .entry)) ⌝ }
+{
+    let word = keyword(part, base, key);
+    let Step::Next(c1) = word else {
+        return Number::NoNumber(step_lost(word));
+    };
+    let gap = gap_at(part, base, c1);
+    let Step::Next(c2) = gap else {
+        return Number::NoNumber(step_lost(gap));
+    };
+    let number = positive_integer(rest_at(part, base, c2), c2);
+    let Number::Value(v, c3) = number else {
+        return Number::NoNumber(number_lost(number));
+    };
+    Number::Value(v, c3)
+}
+
+// A colon and the name of a type.
+pub fn type_behind(part: &[u8], base: usize) -> Named
+    requires { ⌜ base + length (now part) ≤ u64-max ⌝ }
+    ensures { λ r. ⌜ NamedTo type-behind r base (now (part .entry)) ⌝ }
+{
+    let colon = tag_behind(part, base, base, b':');
+    let Step::Next(c1) = colon else {
+        return Named::NoName(step_lost(colon));
+    };
+    let c2 = blank_at(part, base, c1);
+    let name = parse_id(rest_at(part, base, c2), c2);
+    let Step::Next(c3) = name else {
+        return Named::NoName(step_lost(name));
+    };
+    Named::Name(c2, c3, c3)
+}
+
+// An equals sign and a code.
+pub fn code_at(part: &[u8], base: usize, c: usize) -> Number
+    requires { ⌜ ((base ≤ c) × (c ≤ base + length (now part))) × (base + length (now part) ≤ u64-max) ⌝ }
+    ensures { λ r. ⌜ NumberAt equals-code r base (now (part .entry)) c ⌝ }
+{
+    let equals = tag(rest_at(part, base, c), c, b'=');
+    let Step::Next(c1) = equals else {
+        return Number::NoNumber(step_lost(equals));
+    };
+    integer_behind(part, base, c1)
+}
+
+// The same behind blanks.
+pub fn code_behind(part: &[u8], base: usize, c: usize) -> Number
+    requires { ⌜ ((base ≤ c) × (c ≤ base + length (now part))) × (base + length (now part) ≤ u64-max) ⌝ }
+    ensures { λ r. ⌜ NumberAt (behind-blanks equals-code) r base (now (part .entry)) c ⌝ }
+{
+    let n = blank_at(part, base, c);
+    code_at(part, base, n)
+}

@@ -1,0 +1,75 @@
+// Steps from an offset of a part: blanks, and tokens behind blanks.
+ghost use Prim.Native.Nat.{_+_, _≤_};
+ghost use lib.ListN.{length};
+ghost use Rattle.lexing.specs.integers.{u64-max, positive-integer};
+ghost use Rattle.lexing.specs.words.{tag, keyword};
+ghost use Rattle.lexing.specs.blanks.{whitespace0, whitespace1};
+ghost use Rattle.lexing.specs.declared.answers.Step.the-variants.{Next};
+ghost use Rattle.lexing.specs.answers.{Skips, BlankAt, SkipsAt, NumberAt, behind-blanks};
+use crate::answers::Lost;
+use crate::answers::Step;
+use crate::blanks::whitespace0;
+use crate::integers::Number;
+use crate::integers::positive_integer;
+use crate::parts::rest_at;
+use crate::words::keyword;
+use crate::words::tag;
+
+// The offset behind the blanks at the front.
+fn blank_end(part: &[u8], base: usize) -> usize
+    requires { ⌜ base + length (now part) ≤ u64-max ⌝ }
+    ensures { λ r. ⌜ Skips whitespace0 (Next r) base (now (part .entry)) ⌝ }
+{
+    let w = whitespace0(part, base);
+    w.next
+}
+
+// The offset behind blanks.
+pub fn blank_at(part: &[u8], base: usize, c: usize) -> usize
+    requires { ⌜ ((base ≤ c) × (c ≤ base + length (now part))) × (base + length (now part) ≤ u64-max) ⌝ }
+    ensures { λ r. ⌜ BlankAt r base (now (part .entry)) c ⌝ }
+{
+    blank_end(rest_at(part, base, c), c)
+}
+
+// At least one blank.
+pub fn gap_at(part: &[u8], base: usize, c: usize) -> Step
+    requires { ⌜ ((base ≤ c) × (c ≤ base + length (now part))) × (base + length (now part) ≤ u64-max) ⌝ }
+    ensures { λ r. ⌜ SkipsAt whitespace1 r base (now (part .entry)) c ⌝ }
+{
+    let n = blank_end(rest_at(part, base, c), c);
+    if n == c {
+        return Step::Not(Lost::Fail(c));
+    }
+    Step::Next(n)
+}
+
+// Blanks and a byte.
+pub fn tag_behind(part: &[u8], base: usize, c: usize, t: u8) -> Step
+    requires { ⌜ ((base ≤ c) × (c ≤ base + length (now part))) × (base + length (now part) ≤ u64-max) ⌝ }
+    ensures { λ r. ⌜ SkipsAt (behind-blanks (tag t)) r base (now (part .entry)) c ⌝ }
+{
+    let rest = rest_at(part, base, c);
+    let n = blank_end(rest, c);
+    tag(rest_at(rest, c, n), n, t)
+}
+
+// Blanks and a keyword.
+pub fn keyword_behind(part: &[u8], base: usize, c: usize, key: &[u8]) -> Step
+    requires { ⌜ ((base ≤ c) × (c ≤ base + length (now part))) × (base + length (now part) ≤ u64-max) ⌝ }
+    ensures { λ r. ⌜ SkipsAt (behind-blanks (keyword (now (key .entry)))) r base (now (part .entry)) c ⌝ }
+{
+    let rest = rest_at(part, base, c);
+    let n = blank_end(rest, c);
+    keyword(rest_at(rest, c, n), n, key)
+}
+
+// Blanks and an integer.
+pub fn integer_behind(part: &[u8], base: usize, c: usize) -> Number
+    requires { ⌜ ((base ≤ c) × (c ≤ base + length (now part))) × (base + length (now part) ≤ u64-max) ⌝ }
+    ensures { λ r. ⌜ NumberAt (behind-blanks positive-integer) r base (now (part .entry)) c ⌝ }
+{
+    let rest = rest_at(part, base, c);
+    let n = blank_end(rest, c);
+    positive_integer(rest_at(rest, c, n), n)
+}
