@@ -23,7 +23,8 @@ use Rattle.items.specs.entries.{enclosed, where-missing, braces, api-mat
 use Rattle.items.specs.structs.{max-length, list-marker, parse-field, parse-struct-field, closed-field, fields-run, struct-fields, response-code, struct-kind, struct-type-of, struct-head, parse-struct-after-doc-maturity}
 use Rattle.items.specs.members.{access-privilege, event-priority, access-to, event-qualities, event-head, parse-event-after-doc-maturity, command-head, command-types, parse-command-after-doc-maturity, Access, access-entry, comma, separated-list0, access-list, Privileges, granted-by, listed, attribute-access, parse-attribute-after-doc-maturity}
 use Rattle.items.specs.clusters.{mapped, parse-revision, member-tries, parse-cluster-member, cluster-members, side, cluster-head, cluster-after-doc-maturity, parse-cluster}
-use Rattle.items.specs.endpoints.{Tried, Deep, intercept, deep-step, deeper, deep-run, deep-place, deep-braces, name-behind, device-version, device-type, value-tries, default-attribute-value, attribute-handling-type, attribute-instantiation, named-after, instance-tries, instantiation-head, cluster-instantiation, part-tries, endpoint-head, endpoint}
+use Rattle.items.specs.endpoints.{Tried, Deep, intercept, deep-step, deeper, deep-run, deep-place, deep-braces, device-version, device-type, value-tries, default-attribute-value, attribute-handling-type, attribute-instantiation, instance-tries, instantiation-head, cluster-instantiation, part-tries, endpoint-head, endpoint}
+use Rattle.lexing.specs.names.{name-behind, named-after}
 use Rattle.items.specs.items.{with-doc-maturity, item}
 use Rattle.items.proofs.Locality.{mapped-inside, api-maturity-local, constant-annotation-local, blank-entry-inside, closed-field-inside, access-list-inside, deep-run-inside, instance-tries-inside, instance-tries-consumes, part-tries-inside, part-tries-consumes}
 use Rattle.lexing.proofs.Composed.{rest-on}

@@ -30,7 +30,8 @@ use Rattle.items.specs.entries.{enclosed, where-missing, braces, api-mat
 use Rattle.items.specs.structs.{Field, max-length, parse-field, StructField, parse-struct-field, closed-field, fields-run, struct-fields, StructType, Struct, response-code, struct-kind, struct-type-of, StructHead, struct-head, parse-struct-after-doc-maturity}
 use Rattle.items.specs.members.{access-privilege, or-else, event-priority, Event, access-to, EventQualities, event-qualities, EventHead, event-head, parse-event-after-doc-maturity, Command, CommandHead, invoke-access, command-head, CommandTypes, command-types, parse-command-after-doc-maturity, Access, access-entry, comma, separated-list0, access-list, Privileges, granted-by, default-privileges, listed, attribute-access, Attribute, parse-attribute-after-doc-maturity}
 use Rattle.items.specs.clusters.{Member, revision, bitmap, enum, struct, attribute, command, event, mapped, parse-revision, member-tries, parse-cluster-member, cluster-members, Cluster, ClusterHead, cluster-head, cluster-after-doc-maturity, parse-cluster}
-use Rattle.items.specs.endpoints.{Tried, Deep, intercept, deep-step, deeper, deep-run, deep-place, deep-braces, name-behind, DeviceType, device-version, device-type, Default, number, signed-number, truth, text, value-tries, default-attribute-value, attribute-handling-type, AttributeInstance, attribute-instantiation, named-after, Instance, attribute-instance, command-instance, event-instance, instance-tries, Instantiation, instantiation-head, cluster-instantiation, Part, device, binding, instantiation, part-tries, Endpoint, endpoint-head, endpoint}
+use Rattle.items.specs.endpoints.{Tried, Deep, intercept, deep-step, deeper, deep-run, deep-place, deep-braces, DeviceType, device-version, device-type, Default, number, signed-number, truth, text, value-tries, default-attribute-value, attribute-handling-type, AttributeInstance, attribute-instantiation, Instance, attribute-instance, command-instance, event-instance, instance-tries, Instantiation, instantiation-head, cluster-instantiation, Part, device, binding, instantiation, part-tries, Endpoint, endpoint-head, endpoint}
+use Rattle.lexing.specs.names.{name-behind, named-after}
 use Rattle.items.specs.items.{Item, cluster-item, endpoint-item, enum-item, bitmap-item, struct-item, blank-item, with-doc-maturity, item}
 use Rattle.items.specs.records.{response-of}
 use Rattle.lexing.proofs.Composed.{ends-up, rest-on, onward-ret, onward-fail, onward-stop, onward-pick, onward-catch, onward-many, onward-iter, onward-bind, onward-then}

@@ -45,15 +45,6 @@ deep-place s p = max p (s .deepest)
 unfoldable pub deep-braces : {A : Type 0} → (ℕ → Parser (Tried A)) → Parser (List A)
 deep-braces f = mapped (enclosed (deep-run f) deep-place) (λ s. s .read)
 
--- two keywords and the name behind them
-unfoldable pub name-behind : List ℕ → List ℕ → Parser Word
-name-behind k j = do
-  keyword k
-  whitespace1
-  keyword j
-  whitespace1
-  parse-id
-
 -- `device_type`, line 1066
 pub record DeviceType : Type 0 where
   pub name : Word
@@ -127,14 +118,6 @@ attribute-instantiation = do
   whitespace0
   tag (byte ";")
   ret (record { handling = h; name = n; default = v })
-
--- two keywords, a name and a semicolon
-unfoldable pub named-after : List ℕ → List ℕ → Parser Word
-named-after k j = do
-  n ← name-behind k j
-  whitespace0
-  tag (byte ";")
-  ret n
 
 -- `cluster_instantiation`, line 1199
 pub data Instance : Type 0 where

@@ -9,9 +9,9 @@ ghost use Rattle.lexing.specs.answers.{tagReply, numberReply, Skips, NameIn};
 ghost use Rattle.items.specs.layout.{text-limit, layout-20, further-word, catalogue-bytes};
 ghost use Rattle.lexing.specs.buffers.{put, each};
 ghost use Rattle.items.specs.records.{twos-complement, default-number, default-word, instance-record, part-records, endpoint-records};
-ghost use Rattle.items.specs.endpoints.{name-behind, named-after, device-version, value-tries, default-attribute-value, attribute-handling-type, attribute-instantiation, deep-run, deep-braces, instance-tries, instantiation, instantiation-head, cluster-instantiation, part-tries, endpoint-head, endpoint};
-ghost use Rattle.items.specs.answers.{CountTo, Room, Written};
 ghost use Rattle.lexing.specs.names.{NamedTo};
+ghost use Rattle.items.specs.endpoints.{device-version, value-tries, default-attribute-value, attribute-handling-type, attribute-instantiation, deep-run, deep-braces, instance-tries, instantiation, instantiation-head, cluster-instantiation, part-tries, endpoint-head, endpoint};
+ghost use Rattle.items.specs.answers.{CountTo, Room, Written};
 ghost use Rattle.items.specs.answers.members.{LevelTo};
 ghost use Rattle.items.specs.answers.endpoints.{DeviceTypeTo, deviceTypeLost, ValueTo, valueOf, SpanIn, optionalValue, DefaultTo, DefaultIn, defaultOf, defaultLost, InstanceIn, AttributeInstanceTo, triedLost, TriedTo, DeepTo, TryRoom, TryWritten};
 ghost use Rattle.items.specs.declared.endpoints.ValueRead.the-variants.{NoValue};
@@ -46,6 +46,8 @@ use lexing::names::Named;
 use lexing::names::code_behind;
 use lexing::names::keyword_name;
 use lexing::names::keyword_number;
+use lexing::names::name_behind;
+use lexing::names::named_after;
 use lexing::names::named_lost;
 use lexing::parts::peek;
 use lexing::parts::rest_at;
@@ -117,42 +119,6 @@ pub enum AttributeInstanceRead {
 pub enum Tried {
     Found(usize, usize, usize),
     NotFound(Lost),
-}
-
-// Two keywords and the name behind them.
-pub fn name_behind(part: &[u8], base: usize, first: &[u8], second: &[u8]) -> Named
-    requires { ⌜ base + length (now part) ≤ text-limit ⌝ }
-    ensures { λ r. ⌜ NamedTo (name-behind (now (first .entry)) (now (second .entry))) r base (now (part .entry)) ⌝ }
-{
-    let one = keyword(part, base, first);
-    let Step::Next(c1) = one else {
-        return Named::NoName(step_lost(one));
-    };
-    let gap = gap_at(part, base, c1);
-    let Step::Next(c2) = gap else {
-        return Named::NoName(step_lost(gap));
-    };
-    let named = keyword_name(rest_at(part, base, c2), c2, second);
-    let Named::Name(name, end, c3) = named else {
-        return Named::NoName(named_lost(named));
-    };
-    Named::Name(name, end, c3)
-}
-
-// The same with a semicolon.
-pub fn named_after(part: &[u8], base: usize, first: &[u8], second: &[u8]) -> Named
-    requires { ⌜ base + length (now part) ≤ text-limit ⌝ }
-    ensures { λ r. ⌜ NamedTo (named-after (now (first .entry)) (now (second .entry))) r base (now (part .entry)) ⌝ }
-{
-    let named = name_behind(part, base, first, second);
-    let Named::Name(name, end, c1) = named else {
-        return Named::NoName(named_lost(named));
-    };
-    let semicolon = tag_behind(part, base, c1, b';');
-    let Step::Next(c2) = semicolon else {
-        return Named::NoName(step_lost(semicolon));
-    };
-    Named::Name(name, end, c2)
 }
 
 // A device type from its comma on.

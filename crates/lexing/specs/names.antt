@@ -3,7 +3,7 @@ use Prim.Native.Nat.{ℕ, _-_, _<_}
 use mathlib.Core.List.{List}
 use lib.ListN.{drop}
 use Rattle.lexing.specs.bytes.{byte}
-use Rattle.lexing.specs.reply.{Parser, _>>_}
+use Rattle.lexing.specs.reply.{Parser, ret, _>>=_, _>>_}
 use Rattle.lexing.specs.words.{Word, parse-id, keyword, tag}
 use Rattle.lexing.specs.integers.{positive-integer}
 use Rattle.lexing.specs.blanks.{whitespace0, whitespace1}
@@ -30,6 +30,23 @@ keyword-name k = do
   keyword k
   whitespace1
   parse-id
+
+-- two keywords and the name behind them
+unfoldable pub name-behind : List ℕ → List ℕ → Parser Word
+name-behind k j = do
+  keyword k
+  whitespace1
+  keyword j
+  whitespace1
+  parse-id
+
+-- two keywords, a name and a semicolon
+unfoldable pub named-after : List ℕ → List ℕ → Parser Word
+named-after k j = do
+  n ← name-behind k j
+  whitespace0
+  tag (byte ";")
+  ret n
 
 -- a keyword and the number behind it
 abbrev pub keyword-number : List ℕ → Parser ℕ

@@ -4,7 +4,7 @@ ghost use Prim.Native.Nat.{_+_, _≤_};
 ghost use lib.ListN.{length};
 ghost use Rattle.lexing.specs.integers.{u64-max};
 ghost use Rattle.lexing.specs.answers.{numberReply, NumberAt, behind-blanks};
-ghost use Rattle.lexing.specs.names.{namedLost, NamedTo, NamedAt, blank-word, gap-word, keyword-name, keyword-number, type-behind, equals-code};
+ghost use Rattle.lexing.specs.names.{namedLost, NamedTo, NamedAt, blank-word, gap-word, keyword-name, name-behind, named-after, keyword-number, type-behind, equals-code};
 use crate::answers::Lost;
 use crate::answers::Step;
 use crate::answers::step_lost;
@@ -97,6 +97,42 @@ pub fn keyword_name(part: &[u8], base: usize, key: &[u8]) -> Named
         return Named::NoName(step_lost(name));
     };
     Named::Name(c2, c3, c3)
+}
+
+// Two keywords and the name behind them.
+pub fn name_behind(part: &[u8], base: usize, first: &[u8], second: &[u8]) -> Named
+    requires { ⌜ base + length (now part) ≤ u64-max ⌝ }
+    ensures { λ r. ⌜ NamedTo (name-behind (now (first .entry)) (now (second .entry))) r base (now (part .entry)) ⌝ }
+{
+    let one = keyword(part, base, first);
+    let Step::Next(c1) = one else {
+        return Named::NoName(step_lost(one));
+    };
+    let gap = gap_at(part, base, c1);
+    let Step::Next(c2) = gap else {
+        return Named::NoName(step_lost(gap));
+    };
+    let named = keyword_name(rest_at(part, base, c2), c2, second);
+    let Named::Name(name, end, c3) = named else {
+        return Named::NoName(named_lost(named));
+    };
+    Named::Name(name, end, c3)
+}
+
+// Two keywords, a name and a semicolon.
+pub fn named_after(part: &[u8], base: usize, first: &[u8], second: &[u8]) -> Named
+    requires { ⌜ base + length (now part) ≤ u64-max ⌝ }
+    ensures { λ r. ⌜ NamedTo (named-after (now (first .entry)) (now (second .entry))) r base (now (part .entry)) ⌝ }
+{
+    let named = name_behind(part, base, first, second);
+    let Named::Name(name, end, c1) = named else {
+        return Named::NoName(named_lost(named));
+    };
+    let semicolon = tag_behind(part, base, c1, b';');
+    let Step::Next(c2) = semicolon else {
+        return Named::NoName(step_lost(semicolon));
+    };
+    Named::Name(name, end, c2)
 }
 
 // A keyword and the number behind it.

@@ -14,7 +14,8 @@ use Rattle.items.specs.entries.{present, enclosed, where-missing, braces, api-m
 use Rattle.items.specs.structs.{max-length, list-marker, parse-field, parse-struct-field, closed-field, fields-run, struct-fields, response-code, struct-kind, struct-type-of, struct-head, parse-struct-after-doc-maturity}
 use Rattle.items.specs.members.{access-privilege, or-else, event-priority, access-to, event-qualities, event-head, parse-event-after-doc-maturity, command-head, command-types, parse-command-after-doc-maturity, access-entry, comma, separated-list0, access-list, granted-by, default-privileges, listed, attribute-access, parse-attribute-after-doc-maturity}
 use Rattle.items.specs.clusters.{mapped, parse-revision, member-tries, parse-cluster-member, cluster-members, side, cluster-head, cluster-after-doc-maturity, parse-cluster}
-use Rattle.items.specs.endpoints.{intercept, deep-step, deeper, deep-run, deep-place, deep-braces, name-behind, device-version, device-type, value-tries, default-attribute-value, attribute-handling-type, attribute-instantiation, named-after, instance-tries, instantiation-head, cluster-instantiation, part-tries, endpoint-head, endpoint}
+use Rattle.items.specs.endpoints.{intercept, deep-step, deeper, deep-run, deep-place, deep-braces, device-version, device-type, value-tries, default-attribute-value, attribute-handling-type, attribute-instantiation, instance-tries, instantiation-head, cluster-instantiation, part-tries, endpoint-head, endpoint}
+use Rattle.lexing.specs.names.{name-behind, named-after}
 use Rattle.items.specs.items.{with-doc-maturity, item}
 use Rattle.items.specs.records.{moved-extent, moved-further, moved, word-extent, optional-extent, doc-extent, doc-bit, flag, plain, documented, entry-record, choice-records, field-record, struct-number, response-of, struct-records, attribute-records, command-record, event-records, last-revision, member-records, cluster-records, default-number, twos-complement, default-word, instance-record, part-records, endpoint-records, item-records}
 use Rattle.lexing.specs.buffers.{each, big-endian, words-bytes}

@@ -26,7 +26,8 @@ use Rattle.lexing.proofs.Locality.{Consumes, chain-opt, chain-then, consumes-th
 use Rattle.lexing.proofs.TokenLocality.{whitespace0-chain, whitespace1-chain}
 use Rattle.lexing.proofs.Slicing.{Took, took, walks, begin, on, told-next, step-lost, integer-lost}
 use Rattle.items.specs.clusters.{mapped}
-use Rattle.items.specs.endpoints.{name-behind, device-version, Default as DefaultOf, number, signed-number, truth, text, value-tries, default-attribute-value, attribute-handling-type, AttributeInstance as AttributeInstanceOf, attribute-instantiation, named-after, Instance as InstanceOf, Part, attribute-instance, command-instance, event-instance, instance-tries, deep-run, deep-braces, DeviceType as DeviceTypeOf, device-type, device, binding, instantiation, instantiation-head, cluster-instantiation, part-tries, endpoint-head, endpoint}
+use Rattle.lexing.specs.names.{name-behind, named-after}
+use Rattle.items.specs.endpoints.{device-version, Default as DefaultOf, number, signed-number, truth, text, value-tries, default-attribute-value, attribute-handling-type, AttributeInstance as AttributeInstanceOf, attribute-instantiation, Instance as InstanceOf, Part, attribute-instance, command-instance, event-instance, instance-tries, deep-run, deep-braces, DeviceType as DeviceTypeOf, device-type, device, binding, instantiation, instantiation-head, cluster-instantiation, part-tries, endpoint-head, endpoint}
 use Rattle.items.specs.records.{Bits, absent, at, bits, value, word-extent, plain, twos-complement, default-number, default-word, instance-record, part-records, endpoint-records}
 use Rattle.lexing.specs.buffers.{each, big-endian, words-bytes, put}
 use Rattle.items.specs.inner.endpoints.{blank-binding, plainWord, name-parts, device-parts, instance-parts, endpoint-first}
@@ -42,7 +43,7 @@ use Rattle.items.specs.declared.endpoints.ValueRead.the-variants.{Read, 
 use Rattle.items.specs.declared.endpoints.Default.{Default}
 use Rattle.items.specs.declared.endpoints.Default.the-variants.{Absent, Present}
 use Rattle.items.specs.declared.endpoints.DefaultRead.{DefaultRead}
-use Rattle.items.proofs.Locality.{name-behind-local, device-version-local, value-tries-local, default-attribute-value-local, attribute-handling-type-local, attribute-instantiation-inside, named-after-local, named-after-consumes, instance-tries-inside, instance-tries-consumes, deep-run-inside, instances-local, instantiation-head-local, device-type-inside, cluster-instantiation-inside, part-tries-inside, part-tries-consumes, parts-local, endpoint-head-local}
+use Rattle.items.proofs.Locality.{device-version-local, value-tries-local, default-attribute-value-local, attribute-handling-type-local, attribute-instantiation-inside, named-after-local, named-after-consumes, instance-tries-inside, instance-tries-consumes, deep-run-inside, instances-local, instantiation-head-local, device-type-inside, cluster-instantiation-inside, part-tries-inside, part-tries-consumes, parts-local, endpoint-head-local}
 use Rattle.items.proofs.Mapped.{mapped-ok, mapped-not}
 use Rattle.lexing.proofs.AnswerLaws.{last-lost}
 use Rattle.items.proofs.WordBetween.{extent-between}
@@ -55,9 +56,6 @@ use Rattle.items.proofs.Tries.{bind-fail, then-fail, then-ok, mapped-fa
 use Rattle.items.proofs.Braces.{brace-keyword, brace-blank}
 use Rattle.items.proofs.endpoints.Placed.{Unclosing, none-found}
 use Rattle.items.proofs.endpoints.Places.{integer-place, signed-place, StringPlace, string-place}
-
-pub name-behind-on : (k j : List ℕ) → Onward (name-behind k j)
-name-behind-on k j = walks (name-behind-local k j .on-chain)
 
 pub device-version-on : Onward device-version
 device-version-on = walks (device-version-local .on-chain)
@@ -170,9 +168,6 @@ default-within (Present (Text s)) c e h k = omega (arith, h, k)
 -- the tries of an instance, and the words that each takes
 pub attribute-instance-on : Onward attribute-instantiation
 attribute-instance-on = walks (attribute-instantiation-inside .on-chain)
-
-pub named-after-on : (k j : List ℕ) → Onward (named-after k j)
-named-after-on k j = walks (named-after-local k j .on-chain)
 
 pub instance-tries-on : (q : ℕ) → Onward (instance-tries q)
 instance-tries-on q = walks (instance-tries-inside q .on-chain)

@@ -10,7 +10,8 @@ use Rattle.lexing.specs.blanks.{whitespace0}
 use Rattle.lexing.specs.declared.answers.Lost.{Lost}
 use Rattle.lexing.specs.declared.answers.Lost.the-variants.{Fail, Stop}
 use Rattle.items.specs.clusters.{mapped}
-use Rattle.items.specs.endpoints.{Tried as TriedOf, Deep, deep-run, number, signed-number, named-after}
+use Rattle.items.specs.endpoints.{Tried as TriedOf, Deep, deep-run, number, signed-number}
+use Rattle.lexing.specs.names.{named-after}
 use Rattle.items.specs.records.{Record, absent, at, bits, value, plain, default-number, default-word}
 use Rattle.items.specs.answers.{first-of}
 use Rattle.items.specs.answers.endpoints.{defaultOf}

@@ -1,17 +1,15 @@
 use borrow.Author.Needs.{needs}
 use Rattle.items.proofs.endpoints.blank_binding.Statement.{statement}
 use Rattle.items.proofs.endpoints.blank_binding.Tie as tie
-use Rattle.items.specs.endpoints.{named-after}
+use Rattle.lexing.specs.names.{named-after, namedLost}
 use Rattle.items.specs.inner.endpoints.{blank-binding}
-use Rattle.lexing.proofs.names.Laws.{named-wider, named-took}
+use Rattle.lexing.proofs.names.Laws.{named-wider, named-took, named-after-on}
 use mathlib.Core.Path.{refl, sym}
 use native.Mathlib.Omega.{arith}
 use Rattle.lexing.specs.bytes.{ascii}
 use Rattle.lexing.proofs.Slicing.{begin, on}
 use Rattle.lexing.proofs.AnswerLaws.{read-is, read-not, last-lost, read-lost}
 use Rattle.lexing.proofs.steps.Laws.{blank-at-took}
-use Rattle.lexing.specs.names.{namedLost}
-use Rattle.items.proofs.endpoints.Laws.{named-after-on}
 
 blank-at-requires : tie.Need-blank-at-requires
 blank-at-requires c κs = omega (arith, c .before .pre)

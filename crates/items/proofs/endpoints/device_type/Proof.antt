@@ -2,7 +2,7 @@ use borrow.Author.Needs.{needs}
 use Rattle.items.proofs.endpoints.device_type.Statement.{statement}
 use Rattle.items.proofs.endpoints.device_type.Tie as tie
 use Rattle.items.specs.endpoints.{device-type}
-use Rattle.lexing.proofs.names.Laws.{named-in, named-took, number-took, code-behind-on, number-at-took, number-at-lost}
+use Rattle.lexing.proofs.names.Laws.{named-in, named-took, number-took, code-behind-on, number-at-took, number-at-lost, name-behind-on}
 use mathlib.Core.Path.{refl}
 use native.Mathlib.Omega.{arith}
 use Rattle.lexing.specs.bytes.{ascii}
@@ -10,7 +10,7 @@ use Rattle.lexing.proofs.Slicing.{rest-self, begin, go, lose, done, integer-los
 use Rattle.lexing.proofs.AnswerLaws.{read-is, read-not, read-lost}
 use Rattle.lexing.proofs.Pairs.{four-go, four-lose}
 use Rattle.lexing.specs.names.{namedLost}
-use Rattle.items.proofs.endpoints.Laws.{name-behind-on, device-version-on}
+use Rattle.items.proofs.endpoints.Laws.{device-version-on}
 
 slice-aggregate-name-behind : tie.Need-slice-aggregate-name-behind
 slice-aggregate-name-behind c = search needs

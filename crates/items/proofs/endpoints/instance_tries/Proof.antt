@@ -13,8 +13,8 @@ use Rattle.lexing.proofs.AnswerLaws.{read-lost}
 use Rattle.items.proofs.Mapped.{mapped-not}
 use Rattle.items.proofs.Locality.{attribute-instantiation-consumes, named-after-consumes}
 use Rattle.items.proofs.endpoints.Deep.{weighed-not, intercept-next, intercept-stop, intercept-last, try-here, try-is}
-use Rattle.lexing.proofs.names.Laws.{named-took}
-use Rattle.items.proofs.endpoints.Laws.{attribute-instance-on, named-after-on, attribute-words, command-words, event-words}
+use Rattle.lexing.proofs.names.Laws.{named-took, named-after-on}
+use Rattle.items.proofs.endpoints.Laws.{attribute-instance-on, attribute-words, command-words, event-words}
 
 attribute-instance-end-requires : tie.Need-attribute-instance-end-requires
 attribute-instance-end-requires c κs = search needs

@@ -2,7 +2,7 @@ use borrow.Author.Needs.{needs}
 use Rattle.items.proofs.endpoints.instantiation_head.Statement.{statement}
 use Rattle.items.proofs.endpoints.instantiation_head.Tie as tie
 use Rattle.items.specs.endpoints.{instantiation-head}
-use Rattle.lexing.proofs.names.Laws.{named-wider, named-took}
+use Rattle.lexing.proofs.names.Laws.{named-wider, named-took, name-behind-on}
 use mathlib.Core.Path.{refl}
 use native.Mathlib.Omega.{arith}
 use Rattle.lexing.specs.bytes.{ascii}
@@ -10,7 +10,6 @@ use Rattle.lexing.proofs.Slicing.{begin, go, on, lose, done}
 use Rattle.lexing.proofs.AnswerLaws.{read-is, read-not, read-lost}
 use Rattle.lexing.proofs.steps.Laws.{blank-at-took}
 use Rattle.lexing.specs.names.{namedLost}
-use Rattle.items.proofs.endpoints.Laws.{name-behind-on}
 
 blank-at-requires : tie.Need-blank-at-requires
 blank-at-requires c κs = omega (arith, c .before .pre)

@@ -11,15 +11,15 @@ use Rattle.lexing.specs.buffers.{put}
 use Rattle.items.specs.layout.{layout-20, catalogue-bytes}
 use Rattle.items.specs.records.{Record, instance-record}
 use Rattle.items.specs.clusters.{mapped}
-use Rattle.items.specs.endpoints.{attribute-instantiation, named-after, attribute-instance, command-instance, event-instance, instance-tries}
-use Rattle.lexing.specs.names.{namedLost}
+use Rattle.items.specs.endpoints.{attribute-instantiation, attribute-instance, command-instance, event-instance, instance-tries}
+use Rattle.lexing.specs.names.{named-after, namedLost}
 use Rattle.items.specs.answers.endpoints.{attributeInstanceLost}
 use Rattle.lexing.proofs.AnswerLaws.{read-took, read-within, read-lost}
 use Rattle.items.proofs.Mapped.{mapped-not}
 use Rattle.items.proofs.writing.Laws.{no-room}
 use Rattle.items.proofs.endpoints.Placed.{try-took, try-fits, try-written, first-found, second-found, third-found, first-missed, second-missed, third-room}
-use Rattle.lexing.proofs.names.Laws.{named-in, named-took}
-use Rattle.items.proofs.endpoints.Laws.{attribute-instance-on, named-after-on, attribute-words, command-words, event-words, name-parts-is, instance-parts-is, name-in-limit, instance-in-limit}
+use Rattle.lexing.proofs.names.Laws.{named-in, named-took, named-after-on}
+use Rattle.items.proofs.endpoints.Laws.{attribute-instance-on, attribute-words, command-words, event-words, name-parts-is, instance-parts-is, name-in-limit, instance-in-limit}
 
 attribute-instantiation-requires : tie.Need-attribute-instantiation-requires
 attribute-instantiation-requires c κs = search needs

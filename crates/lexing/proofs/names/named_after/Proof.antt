@@ -1,16 +1,14 @@
 use borrow.Author.Needs.{needs}
-use Rattle.items.proofs.endpoints.named_after.Statement.{statement}
-use Rattle.items.proofs.endpoints.named_after.Tie as tie
-use Rattle.items.specs.endpoints.{named-after}
-use Rattle.lexing.proofs.names.Laws.{named-wider, named-took}
+use Rattle.lexing.proofs.names.named_after.Statement.{statement}
+use Rattle.lexing.proofs.names.named_after.Tie as tie
+use Rattle.lexing.specs.names.{named-after, namedLost}
+use Rattle.lexing.proofs.names.Laws.{named-wider, named-took, name-behind-on}
 use mathlib.Core.Path.{refl}
 use native.Mathlib.Omega.{arith}
 use Rattle.lexing.proofs.Slicing.{rest-self, begin, go, lose, done}
 use Rattle.lexing.proofs.AnswerLaws.{read-is, read-not, read-lost}
 use Rattle.lexing.proofs.Pairs.{pair-on, pair-fall}
 use Rattle.lexing.proofs.steps.Laws.{tag-behind-took, skips-lost}
-use Rattle.lexing.specs.names.{namedLost}
-use Rattle.items.proofs.endpoints.Laws.{name-behind-on}
 
 name-behind-requires : tie.Need-name-behind-requires
 name-behind-requires c κs = search needs
@@ -49,4 +47,17 @@ unfolding named-after
 returns-3 c = read-is refl (begin (named-after _ _) _ _ (go _ (named-took (c .before .before .before .before .before .before .before .name-behind .ensures) (c .before .before .before .before .before .named .given .1) (name-behind-on _ _) (rest-self _ _)) (pair-on _ _ _ (tag-behind-took 59 (c .before .semicolon .given .1) (c .before .before .before .tag-behind .ensures)) (done _ _ _ _)))) (named-wider (c .before .before .before .before .before .before .before .name-behind .ensures) (c .before .before .before .before .before .named .given .1) (omega arith) ((tag-behind-took 59 (c .before .semicolon .given .1) (c .before .before .before .tag-behind .ensures)) .up))
 
 pub named-after-spec : {M : Type 1} → statement M
-named-after-spec = tie.close (tie.spec name-behind-requires enum-known-named enum-told named-lost-requires returns tag-behind-requires enum-known-semicolon enum-told-2 step-lost-requires returns-2 returns-3)
+named-after-spec =
+    tie.close
+    (tie.spec
+    name-behind-requires
+    enum-known-named
+    enum-told
+    named-lost-requires
+    returns
+    tag-behind-requires
+    enum-known-semicolon
+    enum-told-2
+    step-lost-requires
+    returns-2
+    returns-3)

@@ -1,15 +1,14 @@
 use borrow.Author.Needs.{needs}
-use Rattle.items.proofs.endpoints.name_behind.Statement.{statement}
-use Rattle.items.proofs.endpoints.name_behind.Tie as tie
-use Rattle.items.specs.endpoints.{name-behind}
-use Rattle.lexing.specs.names.{keyword-name, namedLost}
+use Rattle.lexing.proofs.names.name_behind.Statement.{statement}
+use Rattle.lexing.proofs.names.name_behind.Tie as tie
+use Rattle.lexing.specs.names.{keyword-name, name-behind, namedLost}
 use Rattle.lexing.proofs.names.Laws.{named-wider, named-took, keyword-name-on}
 use mathlib.Core.Path.{refl, sym}
 use native.Mathlib.Omega.{arith}
 use Rattle.lexing.specs.answers.{wordAt}
 use Rattle.lexing.proofs.Slicing.{rest-self, begin, on, fall, keyword-took, step-lost}
 use Rattle.lexing.proofs.AnswerLaws.{read-is, read-not, last-lost, read-lost}
 use Rattle.lexing.proofs.steps.Laws.{gap-at-took, skips-lost}
 
 keyword-requires : tie.Need-keyword-requires
 keyword-requires c κs = search needs
