@@ -21,7 +21,8 @@ pub mod Headed
 pub mod WordBetween
 pub mod RecordWords
 pub mod SetSizes
--- what is read stands in the text; where it is refused
+-- parsers that never stop; what is read stands in the text; where it is refused
+pub mod Calm
 pub mod Truth
 pub mod RefusedPlaces
 -- what was packed comes back; a word comes back from its bytes

@@ -5,6 +5,7 @@ use mathlib.Core.Option.{Option}
 use mathlib.Core.List.{List, [], _∷_, _++_}
 use Rattle.lexing.specs.bytes.{ascii, byte}
 use Rattle.lexing.specs.reply.{Parser, ret, _>>=_, _>>_, opt, _or_, catch, iter, position, failAt}
+use Rattle.lexing.specs.names.{name-behind, named-after}
 use Rattle.lexing.specs.words.{Word, parse-id, keyword, tag}
 use Rattle.lexing.specs.integers.{positive-integer, Signed, signed-integer}
 use Rattle.lexing.specs.blanks.{whitespace0, whitespace1}

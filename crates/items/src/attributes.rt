@@ -1,21 +1,20 @@
 // Attributes, and their lists of privileges.
 ghost use mathlib.Core.Path.{_≡_};
 ghost use Prim.Native.Nat.{_+_, _≤_};
-ghost use lib.ListN.{length, take};
-ghost use Rattle.lexing.specs.words.{isLower};
-ghost use Rattle.lexing.specs.answers.{docOf, tagReply};
+ghost use lib.ListN.{length};
+ghost use Rattle.lexing.specs.words.{keyword, any-keyword};
+ghost use Rattle.lexing.specs.answers.{docOf};
 ghost use Rattle.items.specs.layout.{text-limit, layout-20, catalogue-bytes};
 ghost use Rattle.lexing.specs.buffers.{put};
 ghost use Rattle.items.specs.records.{attribute-records};
-ghost use Rattle.items.specs.answers.{CountTo, FrontFits, Room, Written};
-ghost use Rattle.lexing.specs.reply.{many0};
-ghost use Rattle.items.specs.members.{access-entry, comma, separated-list0, access-list, parse-attribute-after-doc-maturity};
-ghost use Rattle.items.specs.answers.attributes.{PrivilegesTo, privilegesLost, attributeLost, AttributeBetween, AttributeTo};
-ghost use Rattle.items.specs.inner.attributes.{operationBy, operationLost, OperationTo, grantBy, accessLost, AccessTo, separated-entry, grantsWith, grantsSmall, listLost, listEnd, ListTo, no-grants, optionalList, attributeFront, attribute-parts};
+ghost use Rattle.items.specs.answers.{FrontFits, Room, Written};
+ghost use Rattle.items.specs.members.{parse-attribute-after-doc-maturity};
+ghost use Rattle.items.specs.answers.attributes.{PrivilegesTo, privilegesLost, AttributeBetween, AttributeTo, AttributeCountTo};
+ghost use Rattle.items.specs.inner.attributes.{access-words, operation-of, OperationTo, grantsWith, grantsSmall, EntryTo, EntriesTo, attribute-parts};
 use crate::counts::Count;
 use crate::members::Level;
-use crate::members::access_privilege;
-use crate::members::level_lost;
+use crate::members::access_opening;
+use crate::members::colon_privilege;
 use crate::structs::StructFieldParts;
 use crate::structs::StructFieldRead;
 use crate::structs::closed_field;
@@ -29,7 +28,6 @@ use crate::writing::put_documented;
 use lexing::answers::Lost;
 use lexing::answers::Step;
 use lexing::answers::step_lost;
-use lexing::blanks::DocSpan;
 use lexing::parts::rest_at;
 use lexing::steps::blank_at;
 use lexing::steps::gap_at;
@@ -47,8 +45,6 @@ pub enum PrivilegesRead {
 
 // flags: readonly, writeonly, nosubscribe, timedwrite
 pub struct AttributeParts {
-    pub doc: DocSpan,
-    pub maturity: u8,
     pub flags: u8,
     pub read: u8,
     pub write: u8,
@@ -69,19 +65,7 @@ enum Operation {
 
 enum OperationRead {
     Named(Operation, usize),
-    NoOperation(Lost),
-}
-
-// What an entry of the list grants: a privilege to read or to write; or nothing, and where its word stands.
-enum Grant {
-    ToRead(u8),
-    ToWrite(u8),
-    Misnamed(usize),
-}
-
-enum AccessRead {
-    Access(Grant, usize),
-    NoAccess(Lost),
+    NoOperation,
 }
 
 // What the entries so far have granted: the privileges to read and to write; or the list is refused at its first word that is not in lower case.
@@ -90,226 +74,118 @@ enum Grants {
     RefusedAt(usize),
 }
 
-enum ListRead {
-    Listed(Grants, usize),
-    NoList(Lost),
+// What entries have granted, and the offset behind them.
+struct Entries {
+    grants: Grants,
+    next: usize,
 }
 
-// The operation that a keyword of n bytes names.
-fn operation_by(part: &[u8], n: usize, operation: Operation) -> Operation
-    requires { ⌜ n ≤ length (now part) ⌝ }
-    ensures { λ r. ⌜ r ≡ operationBy (isLower (take n (now (part .entry)))) operation ⌝ }
+// A keyword that names an operation.
+fn operation_by(part: &[u8], base: usize, key: &[u8], operation: Operation) -> OperationRead
+    requires { ⌜ base + length (now part) ≤ text-limit ⌝ }
+    requires { ⌜ operation-of (now key) ≡ operation ⌝ }
+    ensures { λ r. ⌜ OperationTo (keyword (now (key .entry))) r base (now (part .entry)) ⌝ }
 {
-    if is_lower(part, n) {
-        return operation;
+    let word = keyword(part, base, key);
+    let Step::Next(c) = word else {
+        return OperationRead::NoOperation;
+    };
+    if is_lower(part, c - base) {
+        return OperationRead::Named(operation, c);
     }
-    Operation::Neither
+    OperationRead::Named(Operation::Neither, c)
 }
 
 // `read` or `write`, in any case.
 fn access_word(part: &[u8], base: usize) -> OperationRead
     requires { ⌜ base + length (now part) ≤ text-limit ⌝ }
-    ensures { λ r. ⌜ OperationTo r base (now (part .entry)) ⌝ }
+    ensures { λ r. ⌜ OperationTo (any-keyword access-words) r base (now (part .entry)) ⌝ }
 {
-    let read = keyword(part, base, b"read");
-    if let Step::Next(c) = read {
-        let operation = operation_by(part, c - base, Operation::Read);
-        return OperationRead::Named(operation, c);
-    }
-    let write = keyword(part, base, b"write");
-    if let Step::Next(c) = write {
-        let operation = operation_by(part, c - base, Operation::Write);
-        return OperationRead::Named(operation, c);
-    }
-    OperationRead::NoOperation(Lost::Fail(base))
-}
-
-fn operation_lost(r: OperationRead) -> Lost
-    ensures { λ x. ⌜ x ≡ operationLost r ⌝ }
-{
-    match r {
-        OperationRead::Named(_, c) => Lost::Fail(c),
-        OperationRead::NoOperation(l) => l,
-    }
-}
-
-// What an operation whose word stands at an offset grants.
-fn grant_by(operation: Operation, privilege: u8, at: usize) -> Grant
-    ensures { λ r. ⌜ r ≡ grantBy operation privilege at ⌝ }
-{
-    match operation {
-        Operation::Read => Grant::ToRead(privilege),
-        Operation::Write => Grant::ToWrite(privilege),
-        Operation::Neither => Grant::Misnamed(at),
-    }
-}
-
-fn access_entry(part: &[u8], base: usize) -> AccessRead
-    requires { ⌜ base + length (now part) ≤ text-limit ⌝ }
-    ensures { λ r. ⌜ AccessTo access-entry r base (now (part .entry)) ⌝ }
-{
-    let c1 = blank_at(part, base, base);
-    let word = access_word(rest_at(part, base, c1), c1);
-    let OperationRead::Named(operation, c2) = word else {
-        return AccessRead::NoAccess(operation_lost(word));
+    let read = operation_by(part, base, b"read", Operation::Read);
+    let OperationRead::NoOperation = read else {
+        return read;
     };
-    let colon = tag_behind(part, base, c2, b':');
-    let Step::Next(c3) = colon else {
-        return AccessRead::NoAccess(step_lost(colon));
-    };
-    let c4 = blank_at(part, base, c3);
-    let granted = access_privilege(rest_at(part, base, c4), c4);
-    let Level::Chosen(privilege, c5) = granted else {
-        return AccessRead::NoAccess(level_lost(granted));
-    };
-    let c6 = blank_at(part, base, c5);
-    let grant = grant_by(operation, privilege, c1);
-    AccessRead::Access(grant, c6)
+    operation_by(part, base, b"write", Operation::Write)
 }
 
-fn access_lost(r: AccessRead) -> Lost
-    ensures { λ x. ⌜ x ≡ accessLost r ⌝ }
-{
-    match r {
-        AccessRead::Access(_, c) => Lost::Fail(c),
-        AccessRead::NoAccess(l) => l,
-    }
-}
-
-fn comma(part: &[u8], base: usize) -> Step
-    requires { ⌜ base + length (now part) ≤ text-limit ⌝ }
-    ensures { λ r. ⌜ tagReply r base (now (part .entry)) ≡ comma base (now (part .entry)) ⌝ }
-{
-    let separator = tag_behind(part, base, base, b',');
-    let Step::Next(c1) = separator else {
-        return Step::Not(step_lost(separator));
-    };
-    let c2 = blank_at(part, base, c1);
-    Step::Next(c2)
-}
-
-fn separated_entry(part: &[u8], base: usize) -> AccessRead
-    requires { ⌜ base + length (now part) ≤ text-limit ⌝ }
-    ensures { λ r. ⌜ AccessTo separated-entry r base (now (part .entry)) ⌝ }
-{
-    let separator = comma(part, base);
-    let Step::Next(c) = separator else {
-        return AccessRead::NoAccess(step_lost(separator));
-    };
-    access_entry(rest_at(part, base, c), c)
-}
-
-// What is granted with one entry more.
-fn grants_with(grants: Grants, grant: Grant) -> Grants
-    ensures { λ r. ⌜ r ≡ grantsWith grants grant ⌝ }
+// What is granted with an entry more, whose word stands at an offset.
+fn grants_with(grants: Grants, operation: Operation, privilege: u8, at: usize) -> Grants
+    ensures { λ r. ⌜ r ≡ grantsWith grants operation privilege at ⌝ }
 {
     let Grants::Granted(read, write) = grants else {
         return grants;
     };
-    match grant {
-        Grant::ToRead(p) => Grants::Granted(p, write),
-        Grant::ToWrite(p) => Grants::Granted(read, p),
-        Grant::Misnamed(at) => Grants::RefusedAt(at),
+    match operation {
+        Operation::Read => Grants::Granted(privilege, write),
+        Operation::Write => Grants::Granted(read, privilege),
+        Operation::Neither => Grants::RefusedAt(at),
     }
 }
 
-// The end of a list at an offset: an entry that fails ends it, and a stop goes on.
-fn list_end(l: Lost, grants: Grants, c: usize) -> ListRead
-    ensures { λ x. ⌜ x ≡ listEnd l grants c ⌝ }
-{
-    match l {
-        Lost::Fail(_) => ListRead::Listed(grants, c),
-        Lost::Stop(n, p) => ListRead::NoList(Lost::Stop(n, p)),
-    }
-}
-
-// The entries behind the first one, with what that one granted.
-fn more_entries(part: &[u8], base: usize, first: Grants) -> ListRead
+// An entry more. Where it is not there whole, nothing is read and nothing granted.
+fn access_entry(part: &[u8], base: usize, grants: Grants) -> Entries
     requires { ⌜ base + length (now part) ≤ text-limit ⌝ }
-    requires { ⌜ grantsSmall first ⌝ }
-    ensures { λ r. ⌜ ListTo first (many0 separated-entry) r base (now (part .entry)) ⌝ }
+    requires { ⌜ grantsSmall grants ⌝ }
+    ensures { λ r. ⌜ EntryTo grants r base (now (part .entry)) ⌝ }
 {
-    let mut c = base;
-    let mut grants = first;
-    loop {
-        let r = separated_entry(rest_at(part, base, c), c);
-        let AccessRead::Access(grant, next) = r else {
-            return list_end(access_lost(r), grants, c);
-        };
-        c = next;
-        grants = grants_with(grants, grant);
-    }
-}
-
-fn list_lost(r: ListRead) -> Lost
-    ensures { λ x. ⌜ x ≡ listLost r ⌝ }
-{
-    match r {
-        ListRead::Listed(_, c) => Lost::Fail(c),
-        ListRead::NoList(l) => l,
-    }
-}
-
-// Entries with commas between them; there may be none.
-fn access_entries(part: &[u8], base: usize) -> ListRead
-    requires { ⌜ base + length (now part) ≤ text-limit ⌝ }
-    ensures { λ r. ⌜ ListTo no-grants (separated-list0 comma access-entry) r base (now (part .entry)) ⌝ }
-{
-    let none = Grants::Granted(0, 1);
-    let first = access_entry(part, base);
-    let AccessRead::Access(grant, c) = first else {
-        return list_end(access_lost(first), none, base);
-    };
-    let grants = grants_with(none, grant);
-    more_entries(rest_at(part, base, c), c, grants)
-}
-
-// `access(..)`
-fn access_list(part: &[u8], base: usize) -> ListRead
-    requires { ⌜ base + length (now part) ≤ text-limit ⌝ }
-    ensures { λ r. ⌜ ListTo no-grants access-list r base (now (part .entry)) ⌝ }
-{
-    let access = keyword_behind(part, base, base, b"access");
-    let Step::Next(c1) = access else {
-        return ListRead::NoList(step_lost(access));
-    };
-    let opening = tag_behind(part, base, c1, b'(');
-    let Step::Next(c2) = opening else {
-        return ListRead::NoList(step_lost(opening));
+    let absent = Entries { grants, next: base };
+    let c1 = blank_at(part, base, base);
+    let word = access_word(rest_at(part, base, c1), c1);
+    let OperationRead::Named(operation, c2) = word else {
+        return absent;
     };
     let c3 = blank_at(part, base, c2);
-    let entries = access_entries(rest_at(part, base, c3), c3);
-    let ListRead::Listed(grants, c4) = entries else {
-        return ListRead::NoList(list_lost(entries));
+    let granted = colon_privilege(part, base, c3);
+    let Level::Chosen(privilege, c4) = granted else {
+        return absent;
     };
-    let closing = tag_behind(part, base, c4, b')');
-    let Step::Next(c5) = closing else {
-        return ListRead::NoList(step_lost(closing));
-    };
-    ListRead::Listed(grants, c5)
+    let next = blank_at(part, base, c4);
+    let more = grants_with(grants, operation, privilege, c1);
+    Entries { grants: more, next }
 }
 
-// A list that may be absent, at an offset: where it fails nothing is read, and a stop goes on.
-fn optional_list(r: ListRead, base: usize) -> ListRead
-    ensures { λ x. ⌜ x ≡ optionalList r base ⌝ }
+// Entries with commas between them; there may be none. The blanks behind a comma are those before an entry.
+fn access_entries(part: &[u8], base: usize) -> Entries
+    requires { ⌜ base + length (now part) ≤ text-limit ⌝ }
+    ensures { λ r. ⌜ EntriesTo r base (now (part .entry)) ⌝ }
 {
-    let ListRead::NoList(l) = r else {
-        return r;
-    };
-    list_end(l, Grants::Granted(0, 1), base)
+    let mut grants = Grants::Granted(0, 1);
+    let mut end = base;
+    let mut c = base;
+    loop {
+        let entry = access_entry(rest_at(part, base, c), c, grants);
+        if entry.next == c {
+            return Entries { grants, next: end };
+        }
+        grants = entry.grants;
+        end = entry.next;
+        let comma = tag_behind(part, base, end, b',');
+        let Step::Next(next) = comma else {
+            return Entries { grants, next: end };
+        };
+        c = next;
+    }
 }
 
-// A list that was read whole and has a word that is not in lower case stops at that word.
+// `access(..)`. A list that is not there whole is none; one that is there and has a word that is not in lower case stops at that word.
 pub fn attribute_access(part: &[u8], base: usize) -> PrivilegesRead
     requires { ⌜ base + length (now part) ≤ text-limit ⌝ }
     ensures { λ r. ⌜ PrivilegesTo r base (now (part .entry)) ⌝ }
 {
-    let list = optional_list(access_list(part, base), base);
-    let ListRead::Listed(grants, c) = list else {
-        return PrivilegesRead::NoPrivileges(list_lost(list));
+    let absent = PrivilegesRead::Privileges(0, 1, base);
+    let opening = access_opening(part, base);
+    let Step::Next(c1) = opening else {
+        return absent;
     };
+    let c2 = blank_at(part, base, c1);
+    let entries = access_entries(rest_at(part, base, c2), c2);
+    let closing = tag_behind(part, base, entries.next, b')');
+    let Step::Next(c3) = closing else {
+        return absent;
+    };
+    let grants = entries.grants;
     match grants {
-        Grants::Granted(read, write) => PrivilegesRead::Privileges(read, write, c),
+        Grants::Granted(read, write) => PrivilegesRead::Privileges(read, write, c3),
         Grants::RefusedAt(at) => PrivilegesRead::NoPrivileges(Lost::Stop(6, at)),
     }
 }
@@ -323,14 +199,9 @@ pub fn privileges_lost(r: PrivilegesRead) -> Lost
     }
 }
 
-pub fn parse_attribute_after_doc_maturity(
-    part: &[u8],
-    base: usize,
-    doc: DocSpan,
-    maturity: u8,
-) -> AttributeRead
+pub fn parse_attribute_after_doc_maturity(part: &[u8], base: usize) -> AttributeRead
     requires { ⌜ base + length (now part) ≤ text-limit ⌝ }
-    ensures { λ r. ⌜ AttributeTo doc maturity r base (now (part .entry)) ⌝ }
+    ensures { λ r. ⌜ AttributeTo r base (now (part .entry)) ⌝ }
 {
     let q = keywords_set(part, base, 4);
     let c1 = q.next;
@@ -350,12 +221,9 @@ pub fn parse_attribute_after_doc_maturity(
     let StructFieldRead::StructField(field, c5) = r else {
         return AttributeRead::NoAttribute(struct_field_lost(r));
     };
-    let flags = q.flags;
     AttributeRead::Attribute(
         AttributeParts {
-            doc,
-            maturity,
-            flags,
+            flags: q.flags,
             read,
             write,
             field,
@@ -364,27 +232,18 @@ pub fn parse_attribute_after_doc_maturity(
     )
 }
 
-pub fn attribute_lost(r: AttributeRead) -> Lost
-    ensures { λ x. ⌜ x ≡ attributeLost r ⌝ }
-{
-    match r {
-        AttributeRead::Attribute(_, c) => Lost::Fail(c),
-        AttributeRead::NoAttribute(l) => l,
-    }
-}
-
 // The records of an attribute and of its field.
-fn put_attribute(out: &mut [u8], at: usize, a: AttributeParts)
+fn put_attribute(out: &mut [u8], at: usize, front: FrontParts, a: AttributeParts)
     requires { ⌜ at + 48 ≤ length (now out) ⌝ }
-    requires { ⌜ FrontFits (attributeFront a) ⌝ }
+    requires { ⌜ FrontFits front ⌝ }
     requires { ⌜ AttributeBetween 0 a text-limit ⌝ }
-    ensures { λ _. ⌜ now (out .exit) ≡ put at (catalogue-bytes layout-20 (attribute-parts a)) (now (out .entry)) ⌝ }
+    ensures { λ _. ⌜ now (out .exit) ≡ put at (catalogue-bytes layout-20 (attribute-parts front a)) (now (out .entry)) ⌝ }
 {
-    let doc = a.doc;
+    let doc = front.doc;
     let first = First {
         kind: 7,
         place: 0,
-        maturity: a.maturity,
+        maturity: front.maturity,
         documented: doc_bit(doc),
         flags: a.flags * 8,
         name: 0,
@@ -409,12 +268,11 @@ pub fn write_attribute(
     requires { ⌜ Room attribute-records (parse-attribute-after-doc-maturity (docOf (front .doc)) (front .maturity)) base (now part) at (length (now out)) ⌝ }
     ensures { λ r. ⌜ Written attribute-records (parse-attribute-after-doc-maturity (docOf (front .doc)) (front .maturity)) base (now (part .entry)) at r (now (out .entry)) (now (out .exit)) ⌝ }
 {
-    let doc = front.doc;
-    let r = parse_attribute_after_doc_maturity(part, base, doc, front.maturity);
+    let r = parse_attribute_after_doc_maturity(part, base);
     let AttributeRead::Attribute(a, c) = r else {
         return Wrote { next: base, to: at };
     };
-    put_attribute(out, at, a);
+    put_attribute(out, at, front, a);
     Wrote {
         next: c,
         to: at + 48,
@@ -422,13 +280,13 @@ pub fn write_attribute(
 }
 
 // The first pass over an attribute: two words, and the four of its field.
-pub fn count_attribute(part: &[u8], base: usize, doc: DocSpan, maturity: u8) -> Count
+pub fn count_attribute(part: &[u8], base: usize) -> Count
     requires { ⌜ base + length (now part) ≤ text-limit ⌝ }
-    ensures { λ r. ⌜ CountTo attribute-records (parse-attribute-after-doc-maturity (docOf doc) maturity) r base (now (part .entry)) ⌝ }
+    ensures { λ r. ⌜ AttributeCountTo r base (now (part .entry)) ⌝ }
 {
-    let r = parse_attribute_after_doc_maturity(part, base, doc, maturity);
-    let AttributeRead::Attribute(_, c) = r else {
-        return Count::NoCount(attribute_lost(r));
-    };
-    Count::Words(6, c)
+    let r = parse_attribute_after_doc_maturity(part, base);
+    match r {
+        AttributeRead::Attribute(_, c) => Count::Words(6, c),
+        AttributeRead::NoAttribute(l) => Count::NoCount(l),
+    }
 }

@@ -261,8 +261,8 @@ fn count_member(part: &[u8], base: usize, k: Candidate, doc: DocSpan, maturity: 
         MemberKind::Bitmap => choice_after_doc_maturity(part, base, k.from, b"bitmap"),
         MemberKind::Enum => choice_after_doc_maturity(part, base, k.from, b"enum"),
         MemberKind::Struct => parse_struct_after_doc_maturity(part, base, k.from),
-        MemberKind::Attribute => count_attribute(part, base, doc, maturity),
-        MemberKind::Command => count_command(part, base, doc, maturity),
+        MemberKind::Attribute => count_attribute(part, base),
+        MemberKind::Command => count_command(part, base),
         MemberKind::Event => parse_event_after_doc_maturity(part, base),
         MemberKind::Unknown => Count::NoCount(Lost::Fail(base)),
     }

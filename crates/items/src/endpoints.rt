@@ -1,23 +1,23 @@
 // Endpoints and what stands in them: names behind keywords, device types, instances.
 ghost use mathlib.Core.Path.{_≡_};
-ghost use mathlib.Core.Option.{some};
 ghost use mathlib.Core.List.{[], _∷_, map};
 ghost use Prim.Native.Nat.{_+_, _≤_, _<_, max};
 ghost use lib.ListN.{length};
+ghost use Rattle.lexing.specs.bytes.{ascii};
+ghost use Rattle.lexing.specs.reply.{ok};
 ghost use Rattle.lexing.specs.integers.{signed};
-ghost use Rattle.lexing.specs.answers.{tagReply, numberReply, Skips, NameIn};
+ghost use Rattle.lexing.specs.blanks.{no-doc, whitespace0};
+ghost use Rattle.lexing.specs.answers.{numberReply, NameIn};
 ghost use Rattle.items.specs.layout.{text-limit, layout-20, further-word, catalogue-bytes};
 ghost use Rattle.lexing.specs.buffers.{put, each};
 ghost use Rattle.items.specs.records.{twos-complement, default-number, default-word, instance-record, part-records, endpoint-records};
-ghost use Rattle.lexing.specs.names.{NamedTo};
-ghost use Rattle.items.specs.endpoints.{device-version, value-tries, default-attribute-value, attribute-handling-type, attribute-instantiation, deep-run, deep-braces, instance-tries, instantiation, instantiation-head, cluster-instantiation, part-tries, endpoint-head, endpoint};
+ghost use Rattle.lexing.specs.names.{named-after, NamedTo};
+ghost use Rattle.items.specs.endpoints.{device-version, device-type, value-tries, default-attribute-value, attribute-handling-type, deep-braces, instance-tries, device, binding, instantiation, instantiation-head, cluster-instantiation, part-tries, endpoint-head, endpoint};
 ghost use Rattle.items.specs.answers.{CountTo, Room, Written};
 ghost use Rattle.items.specs.answers.members.{LevelTo};
-ghost use Rattle.items.specs.answers.endpoints.{DeviceTypeTo, deviceTypeLost, ValueTo, valueOf, SpanIn, optionalValue, DefaultTo, DefaultIn, defaultOf, defaultLost, InstanceIn, AttributeInstanceTo, triedLost, TriedTo, DeepTo, TryRoom, TryWritten};
-ghost use Rattle.items.specs.declared.endpoints.ValueRead.the-variants.{NoValue};
-ghost use Rattle.items.specs.inner.endpoints.{NoNumberAt, furtherLost, triedEnd, deep-close, deep-rest, blank-binding, plainWord, name-parts, device-parts, instance-parts, endpoint-first};
+ghost use Rattle.items.specs.answers.endpoints.{DeviceTypeTo, ValueTo, optionalValue, DefaultTo, DefaultIn, defaultOf, defaultLost, InstanceIn, AttributeInstanceTo, namedInstance, InstanceTo, TriedTo};
+ghost use Rattle.items.specs.inner.endpoints.{NoNumberAt, furtherLost, deep-rest, plainWord, name-parts, device-parts, instance-parts, endpoint-first};
 use crate::counts::Count;
-use crate::counts::count_lost;
 use crate::members::Level;
 use crate::members::level_by;
 use crate::members::level_lost;
@@ -29,10 +29,6 @@ use crate::writing::span_word;
 use lexing::answers::Lost;
 use lexing::answers::Step;
 use lexing::answers::step_lost;
-use lexing::blanks::Gap;
-use lexing::blanks::gap_lost;
-use lexing::blanks::whitespace0;
-use lexing::blanks::whitespace1;
 use lexing::buffers::put_three;
 use lexing::buffers::put_two;
 use lexing::buffers::put_word;
@@ -79,26 +75,17 @@ pub struct SpanParts {
     pub length: usize,
 }
 
-// A default; a signed one is said to be negative or not, with its magnitude.
+// A default, or that there is none; a signed one is said to be negative or not, with its magnitude.
 pub enum DefaultValue {
+    Absent,
     Number(u64),
     Signed(bool, u64),
     Truth(bool),
     Text(SpanParts),
 }
 
-pub enum ValueRead {
-    Read(DefaultValue, usize),
-    NoValue(Lost),
-}
-
-pub enum Default {
-    Absent,
-    Present(DefaultValue),
-}
-
 pub enum DefaultRead {
-    Optional(Default, usize),
+    Read(DefaultValue, usize),
     NoDefault(Lost),
 }
 
@@ -107,18 +94,14 @@ pub struct AttributeInstanceParts {
     pub handling: u8,
     pub name: usize,
     pub end: usize,
-    pub default: Default,
+    pub default: DefaultValue,
 }
 
-pub enum AttributeInstanceRead {
+// An instance: that of an attribute, or of a command or an event, by the kind of its record and where its name starts and ends.
+pub enum InstanceRead {
     AttributeInstance(AttributeInstanceParts, usize),
-    NoAttributeInstance(Lost),
-}
-
-// What a try between braces found: the words of its records, the offset behind it, and the furthest place of any try so far.
-pub enum Tried {
-    Found(usize, usize, usize),
-    NotFound(Lost),
+    NamedInstance(u8, usize, usize, usize),
+    NoInstance(Lost),
 }
 
 // A device type from its comma on.
@@ -170,15 +153,6 @@ pub fn device_type(part: &[u8], base: usize) -> DeviceTypeRead
     DeviceTypeRead::DeviceType(t, c3)
 }
 
-pub fn device_type_lost(r: DeviceTypeRead) -> Lost
-    ensures { λ x. ⌜ x ≡ deviceTypeLost r ⌝ }
-{
-    match r {
-        DeviceTypeRead::DeviceType(_, c) => Lost::Fail(c),
-        DeviceTypeRead::NoDeviceType(l) => l,
-    }
-}
-
 // How an attribute is held: ram, callback, persist = 0 to 2; the first letter leaves one of them.
 pub fn attribute_handling_type(part: &[u8], base: usize) -> Level
     requires { ⌜ base + length (now part) ≤ text-limit ⌝ }
@@ -194,81 +168,74 @@ pub fn attribute_handling_type(part: &[u8], base: usize) -> Level
 }
 
 // The value of a default where no number stands. Each try but the last fails at its start, so the place of the last is the furthest.
-fn word_value(part: &[u8], base: usize) -> ValueRead
+fn word_value(part: &[u8], base: usize) -> DefaultRead
     requires { ⌜ base + length (now part) ≤ text-limit ⌝ }
     requires { ⌜ NoNumberAt base (now part) ⌝ }
     ensures { λ r. ⌜ ValueTo value-tries r base (now (part .entry)) ⌝ }
 {
     let yes = keyword(part, base, b"true");
     if let Step::Next(c) = yes {
-        return ValueRead::Read(DefaultValue::Truth(true), c);
+        return DefaultRead::Read(DefaultValue::Truth(true), c);
     }
     let no = keyword(part, base, b"false");
     if let Step::Next(c) = no {
-        return ValueRead::Read(DefaultValue::Truth(false), c);
+        return DefaultRead::Read(DefaultValue::Truth(false), c);
     }
     let string = default_string(part, base);
     let Step::Next(c) = string else {
-        return ValueRead::NoValue(step_lost(string));
+        return DefaultRead::NoDefault(step_lost(string));
     };
     let start = base + 1;
     let length = c - 1 - start;
-    ValueRead::Read(DefaultValue::Text(SpanParts { start, length }), c)
+    DefaultRead::Read(DefaultValue::Text(SpanParts { start, length }), c)
 }
 
 // The value of a default: numbers first.
-fn value_tries(part: &[u8], base: usize) -> ValueRead
+fn value_tries(part: &[u8], base: usize) -> DefaultRead
     requires { ⌜ base + length (now part) ≤ text-limit ⌝ }
     ensures { λ r. ⌜ ValueTo value-tries r base (now (part .entry)) ⌝ }
 {
     let number = positive_integer(part, base);
     if let Number::Value(v, c) = number {
-        return ValueRead::Read(DefaultValue::Number(v), c);
+        return DefaultRead::Read(DefaultValue::Number(v), c);
     }
     let lost = number_lost(number);
     if let Lost::Stop(n, p) = lost {
-        return ValueRead::NoValue(Lost::Stop(n, p));
+        return DefaultRead::NoDefault(Lost::Stop(n, p));
     }
     let signed = signed_integer(part, base);
     if let SignedNumber::Sized(negative, v, c) = signed {
-        return ValueRead::Read(DefaultValue::Signed(negative, v), c);
+        return DefaultRead::Read(DefaultValue::Signed(negative, v), c);
     }
     word_value(part, base)
 }
 
-pub fn default_attribute_value(part: &[u8], base: usize) -> ValueRead
+pub fn default_attribute_value(part: &[u8], base: usize) -> DefaultRead
     requires { ⌜ base + length (now part) ≤ text-limit ⌝ }
     ensures { λ r. ⌜ ValueTo default-attribute-value r base (now (part .entry)) ⌝ }
 {
     let key = keyword(part, base, b"default");
     let Step::Next(c1) = key else {
-        return ValueRead::NoValue(step_lost(key));
+        return DefaultRead::NoDefault(step_lost(key));
     };
     let equals = tag_behind(part, base, c1, b'=');
     let Step::Next(c2) = equals else {
-        return ValueRead::NoValue(step_lost(equals));
+        return DefaultRead::NoDefault(step_lost(equals));
     };
     let c3 = blank_at(part, base, c2);
     value_tries(rest_at(part, base, c3), c3)
 }
 
-// No value at an offset: where it fails nothing is read, and a stop goes on.
-fn no_default(l: Lost, base: usize) -> DefaultRead
-    ensures { λ x. ⌜ x ≡ optionalValue (NoValue l) base ⌝ }
-{
-    match l {
-        Lost::Fail(_) => DefaultRead::Optional(Default::Absent, base),
-        Lost::Stop(n, p) => DefaultRead::NoDefault(Lost::Stop(n, p)),
-    }
-}
-
-// A value that may be absent, at an offset.
-fn optional_value(r: ValueRead, base: usize) -> DefaultRead
+// A default that may be absent, at an offset: where it fails nothing is read, and a stop goes on.
+fn optional_value(r: DefaultRead, base: usize) -> DefaultRead
     ensures { λ x. ⌜ x ≡ optionalValue r base ⌝ }
 {
-    match r {
-        ValueRead::Read(v, c) => DefaultRead::Optional(Default::Present(v), c),
-        ValueRead::NoValue(l) => no_default(l, base),
+    let DefaultRead::NoDefault(l) = r else {
+        return r;
+    };
+    match l {
+        Lost::Fail(_) => DefaultRead::Read(DefaultValue::Absent, base),
+        Lost::Stop(n, p) => DefaultRead::NoDefault(Lost::Stop(n, p)),
     }
 }
 
@@ -277,11 +244,10 @@ fn optional_default(part: &[u8], base: usize) -> DefaultRead
     requires { ⌜ base + length (now part) ≤ text-limit ⌝ }
     ensures { λ r. ⌜ DefaultTo r base (now (part .entry)) ⌝ }
 {
-    let gap = whitespace1(part, base);
-    let Gap::Passed(w) = gap else {
-        return no_default(gap_lost(gap), base);
+    let gap = gap_at(part, base, base);
+    let Step::Next(c1) = gap else {
+        return optional_value(DefaultRead::NoDefault(step_lost(gap)), base);
     };
-    let c1 = w.next;
     let value = default_attribute_value(rest_at(part, base, c1), c1);
     optional_value(value, base)
 }
@@ -290,34 +256,34 @@ fn default_lost(r: DefaultRead) -> Lost
     ensures { λ x. ⌜ x ≡ defaultLost r ⌝ }
 {
     match r {
-        DefaultRead::Optional(_, c) => Lost::Fail(c),
+        DefaultRead::Read(_, c) => Lost::Fail(c),
         DefaultRead::NoDefault(l) => l,
     }
 }
 
-pub fn attribute_instantiation(part: &[u8], base: usize) -> AttributeInstanceRead
+pub fn attribute_instantiation(part: &[u8], base: usize) -> InstanceRead
     requires { ⌜ base + length (now part) ≤ text-limit ⌝ }
     ensures { λ r. ⌜ AttributeInstanceTo r base (now (part .entry)) ⌝ }
 {
     let held = attribute_handling_type(part, base);
     let Level::Chosen(handling, c1) = held else {
-        return AttributeInstanceRead::NoAttributeInstance(level_lost(held));
+        return InstanceRead::NoInstance(level_lost(held));
     };
     let gap = gap_at(part, base, c1);
     let Step::Next(c2) = gap else {
-        return AttributeInstanceRead::NoAttributeInstance(step_lost(gap));
+        return InstanceRead::NoInstance(step_lost(gap));
     };
     let named = keyword_name(rest_at(part, base, c2), c2, b"attribute");
     let Named::Name(name, end, c3) = named else {
-        return AttributeInstanceRead::NoAttributeInstance(named_lost(named));
+        return InstanceRead::NoInstance(named_lost(named));
     };
     let optional = optional_default(rest_at(part, base, c3), c3);
-    let DefaultRead::Optional(default, c4) = optional else {
-        return AttributeInstanceRead::NoAttributeInstance(default_lost(optional));
+    let DefaultRead::Read(default, c4) = optional else {
+        return InstanceRead::NoInstance(default_lost(optional));
     };
     let semicolon = tag_behind(part, base, c4, b';');
     let Step::Next(c5) = semicolon else {
-        return AttributeInstanceRead::NoAttributeInstance(step_lost(semicolon));
+        return InstanceRead::NoInstance(step_lost(semicolon));
     };
     let a = AttributeInstanceParts {
         handling,
@@ -325,27 +291,29 @@ pub fn attribute_instantiation(part: &[u8], base: usize) -> AttributeInstanceRea
         end,
         default,
     };
-    AttributeInstanceRead::AttributeInstance(a, c5)
+    InstanceRead::AttributeInstance(a, c5)
 }
 
-// The end of an attribute's instance.
-fn attribute_instance_end(part: &[u8], base: usize) -> Step
-    requires { ⌜ base + length (now part) ≤ text-limit ⌝ }
-    ensures { λ r. ⌜ Skips attribute-instantiation r base (now (part .entry)) ⌝ }
+// An instance of a command or of an event, by the kind of its record.
+fn named_instance(kind: u8, r: Named) -> InstanceRead
+    ensures { λ x. ⌜ x ≡ namedInstance kind r ⌝ }
 {
-    let r = attribute_instantiation(part, base);
     match r {
-        AttributeInstanceRead::AttributeInstance(_, c) => Step::Next(c),
-        AttributeInstanceRead::NoAttributeInstance(l) => Step::Not(l),
+        Named::Name(name, end, c) => InstanceRead::NamedInstance(kind, name, end, c),
+        Named::NoName(l) => InstanceRead::NoInstance(l),
     }
 }
 
-pub fn tried_lost(r: Tried) -> Lost
-    ensures { λ x. ⌜ x ≡ triedLost r ⌝ }
+// The one try for an instance that its first letter leaves; the others fail at their start.
+fn instance(part: &[u8], base: usize) -> InstanceRead
+    requires { ⌜ base + length (now part) ≤ text-limit ⌝ }
+    ensures { λ r. ⌜ InstanceTo r base (now (part .entry)) ⌝ }
 {
-    match r {
-        Tried::Found(_, c, _) => Lost::Fail(c),
-        Tried::NotFound(l) => l,
+    let x = lower_of(peek(part, 0));
+    match x {
+        b'h' => named_instance(15, named_after(part, base, b"handle", b"command")),
+        b'e' => named_instance(16, named_after(part, base, b"emits", b"event")),
+        _ => attribute_instantiation(part, base),
     }
 }
 
@@ -369,76 +337,39 @@ pub fn further(l: Lost, q: usize) -> Lost
     }
 }
 
-// The end of a loop of tries after n words, at an offset: a try that fails ends it at the furthest place, and a stop goes on.
-fn tried_end(l: Lost, n: usize, c: usize) -> Tried
-    ensures { λ x. ⌜ x ≡ triedEnd l n c ⌝ }
+// The first pass over an instance: that of an attribute takes two words, the others one.
+fn count_instance(part: &[u8], base: usize) -> Count
+    requires { ⌜ base + length (now part) ≤ text-limit ⌝ }
+    ensures { λ r. ⌜ TriedTo (λ i. instance-record i ∷ []) instance-tries r base (now (part .entry)) ⌝ }
 {
-    match l {
-        Lost::Fail(p) => Tried::Found(n, c, p),
-        Lost::Stop(i, p) => Tried::NotFound(Lost::Stop(i, p)),
+    let r = instance(part, base);
+    match r {
+        InstanceRead::AttributeInstance(_, c) => Count::Words(2, c),
+        InstanceRead::NamedInstance(_, _, _, c) => Count::Words(1, c),
+        InstanceRead::NoInstance(l) => Count::NoCount(l),
     }
 }
 
-// The closing brace behind tries; where it is missing the place is the furthest.
-fn deep_close(part: &[u8], base: usize, q: usize) -> Step
+// The first pass over instances behind their opening brace, up to the closing one: where that does not stand, there is one more of them.
+fn count_instances(part: &[u8], base: usize) -> Count
     requires { ⌜ base + length (now part) ≤ text-limit ⌝ }
-    ensures { λ r. ⌜ tagReply r base (now (part .entry)) ≡ deep-close q base (now (part .entry)) ⌝ }
-{
-    let w = whitespace0(part, base);
-    let c1 = w.next;
-    let close = tag(rest_at(part, base, c1), c1, b'}');
-    let Step::Next(c2) = close else {
-        return Step::Not(further(step_lost(close), q));
-    };
-    Step::Next(c2)
-}
-
-// The tries for an instance, after the furthest place so far: those of attributes take two words, the others one.
-fn instance_tries(part: &[u8], base: usize, q: usize) -> Tried
-    requires { ⌜ base + length (now part) ≤ text-limit ⌝ }
-    ensures { λ r. ⌜ TriedTo (λ i. instance-record i ∷ []) (instance-tries q) r base (now (part .entry)) ⌝ }
-{
-    let attribute = attribute_instance_end(part, base);
-    if let Step::Next(c) = attribute {
-        return Tried::Found(2, c, q);
-    }
-    let first = further(step_lost(attribute), q);
-    let Lost::Fail(q1) = first else {
-        return Tried::NotFound(first);
-    };
-    let command = named_after(part, base, b"handle", b"command");
-    if let Named::Name(_, _, c) = command {
-        return Tried::Found(1, c, q1);
-    }
-    let second = further(named_lost(command), q1);
-    let Lost::Fail(q2) = second else {
-        return Tried::NotFound(second);
-    };
-    let event = named_after(part, base, b"emits", b"event");
-    if let Named::Name(_, _, c) = event {
-        return Tried::Found(1, c, q2);
-    }
-    Tried::NotFound(further(named_lost(event), q2))
-}
-
-// The first pass over instances.
-fn count_instances(part: &[u8], base: usize) -> Tried
-    requires { ⌜ base + length (now part) ≤ text-limit ⌝ }
-    ensures { λ r. ⌜ DeepTo (map instance-record) (deep-run instance-tries) r base (now (part .entry)) ⌝ }
+    ensures { λ r. ⌜ CountTo (map instance-record) (deep-rest instance-tries) r base (now (part .entry)) ⌝ }
 {
     let mut c = base;
     let mut n = 0;
-    let mut q = base;
     loop {
-        let w = whitespace0(rest_at(part, base, c), c);
-        let start = w.next;
-        let r = instance_tries(rest_at(part, base, start), start, q);
-        let Tried::Found(k, next, far) = r else {
-            return tried_end(further(tried_lost(r), q), n, c);
+        let start = blank_at(part, base, c);
+        let rest = rest_at(part, base, start);
+        let close = tag(rest, start, b'}');
+        if let Step::Next(end) = close {
+            return Count::Words(n, end);
+        }
+        let r = count_instance(rest, start);
+        let Count::Words(k, next) = r else {
+            return r;
         };
         c = next;
         n += k;
-        q = far;
     }
 }
 
@@ -448,18 +379,10 @@ fn instances(part: &[u8], base: usize) -> Count
     ensures { λ r. ⌜ CountTo (map instance-record) (deep-braces instance-tries) r base (now (part .entry)) ⌝ }
 {
     let brace = tag(part, base, b'{');
-    let Step::Next(c1) = brace else {
+    let Step::Next(c) = brace else {
         return Count::NoCount(step_lost(brace));
     };
-    let run = count_instances(rest_at(part, base, c1), c1);
-    let Tried::Found(n, c2, q) = run else {
-        return Count::NoCount(tried_lost(run));
-    };
-    let close = deep_close(rest_at(part, base, c2), c2, q);
-    let Step::Next(c3) = close else {
-        return Count::NoCount(step_lost(close));
-    };
-    Count::Words(n, c3)
+    count_instances(rest_at(part, base, c), c)
 }
 
 // A cluster instantiation up to its instances: its name.
@@ -492,65 +415,64 @@ pub fn cluster_instantiation(part: &[u8], base: usize) -> Count
     Count::Words(n + 1, c2)
 }
 
-// A binding, which may stand behind blanks.
-fn blank_binding(part: &[u8], base: usize) -> Named
+// The first pass over a binding: one word.
+fn count_binding(part: &[u8], base: usize) -> Count
     requires { ⌜ base + length (now part) ≤ text-limit ⌝ }
-    ensures { λ r. ⌜ NamedTo blank-binding r base (now (part .entry)) ⌝ }
+    ensures { λ r. ⌜ CountTo (λ n. part-records (binding n)) (named-after (ascii "binding") (ascii "cluster")) r base (now (part .entry)) ⌝ }
 {
-    let c1 = blank_at(part, base, base);
-    let named = named_after(rest_at(part, base, c1), c1, b"binding", b"cluster");
-    let Named::Name(name, end, c2) = named else {
-        return Named::NoName(named_lost(named));
-    };
-    Named::Name(name, end, c2)
+    let r = named_after(part, base, b"binding", b"cluster");
+    match r {
+        Named::Name(_, _, c) => Count::Words(1, c),
+        Named::NoName(l) => Count::NoCount(l),
+    }
 }
 
-// The tries for a part of an endpoint, after the furthest place so far: a device type takes three words, a binding one.
-fn part_tries(part: &[u8], base: usize, q: usize) -> Tried
+// The first pass over a device type: three words.
+fn count_device_type(part: &[u8], base: usize) -> Count
     requires { ⌜ base + length (now part) ≤ text-limit ⌝ }
-    ensures { λ r. ⌜ TriedTo part-records (part-tries q) r base (now (part .entry)) ⌝ }
+    ensures { λ r. ⌜ CountTo (λ t. part-records (device t)) device-type r base (now (part .entry)) ⌝ }
 {
-    let device = device_type(part, base);
-    if let DeviceTypeRead::DeviceType(_, c) = device {
-        return Tried::Found(3, c, q);
+    let r = device_type(part, base);
+    match r {
+        DeviceTypeRead::DeviceType(_, c) => Count::Words(3, c),
+        DeviceTypeRead::NoDeviceType(l) => Count::NoCount(l),
     }
-    let first = further(device_type_lost(device), q);
-    let Lost::Fail(q1) = first else {
-        return Tried::NotFound(first);
-    };
-    let binding = blank_binding(part, base);
-    if let Named::Name(_, _, c) = binding {
-        return Tried::Found(1, c, q1);
-    }
-    let second = further(named_lost(binding), q1);
-    let Lost::Fail(q2) = second else {
-        return Tried::NotFound(second);
-    };
-    let instantiation = cluster_instantiation(part, base);
-    if let Count::Words(n, c) = instantiation {
-        return Tried::Found(n, c, q2);
-    }
-    Tried::NotFound(further(count_lost(instantiation), q2))
 }
 
-// The first pass over the parts of an endpoint.
-fn count_parts(part: &[u8], base: usize) -> Tried
+// The first pass over a part of an endpoint, before which no blank stands: the one try that its first letter leaves; the others fail at their start.
+fn count_part(part: &[u8], base: usize) -> Count
     requires { ⌜ base + length (now part) ≤ text-limit ⌝ }
-    ensures { λ r. ⌜ DeepTo (each part-records) (deep-run part-tries) r base (now (part .entry)) ⌝ }
+    requires { ⌜ whitespace0 base (now part) ≡ ok no-doc base (now part) ⌝ }
+    ensures { λ r. ⌜ TriedTo part-records part-tries r base (now (part .entry)) ⌝ }
+{
+    let x = lower_of(peek(part, 0));
+    match x {
+        b's' => cluster_instantiation(part, base),
+        b'b' => count_binding(part, base),
+        _ => count_device_type(part, base),
+    }
+}
+
+// The first pass over parts behind their opening brace, up to the closing one: where that does not stand, there is one more of them.
+fn count_parts(part: &[u8], base: usize) -> Count
+    requires { ⌜ base + length (now part) ≤ text-limit ⌝ }
+    ensures { λ r. ⌜ CountTo (each part-records) (deep-rest part-tries) r base (now (part .entry)) ⌝ }
 {
     let mut c = base;
     let mut n = 0;
-    let mut q = base;
     loop {
-        let w = whitespace0(rest_at(part, base, c), c);
-        let start = w.next;
-        let r = part_tries(rest_at(part, base, start), start, q);
-        let Tried::Found(k, next, far) = r else {
-            return tried_end(further(tried_lost(r), q), n, c);
+        let start = blank_at(part, base, c);
+        let rest = rest_at(part, base, start);
+        let close = tag(rest, start, b'}');
+        if let Step::Next(end) = close {
+            return Count::Words(n, end);
+        }
+        let r = count_part(rest, start);
+        let Count::Words(k, next) = r else {
+            return r;
         };
         c = next;
         n += k;
-        q = far;
     }
 }
 
@@ -560,18 +482,10 @@ fn parts(part: &[u8], base: usize) -> Count
     ensures { λ r. ⌜ CountTo (each part-records) (deep-braces part-tries) r base (now (part .entry)) ⌝ }
 {
     let brace = tag(part, base, b'{');
-    let Step::Next(c1) = brace else {
+    let Step::Next(c) = brace else {
         return Count::NoCount(step_lost(brace));
     };
-    let run = count_parts(rest_at(part, base, c1), c1);
-    let Tried::Found(n, c2, q) = run else {
-        return Count::NoCount(tried_lost(run));
-    };
-    let close = deep_close(rest_at(part, base, c2), c2, q);
-    let Step::Next(c3) = close else {
-        return Count::NoCount(step_lost(close));
-    };
-    Count::Words(n, c3)
+    count_parts(rest_at(part, base, c), c)
 }
 
 // An endpoint up to its parts: its number.
@@ -644,23 +558,15 @@ fn put_device_type(out: &mut [u8], at: usize, t: DeviceTypeParts)
 }
 
 // The number of a default's kind.
-fn value_number(v: DefaultValue) -> u8
-    ensures { λ r. ⌜ r ≡ default-number (some (valueOf v)) ⌝ }
+fn default_number(d: DefaultValue) -> u8
+    ensures { λ r. ⌜ r ≡ default-number (defaultOf d) ⌝ }
 {
-    match v {
+    match d {
+        DefaultValue::Absent => 0,
         DefaultValue::Number(_) => 1,
         DefaultValue::Signed(_, _) => 2,
         DefaultValue::Truth(_) => 3,
         DefaultValue::Text(_) => 4,
-    }
-}
-
-fn default_number(d: Default) -> u8
-    ensures { λ r. ⌜ r ≡ default-number (defaultOf d) ⌝ }
-{
-    match d {
-        Default::Absent => 0,
-        Default::Present(v) => value_number(v),
     }
 }
 
@@ -678,25 +584,16 @@ fn twos_complement(negative: bool, v: u64) -> u64
 }
 
 // The word of a default: a number, a truth, or a string's span.
-fn value_word(v: DefaultValue) -> u64
-    requires { ⌜ SpanIn v text-limit ⌝ }
-    ensures { λ r. ⌜ r ≡ further-word layout-20 (default-word (some (valueOf v))) ⌝ }
-{
-    match v {
-        DefaultValue::Number(n) => n,
-        DefaultValue::Signed(negative, n) => twos_complement(negative, n),
-        DefaultValue::Truth(t) => flag(t) as u64,
-        DefaultValue::Text(s) => span_word(s.start, s.length),
-    }
-}
-
-fn default_word(d: Default) -> u64
+fn default_word(d: DefaultValue) -> u64
     requires { ⌜ DefaultIn d text-limit ⌝ }
     ensures { λ r. ⌜ r ≡ further-word layout-20 (default-word (defaultOf d)) ⌝ }
 {
     match d {
-        Default::Absent => 0,
-        Default::Present(v) => value_word(v),
+        DefaultValue::Absent => 0,
+        DefaultValue::Number(n) => n,
+        DefaultValue::Signed(negative, n) => twos_complement(negative, n),
+        DefaultValue::Truth(t) => flag(t) as u64,
+        DefaultValue::Text(s) => span_word(s.start, s.length),
     }
 }
 
@@ -723,33 +620,26 @@ fn put_endpoint(out: &mut [u8], at: usize, id: u64)
 // The second pass over an instance.
 fn write_instance(part: &[u8], base: usize, out: &mut [u8], at: usize) -> Wrote
     requires { ⌜ base + length (now part) ≤ text-limit ⌝ }
-    requires { ⌜ TryRoom (λ i. instance-record i ∷ []) instance-tries base (now part) at (length (now out)) ⌝ }
-    ensures { λ r. ⌜ TryWritten (λ i. instance-record i ∷ []) instance-tries base (now (part .entry)) at r (now (out .entry)) (now (out .exit)) ⌝ }
+    requires { ⌜ Room (λ t. instance-record (t .found) ∷ []) (instance-tries base) base (now part) at (length (now out)) ⌝ }
+    ensures { λ r. ⌜ Written (λ t. instance-record (t .found) ∷ []) (instance-tries base) base (now (part .entry)) at r (now (out .entry)) (now (out .exit)) ⌝ }
 {
-    let attribute = attribute_instantiation(part, base);
-    if let AttributeInstanceRead::AttributeInstance(a, c) = attribute {
-        put_attribute_instance(out, at, a);
-        return Wrote {
-            next: c,
-            to: at + 16,
-        };
-    }
-    let command = named_after(part, base, b"handle", b"command");
-    if let Named::Name(name, end, c) = command {
-        put_named(out, at, 15, name, end);
-        return Wrote {
-            next: c,
-            to: at + 8,
-        };
-    }
-    let event = named_after(part, base, b"emits", b"event");
-    let Named::Name(name, end, c) = event else {
-        return Wrote { next: base, to: at };
-    };
-    put_named(out, at, 16, name, end);
-    Wrote {
-        next: c,
-        to: at + 8,
+    let r = instance(part, base);
+    match r {
+        InstanceRead::AttributeInstance(a, c) => {
+            put_attribute_instance(out, at, a);
+            Wrote {
+                next: c,
+                to: at + 16,
+            }
+        }
+        InstanceRead::NamedInstance(kind, name, end, c) => {
+            put_named(out, at, kind, name, end);
+            Wrote {
+                next: c,
+                to: at + 8,
+            }
+        }
+        InstanceRead::NoInstance(_) => Wrote { next: base, to: at },
     }
 }
 
@@ -762,32 +652,19 @@ fn write_instances(part: &[u8], base: usize, out: &mut [u8], at: usize) -> Wrote
     let mut c = base;
     let mut to = at;
     loop {
-        let w = whitespace0(rest_at(part, base, c), c);
-        let start = w.next;
-        let close = tag(rest_at(part, base, start), start, b'}');
+        let start = blank_at(part, base, c);
+        let rest = rest_at(part, base, start);
+        let close = tag(rest, start, b'}');
         if let Step::Next(end) = close {
             return Wrote { next: end, to };
         }
-        let wrote = write_instance(rest_at(part, base, start), start, out, to);
+        let wrote = write_instance(rest, start, out, to);
         c = wrote.next;
         to = wrote.to;
     }
 }
 
-// The second pass over instances between braces.
-fn braced_instances(part: &[u8], base: usize, out: &mut [u8], at: usize) -> Wrote
-    requires { ⌜ base + length (now part) ≤ text-limit ⌝ }
-    requires { ⌜ Room (map instance-record) (deep-braces instance-tries) base (now part) at (length (now out)) ⌝ }
-    ensures { λ r. ⌜ Written (map instance-record) (deep-braces instance-tries) base (now (part .entry)) at r (now (out .entry)) (now (out .exit)) ⌝ }
-{
-    let brace = tag(part, base, b'{');
-    let Step::Next(c) = brace else {
-        return Wrote { next: base, to: at };
-    };
-    write_instances(rest_at(part, base, c), c, out, at)
-}
-
-// The second pass over a cluster instantiation.
+// The second pass over a cluster instantiation: behind its head stands the opening brace.
 fn write_cluster_instantiation(part: &[u8], base: usize, out: &mut [u8], at: usize) -> Wrote
     requires { ⌜ base + length (now part) ≤ text-limit ⌝ }
     requires { ⌜ Room (λ i. part-records (instantiation i)) cluster-instantiation base (now part) at (length (now out)) ⌝ }
@@ -797,16 +674,18 @@ fn write_cluster_instantiation(part: &[u8], base: usize, out: &mut [u8], at: usi
     let Named::Name(name, end, c) = head else {
         return Wrote { next: base, to: at };
     };
-    let wrote = braced_instances(rest_at(part, base, c), c, out, at + 8);
+    let opened = c + 1;
+    let wrote = write_instances(rest_at(part, base, opened), opened, out, at + 8);
     put_named(out, at, 13, name, end);
     wrote
 }
 
-// The second pass over a part of an endpoint. A try that fails here costs no more than its first word.
+// The second pass over a part of an endpoint, before which no blank stands. A try that fails here costs no more than its first word.
 fn write_part(part: &[u8], base: usize, out: &mut [u8], at: usize) -> Wrote
     requires { ⌜ base + length (now part) ≤ text-limit ⌝ }
-    requires { ⌜ TryRoom part-records part-tries base (now part) at (length (now out)) ⌝ }
-    ensures { λ r. ⌜ TryWritten part-records part-tries base (now (part .entry)) at r (now (out .entry)) (now (out .exit)) ⌝ }
+    requires { ⌜ whitespace0 base (now part) ≡ ok no-doc base (now part) ⌝ }
+    requires { ⌜ Room (λ t. part-records (t .found)) (part-tries base) base (now part) at (length (now out)) ⌝ }
+    ensures { λ r. ⌜ Written (λ t. part-records (t .found)) (part-tries base) base (now (part .entry)) at r (now (out .entry)) (now (out .exit)) ⌝ }
 {
     let device = device_type(part, base);
     if let DeviceTypeRead::DeviceType(t, c) = device {
@@ -816,7 +695,7 @@ fn write_part(part: &[u8], base: usize, out: &mut [u8], at: usize) -> Wrote
             to: at + 24,
         };
     }
-    let binding = blank_binding(part, base);
+    let binding = named_after(part, base, b"binding", b"cluster");
     if let Named::Name(name, end, c) = binding {
         put_named(out, at, 12, name, end);
         return Wrote {
@@ -836,32 +715,19 @@ fn write_parts(part: &[u8], base: usize, out: &mut [u8], at: usize) -> Wrote
     let mut c = base;
     let mut to = at;
     loop {
-        let w = whitespace0(rest_at(part, base, c), c);
-        let start = w.next;
-        let close = tag(rest_at(part, base, start), start, b'}');
+        let start = blank_at(part, base, c);
+        let rest = rest_at(part, base, start);
+        let close = tag(rest, start, b'}');
         if let Step::Next(end) = close {
             return Wrote { next: end, to };
         }
-        let wrote = write_part(rest_at(part, base, start), start, out, to);
+        let wrote = write_part(rest, start, out, to);
         c = wrote.next;
         to = wrote.to;
     }
 }
 
-// The second pass over parts between braces.
-fn braced_parts(part: &[u8], base: usize, out: &mut [u8], at: usize) -> Wrote
-    requires { ⌜ base + length (now part) ≤ text-limit ⌝ }
-    requires { ⌜ Room (each part-records) (deep-braces part-tries) base (now part) at (length (now out)) ⌝ }
-    ensures { λ r. ⌜ Written (each part-records) (deep-braces part-tries) base (now (part .entry)) at r (now (out .entry)) (now (out .exit)) ⌝ }
-{
-    let brace = tag(part, base, b'{');
-    let Step::Next(c) = brace else {
-        return Wrote { next: base, to: at };
-    };
-    write_parts(rest_at(part, base, c), c, out, at)
-}
-
-// The second pass over an endpoint.
+// The second pass over an endpoint: behind its head stands the opening brace.
 pub fn write_endpoint(part: &[u8], base: usize, out: &mut [u8], at: usize) -> Wrote
     requires { ⌜ base + length (now part) ≤ text-limit ⌝ }
     requires { ⌜ Room endpoint-records endpoint base (now part) at (length (now out)) ⌝ }
@@ -871,7 +737,8 @@ pub fn write_endpoint(part: &[u8], base: usize, out: &mut [u8], at: usize) -> Wr
     let Number::Value(id, c) = head else {
         return Wrote { next: base, to: at };
     };
-    let wrote = braced_parts(rest_at(part, base, c), c, out, at + 16);
+    let opened = c + 1;
+    let wrote = write_parts(rest_at(part, base, opened), opened, out, at + 16);
     put_endpoint(out, at, id);
     wrote
 }

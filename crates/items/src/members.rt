@@ -4,16 +4,15 @@ ghost use mathlib.Core.List.{[], _∷_};
 ghost use Prim.Native.Nat.{_+_, _-_, _≤_, _<_};
 ghost use lib.Dec.{ltb};
 ghost use lib.ListN.{length};
-ghost use Rattle.lexing.specs.answers.{docOf};
+ghost use Rattle.lexing.specs.answers.{docOf, Skips, SkipsAt};
 ghost use Rattle.items.specs.layout.{text-limit, layout-20, further-word, catalogue-bytes};
 ghost use Rattle.lexing.specs.buffers.{put};
 ghost use Rattle.items.specs.records.{spanned, event-records};
-ghost use Rattle.items.specs.members.{or-else, access-privilege, event-priority, access-to, invoke-access, parse-event-after-doc-maturity, parse-command-after-doc-maturity};
-ghost use Rattle.items.specs.answers.{CountTo, FrontFits, Room, Written};
-ghost use Rattle.items.specs.answers.members.{levelLost, LevelTo, levelOr, eventQualitiesLost, EventQualitiesTo, eventHeadLost, EventHeadTo, EventCountTo, commandHeadLost, CommandHeadTo, commandTypesLost, CommandTypesTo, commandLost, EventHeadBetween, CommandBetween, CommandTo, command-records};
+ghost use Rattle.items.specs.members.{access-privilege, event-priority, parse-event-after-doc-maturity, parse-command-after-doc-maturity};
+ghost use Rattle.items.specs.answers.{FrontFits, Room, Written};
+ghost use Rattle.items.specs.answers.members.{levelLost, LevelTo, LevelAt, access-opening, colon-privilege, PrivilegeTo, eventQualitiesLost, EventQualitiesTo, eventHeadLost, EventHeadTo, EventCountTo, commandHeadLost, CommandHeadTo, commandTypesLost, CommandTypesTo, EventHeadBetween, CommandBetween, CommandTo, CommandCountTo, command-records};
 ghost use Rattle.items.specs.answers.members.{numbered};
-ghost use Rattle.items.specs.clusters.{mapped};
-ghost use Rattle.items.specs.inner.members.{event-access, extentIf, commandFront, command-parts, event-first};
+ghost use Rattle.items.specs.inner.members.{event-word, extentIf, command-parts, event-first};
 use crate::counts::Count;
 use crate::structs::struct_fields;
 use crate::structs::write_struct_fields;
@@ -29,8 +28,6 @@ use crate::writing::span_word;
 use lexing::answers::Lost;
 use lexing::answers::Step;
 use lexing::answers::step_lost;
-use lexing::blanks::DocSpan;
-use lexing::blanks::whitespace0;
 use lexing::buffers::put_three;
 use lexing::bytes::lower_of;
 use lexing::integers::Number;
@@ -55,6 +52,12 @@ use lexing::words::tag;
 pub enum Level {
     Chosen(u8, usize),
     NoLevel(Lost),
+}
+
+// The privilege to read an event or to invoke a command, and the offset behind it.
+pub struct Privilege {
+    pub level: u8,
+    pub next: usize,
 }
 
 // Up to an event's name: its flag, its priority and the privilege to read it.
@@ -111,16 +114,8 @@ pub enum CommandTypesRead {
 }
 
 pub struct CommandParts {
-    pub doc: DocSpan,
-    pub maturity: u8,
-    pub flags: u8,
-    pub access: u8,
-    pub name: usize,
-    pub end: usize,
-    pub input: usize,
-    pub input_end: usize,
-    pub output: usize,
-    pub output_end: usize,
+    pub head: CommandHeadParts,
+    pub types: CommandTypesParts,
     pub code: u64,
 }
 
@@ -180,70 +175,74 @@ pub fn level_lost(r: Level) -> Lost
     }
 }
 
-// The answer of an optional part that stands at an offset: where it fails it is z, and nothing is read; a stop goes on.
-fn level_or(r: Level, z: u8, base: usize) -> Level
-    ensures { λ x. ⌜ x ≡ levelOr r z base ⌝ }
+// `access(`
+pub fn access_opening(part: &[u8], base: usize) -> Step
+    requires { ⌜ base + length (now part) ≤ text-limit ⌝ }
+    ensures { λ r. ⌜ Skips access-opening r base (now (part .entry)) ⌝ }
 {
-    let Level::NoLevel(l) = r else {
-        return r;
+    let access = keyword_behind(part, base, base, b"access");
+    let Step::Next(c) = access else {
+        return access;
     };
-    match l {
-        Lost::Fail(_) => Level::Chosen(z, base),
-        Lost::Stop(n, p) => Level::NoLevel(Lost::Stop(n, p)),
-    }
+    tag_behind(part, base, c, b'(')
 }
 
-// `access(KEY: privilege)`
-pub fn access_to(part: &[u8], base: usize, key: &[u8]) -> Level
-    requires { ⌜ base + length (now part) ≤ text-limit ⌝ }
-    ensures { λ r. ⌜ LevelTo (access-to (now (key .entry))) r base (now (part .entry)) ⌝ }
+// `: privilege`
+pub fn colon_privilege(part: &[u8], base: usize, c: usize) -> Level
+    requires { ⌜ ((base ≤ c) × (c ≤ base + length (now part))) × (base + length (now part) ≤ text-limit) ⌝ }
+    ensures { λ r. ⌜ LevelAt colon-privilege r base (now (part .entry)) c ⌝ }
 {
-    let access = keyword(part, base, b"access");
-    let Step::Next(c1) = access else {
-        return Level::NoLevel(step_lost(access));
-    };
-    let opening = tag_behind(part, base, c1, b'(');
-    let Step::Next(c2) = opening else {
-        return Level::NoLevel(step_lost(opening));
-    };
-    let operation = keyword_behind(part, base, c2, key);
-    let Step::Next(c3) = operation else {
-        return Level::NoLevel(step_lost(operation));
-    };
-    let colon = tag(rest_at(part, base, c3), c3, b':');
-    let Step::Next(c4) = colon else {
+    let colon = tag(rest_at(part, base, c), c, b':');
+    let Step::Next(c1) = colon else {
         return Level::NoLevel(step_lost(colon));
     };
-    let c5 = blank_at(part, base, c4);
-    let granted = access_privilege(rest_at(part, base, c5), c5);
-    let Level::Chosen(p, c6) = granted else {
-        return Level::NoLevel(level_lost(granted));
-    };
-    let closing = tag_behind(part, base, c6, b')');
-    let Step::Next(c7) = closing else {
-        return Level::NoLevel(step_lost(closing));
-    };
-    Level::Chosen(p, c7)
+    let c2 = blank_at(part, base, c1);
+    access_privilege(rest_at(part, base, c2), c2)
 }
 
-// The keyword `event`, and the privilege to read the event.
-fn event_access(part: &[u8], base: usize) -> Level
+// `access(KEY: privilege)`. Where it is not there whole, nothing is read, and the privilege is another.
+pub fn access_to(part: &[u8], base: usize, key: &[u8], otherwise: u8) -> Privilege
     requires { ⌜ base + length (now part) ≤ text-limit ⌝ }
-    ensures { λ r. ⌜ LevelTo (mapped event-access (or-else 0)) r base (now (part .entry)) ⌝ }
+    requires { ⌜ otherwise < 4 ⌝ }
+    ensures { λ r. ⌜ PrivilegeTo (now (key .entry)) otherwise r base (now (part .entry)) ⌝ }
 {
-    let gap1 = gap_at(part, base, base);
-    let Step::Next(c1) = gap1 else {
-        return Level::NoLevel(step_lost(gap1));
+    let absent = Privilege {
+        level: otherwise,
+        next: base,
+    };
+    let opening = access_opening(part, base);
+    let Step::Next(c1) = opening else {
+        return absent;
+    };
+    let operation = keyword_behind(part, base, c1, key);
+    let Step::Next(c2) = operation else {
+        return absent;
+    };
+    let granted = colon_privilege(part, base, c2);
+    let Level::Chosen(level, c3) = granted else {
+        return absent;
+    };
+    let closing = tag_behind(part, base, c3, b')');
+    let Step::Next(next) = closing else {
+        return absent;
+    };
+    Privilege { level, next }
+}
+
+// The word `event`, and blanks before and behind it.
+fn event_word(part: &[u8], base: usize, c: usize) -> Step
+    requires { ⌜ ((base ≤ c) × (c ≤ base + length (now part))) × (base + length (now part) ≤ text-limit) ⌝ }
+    ensures { λ r. ⌜ SkipsAt event-word r base (now (part .entry)) c ⌝ }
+{
+    let gap = gap_at(part, base, c);
+    let Step::Next(c1) = gap else {
+        return gap;
     };
     let event = keyword(rest_at(part, base, c1), c1, b"event");
     let Step::Next(c2) = event else {
-        return Level::NoLevel(step_lost(event));
+        return event;
     };
-    let gap2 = gap_at(part, base, c2);
-    let Step::Next(c3) = gap2 else {
-        return Level::NoLevel(step_lost(gap2));
-    };
-    level_or(access_to(rest_at(part, base, c3), c3, b"read"), 0, c3)
+    gap_at(part, base, c2)
 }
 
 pub fn event_qualities(part: &[u8], base: usize) -> EventQualitiesRead
@@ -257,18 +256,18 @@ pub fn event_qualities(part: &[u8], base: usize) -> EventQualitiesRead
     let Level::Chosen(rank, c3) = priority else {
         return EventQualitiesRead::NoEventQualities(level_lost(priority));
     };
-    let access = event_access(rest_at(part, base, c3), c3);
-    let Level::Chosen(privilege, c4) = access else {
-        return EventQualitiesRead::NoEventQualities(level_lost(access));
+    let event = event_word(part, base, c3);
+    let Step::Next(c4) = event else {
+        return EventQualitiesRead::NoEventQualities(step_lost(event));
     };
-    let sensitive = q.flags;
+    let access = access_to(rest_at(part, base, c4), c4, b"read", 0);
     EventQualitiesRead::EventQualities(
         EventQualitiesParts {
-            sensitive,
+            sensitive: q.flags,
             rank,
-            privilege,
+            privilege: access.level,
         },
-        c4,
+        access.next,
     )
 }
 
@@ -337,15 +336,6 @@ pub fn parse_event_after_doc_maturity(part: &[u8], base: usize) -> Count
     Count::Words(n + 3, c2)
 }
 
-fn invoke_access(part: &[u8], base: usize) -> Level
-    requires { ⌜ base + length (now part) ≤ text-limit ⌝ }
-    ensures { λ r. ⌜ LevelTo invoke-access r base (now (part .entry)) ⌝ }
-{
-    let w = whitespace0(part, base);
-    let c1 = w.next;
-    access_to(rest_at(part, base, c1), c1, b"invoke")
-}
-
 pub fn command_head(part: &[u8], base: usize) -> CommandHeadRead
     requires { ⌜ base + length (now part) ≤ text-limit ⌝ }
     ensures { λ r. ⌜ CommandHeadTo r base (now (part .entry)) ⌝ }
@@ -356,20 +346,17 @@ pub fn command_head(part: &[u8], base: usize) -> CommandHeadRead
     let Step::Next(c2) = command else {
         return CommandHeadRead::NoCommandHead(step_lost(command));
     };
-    let access = level_or(invoke_access(rest_at(part, base, c2), c2), 1, c2);
-    let Level::Chosen(privilege, c3) = access else {
-        return CommandHeadRead::NoCommandHead(level_lost(access));
-    };
+    let access = access_to(rest_at(part, base, c2), c2, b"invoke", 1);
+    let c3 = access.next;
     let c4 = blank_at(part, base, c3);
     let id = parse_id(rest_at(part, base, c4), c4);
     let Step::Next(c5) = id else {
         return CommandHeadRead::NoCommandHead(step_lost(id));
     };
-    let qualities = q.flags;
     CommandHeadRead::CommandHead(
         CommandHeadParts {
-            qualities,
-            privilege,
+            qualities: q.flags,
+            privilege: access.level,
             name: c4,
             end: c5,
         },
@@ -428,22 +415,17 @@ pub fn command_types_lost(r: CommandTypesRead) -> Lost
     }
 }
 
-pub fn parse_command_after_doc_maturity(
-    part: &[u8],
-    base: usize,
-    doc: DocSpan,
-    maturity: u8,
-) -> CommandRead
+pub fn parse_command_after_doc_maturity(part: &[u8], base: usize) -> CommandRead
     requires { ⌜ base + length (now part) ≤ text-limit ⌝ }
-    ensures { λ r. ⌜ CommandTo doc maturity r base (now (part .entry)) ⌝ }
+    ensures { λ r. ⌜ CommandTo r base (now (part .entry)) ⌝ }
 {
-    let head = command_head(part, base);
-    let CommandHeadRead::CommandHead(h, c1) = head else {
-        return CommandRead::NoCommand(command_head_lost(head));
+    let r1 = command_head(part, base);
+    let CommandHeadRead::CommandHead(head, c1) = r1 else {
+        return CommandRead::NoCommand(command_head_lost(r1));
     };
-    let types = command_types(rest_at(part, base, c1), c1);
-    let CommandTypesRead::CommandTypes(t, c2) = types else {
-        return CommandRead::NoCommand(command_types_lost(types));
+    let r2 = command_types(rest_at(part, base, c1), c1);
+    let CommandTypesRead::CommandTypes(types, c2) = r2 else {
+        return CommandRead::NoCommand(command_types_lost(r2));
     };
     let number = code_behind(part, base, c2);
     let Number::Value(code, c3) = number else {
@@ -453,31 +435,7 @@ pub fn parse_command_after_doc_maturity(
     let Step::Next(c4) = semicolon else {
         return CommandRead::NoCommand(step_lost(semicolon));
     };
-    CommandRead::Command(
-        CommandParts {
-            doc,
-            maturity,
-            flags: h.qualities,
-            access: h.privilege,
-            name: h.name,
-            end: h.end,
-            input: t.input,
-            input_end: t.input_end,
-            output: t.output,
-            output_end: t.output_end,
-            code,
-        },
-        c4,
-    )
-}
-
-pub fn command_lost(r: CommandRead) -> Lost
-    ensures { λ x. ⌜ x ≡ commandLost r ⌝ }
-{
-    match r {
-        CommandRead::Command(_, c) => Lost::Fail(c),
-        CommandRead::NoCommand(l) => l,
-    }
+    CommandRead::Command(CommandParts { head, types, code }, c4)
 }
 
 // The span between two offsets, or zeros where there is nothing between them.
@@ -493,27 +451,29 @@ fn optional_span_word(from: usize, to: usize) -> u64
 }
 
 // The record of a command.
-fn put_command(out: &mut [u8], at: usize, p: CommandParts)
+fn put_command(out: &mut [u8], at: usize, front: FrontParts, p: CommandParts)
     requires { ⌜ at + 40 ≤ length (now out) ⌝ }
-    requires { ⌜ FrontFits (commandFront p) ⌝ }
+    requires { ⌜ FrontFits front ⌝ }
     requires { ⌜ CommandBetween 0 p text-limit ⌝ }
-    ensures { λ _. ⌜ now (out .exit) ≡ put at (catalogue-bytes layout-20 (command-parts p ∷ [])) (now (out .entry)) ⌝ }
+    ensures { λ _. ⌜ now (out .exit) ≡ put at (catalogue-bytes layout-20 (command-parts front p ∷ [])) (now (out .entry)) ⌝ }
 {
-    let doc = p.doc;
+    let doc = front.doc;
+    let h = p.head;
+    let t = p.types;
     let first = First {
         kind: 8,
         place: 0,
-        maturity: p.maturity,
+        maturity: front.maturity,
         documented: doc_bit(doc),
-        flags: p.flags * 32 + flag(p.input < p.input_end) * 16,
-        name: p.name,
-        size: p.end - p.name,
-        privilege: p.access,
+        flags: h.qualities * 32 + flag(t.input < t.input_end) * 16,
+        name: h.name,
+        size: h.end - h.name,
+        privilege: h.privilege,
         further: 0,
     };
     put_documented(out, at, first, doc);
-    let input = optional_span_word(p.input, p.input_end);
-    let output = span_word(p.output, p.output_end - p.output);
+    let input = optional_span_word(t.input, t.input_end);
+    let output = span_word(t.output, t.output_end - t.output);
     put_three(out, at + 16, input, output, p.code);
 }
 
@@ -552,12 +512,11 @@ pub fn write_command(
     requires { ⌜ Room command-records (parse-command-after-doc-maturity (docOf (front .doc)) (front .maturity)) base (now part) at (length (now out)) ⌝ }
     ensures { λ r. ⌜ Written command-records (parse-command-after-doc-maturity (docOf (front .doc)) (front .maturity)) base (now (part .entry)) at r (now (out .entry)) (now (out .exit)) ⌝ }
 {
-    let doc = front.doc;
-    let r = parse_command_after_doc_maturity(part, base, doc, front.maturity);
+    let r = parse_command_after_doc_maturity(part, base);
     let CommandRead::Command(p, c) = r else {
         return Wrote { next: base, to: at };
     };
-    put_command(out, at, p);
+    put_command(out, at, front, p);
     Wrote {
         next: c,
         to: at + 40,
@@ -581,13 +540,13 @@ pub fn write_event(part: &[u8], base: usize, front: FrontParts, out: &mut [u8], 
 }
 
 // The first pass over a command: five words.
-pub fn count_command(part: &[u8], base: usize, doc: DocSpan, maturity: u8) -> Count
+pub fn count_command(part: &[u8], base: usize) -> Count
     requires { ⌜ base + length (now part) ≤ text-limit ⌝ }
-    ensures { λ r. ⌜ CountTo command-records (parse-command-after-doc-maturity (docOf doc) maturity) r base (now (part .entry)) ⌝ }
+    ensures { λ r. ⌜ CommandCountTo r base (now (part .entry)) ⌝ }
 {
-    let r = parse_command_after_doc_maturity(part, base, doc, maturity);
-    let CommandRead::Command(_, c) = r else {
-        return Count::NoCount(command_lost(r));
-    };
-    Count::Words(5, c)
+    let r = parse_command_after_doc_maturity(part, base);
+    match r {
+        CommandRead::Command(_, c) => Count::Words(5, c),
+        CommandRead::NoCommand(l) => Count::NoCount(l),
+    }
 }

@@ -1,64 +1,67 @@
 -- Lists of privileges, and attributes.
 use mathlib.Core.Path.{_≡_, refl, sym, ap, _∙_, subst}
+use mathlib.Core.Logic.{_⊎_, inl, inr}
 use mathlib.Core.Bool.{Bool, true, false}
-use mathlib.Core.Option.{none, some}
-use mathlib.Core.List.{List, [], _∷_, _++_}
+use mathlib.Core.Option.{Option, none, some}
+use mathlib.Core.List.{List, [], _∷_, _++_, append-assoc, append-nil}
 use Prim.Native.Nat.{ℕ, zero, suc, _+_, _-_, _*_, _≤_, _<_}
 use native.Mathlib.Omega.{arith}
 use lib.ListN.{length, take, drop}
 use Rattle.lexing.specs.bytes.{ascii, within, lower}
 use Rattle.lexing.specs.reply.{Reply, ok, fail, stop, Parser, ret, _>>=_, _>>_, catch, opt, prepend, manyWithin, many0, stopAt, pick}
-use Rattle.lexing.specs.words.{Word, bytesOf, offsetOf, isKeyword, isLower, keyword, any-keyword}
+use Rattle.lexing.specs.words.{Word, bytesOf, offsetOf, isKeyword, isLower, keyword, any-keyword, tag}
+use Rattle.lexing.specs.blanks.{Doc, whitespace0}
 use Rattle.lexing.specs.word_sets.{same-bytes}
-use Rattle.lexing.specs.answers.{docOf, got, lost, Rest, lostReply, reply, tagReply, wordAt, wordReply, ReadTo}
+use Rattle.lexing.specs.answers.{docOf, Rest, lostReply, reply, wordAt, wordReply, SkipsAt}
 use Rattle.lexing.specs.declared.answers.Lost.{Lost}
-use Rattle.lexing.specs.declared.blanks.DocSpan.{DocSpan}
 use Rattle.lexing.specs.declared.answers.Lost.the-variants.{Fail, Stop}
 use Rattle.lexing.specs.declared.answers.Step.{Step}
-use Rattle.lexing.specs.declared.answers.Step.the-variants.{Next}
+use Rattle.lexing.specs.declared.answers.Step.the-variants.{Next, Not}
 use Rattle.lexing.proofs.Onward.{Onward}
-use Rattle.lexing.proofs.Locality.{Consumes, chain-inside, chain-then, consumes-then-right, chain-many0, chain-opt}
+use Rattle.lexing.proofs.FirstWord.{blank-clear}
+use Rattle.lexing.proofs.Locality.{Consumes, chain-inside, consumes-then-right, chain-opt}
 use Rattle.lexing.proofs.TokenLocality.{any-keyword-chain}
-use Rattle.lexing.proofs.Slicing.{Took, took, walks, told-next, rest-self, begin, go, lose, done}
-use Rattle.lexing.proofs.Repetition.{ManyAt, manyEnd, many0-start, many0-step, many0-ends}
+use Rattle.lexing.proofs.Slicing.{Took, took, walks, told-next, rest-self, begin, go, lose, done, or-here, or-next}
+use Rattle.lexing.proofs.Repetition.{before, many0-more, many0-fail}
 use Rattle.lexing.proofs.words.Laws.{keyword-says}
-use Rattle.items.specs.members.{Access as AccessOf, access-entry, comma, separated-list0, access-list, Privileges as PrivilegesOf, granted-by, default-privileges, listed, attribute-access, Attribute as AttributeOf, parse-attribute-after-doc-maturity}
-use Rattle.items.specs.clusters.{mapped}
+use Rattle.items.specs.members.{Access as AccessOf, access-privilege, access-entry, comma, separated-list0, access-list, Privileges as PrivilegesOf, granted-by, default-privileges, listed, attribute-access, Attribute as AttributeOf, parse-attribute-after-doc-maturity}
 use Rattle.lexing.specs.buffers.{each, words-bytes, put}
 use Rattle.items.specs.records.{plain, documented, field-record, attribute-records, absent, bits}
 use Rattle.items.specs.layout.{layout-20, record-words, catalogue-words, word-count, packed, width, from-top, offset, size, catalogue-bytes, text-limit}
-use Rattle.items.specs.answers.{CountTo, first-of, docWord, docBit}
-use Rattle.items.specs.answers.attributes.{SmallPrivileges, PrivilegesTo, AttributeTo, attributeAt, AttributeBetween}
-use Rattle.items.specs.inner.attributes.{access-words, operation-of, operationBy, operationAnswer, operationLost, operationMeans, OperationTo, grantBy, grant-of, grantSmall, accessLost, AccessTo, separated-entry, grantsWith, grants-from, grantsSmall, listAnswer, listLost, listSmall, ListTo, listEnd, no-grants, optionalList, attribute-first, attribute-parts}
-use Rattle.items.specs.declared.counts.Count.the-variants.{Words}
+use Rattle.items.specs.answers.{first-of, docWord, docBit}
+use Rattle.items.specs.answers.attributes.{SmallPrivileges, PrivilegesTo, AttributeTo, AttributeCountTo, attributeAt, AttributeBetween}
+use Rattle.items.specs.inner.attributes.{access-words, operation-of, operationAnswer, operationMeans, OperationTo, grantsWith, with-entry, grants-from, grantsSmall, grants-after, EntryTo, no-grants, EntriesTo, attribute-first, attribute-parts}
+use Rattle.items.specs.declared.counts.Count.the-variants.{Words, NoCount}
+use Rattle.items.specs.declared.writing.FrontParts.{FrontParts}
 use Rattle.items.specs.inner.structs.{field-parts}
 use Rattle.items.specs.declared.attributes.AttributeParts.{AttributeParts}
 use Rattle.items.specs.declared.attributes.Operation.{Operation}
 use Rattle.items.specs.declared.attributes.Operation.the-variants.{Read, Write, Neither}
 use Rattle.items.specs.declared.attributes.OperationRead.{OperationRead}
 use Rattle.items.specs.declared.attributes.OperationRead.the-variants.{Named, NoOperation}
-use Rattle.items.specs.declared.attributes.Grant.{Grant}
-use Rattle.items.specs.declared.attributes.Grant.the-variants.{ToRead, ToWrite, Misnamed}
-use Rattle.items.specs.declared.attributes.AccessRead.{AccessRead}
-use Rattle.items.specs.declared.attributes.AccessRead.the-variants.{Access, NoAccess}
+use Rattle.items.specs.declared.attributes.Entries.{Entries}
 use Rattle.items.specs.declared.attributes.Grants.{Grants}
 use Rattle.items.specs.declared.attributes.Grants.the-variants.{Granted, RefusedAt}
-use Rattle.items.specs.declared.attributes.ListRead.{ListRead}
-use Rattle.items.specs.declared.attributes.ListRead.the-variants.{Listed, NoList}
 use Rattle.items.specs.declared.attributes.PrivilegesRead.{PrivilegesRead}
 use Rattle.items.specs.declared.attributes.PrivilegesRead.the-variants.{Privileges, NoPrivileges}
 use Rattle.items.specs.declared.attributes.AttributeRead.{AttributeRead}
-use Rattle.items.specs.declared.attributes.AttributeRead.the-variants.{Attribute}
-use Rattle.lexing.proofs.AnswerLaws.{read-within, read-lost}
-use Rattle.items.proofs.Mapped.{TookAs, lost-as, mapped-ok, mapped-not, read-as, mapped-after}
+use Rattle.items.specs.declared.attributes.AttributeRead.the-variants.{Attribute, NoAttribute}
+use Rattle.lexing.proofs.AnswerLaws.{reads-as, read-within}
+use Rattle.items.proofs.Mapped.{TookAs, mapped-ok, read-as}
+use Rattle.lexing.proofs.Pairs.{pair-on, pair-fall}
+use Rattle.items.proofs.Calm.{Calm, calm-absent, calm-ret, calm-catch, calm-or, calm-many0, calm-bind, calm-then, calm-tag, calm-keyword, calm-any, calm-blanks}
+use Rattle.items.proofs.Keywords.{keyword-missing}
+use Rattle.items.proofs.Tries.{bind-ok, then-ok, then-fail, opt-some, opt-none}
 use Rattle.items.proofs.Locality.{access-entry-inside, access-entry-consumes, comma-local, separated-list0-inside, access-list-inside, attribute-access-inside, parse-attribute-consumes}
-use Rattle.items.proofs.counts.Laws.{read-counted}
+use Rattle.items.proofs.Headed.{further-on}
+use Rattle.items.proofs.counts.Laws.{count-not, read-counted}
 use Rattle.items.proofs.Choice.{or-both}
 use Rattle.lexing.proofs.buffers.Laws.{words-bytes-length, put-on}
 use Rattle.items.proofs.RecordWords.{catalogue-bytes-append, catalogue-bytes-length}
 use Rattle.items.proofs.writing.Laws.{documented-bytes}
 use Rattle.items.proofs.structs.Laws.{other-case, by-case, field-parts-is, field-parts-words, field-in-limit}
-use Rattle.lexing.proofs.optional.Laws.{opt-ok, opt-fail, opt-stop}
+use Rattle.items.proofs.members.Laws.{skips-none}
+use Rattle.lexing.proofs.optional.Laws.{opt-ok}
 
 -- the word of an entry
 pub read-operation : operation-of (ascii "read") ≡ Read
@@ -73,17 +76,38 @@ other-operation : (w : List ℕ) → isLower w ≡ false → operation-of w ≡ 
 unfolding operation-of isKeyword lower within
 other-operation w e = rw (other-case w (ascii "read") refl e, other-case w (ascii "write") refl e)
 
-pub operation-is : (k : List ℕ) (x t : Operation) (b c : ℕ) (u : List ℕ) (a : Step) → wordReply a b u ≡ keyword k b u → a ≡ Next c → operation-of k ≡ x
-    → t ≡ operationBy (isLower (take (c - b) u)) x → ok (wordAt b u c) c (drop (c - b) u) ≡ any-keyword access-words b u → OperationTo (Named t c) b u
-unfolding bytesOf
-operation-is k x t b c u a h e s d r =
-    let z = told-next (wordAt b u) a c b u (keyword k b u) e h in
-    let i : isKeyword (take (c - b) u) k ≡ true = rw (← z) at (keyword-says k b u) in
-    record { reads = r; means = rw d (by-case operation-of (λ q. operationBy q x) (take (c - b) u) k i s (other-operation (take (c - b) u))) }
+-- by whether it is in lower case
+abbrev operationBy : Operation → Bool → Operation
+operationBy k true = k
+operationBy k false = Neither
 
-pub operation-none : (b : ℕ) (u : List ℕ) → fail b ≡ keyword (ascii "read") b u → fail b ≡ keyword (ascii "write") b u → OperationTo (NoOperation (Fail b)) b u
-unfolding any-keyword
-operation-none b u x y = record { reads = sym (or-both _ _ (sym x) (or-both _ _ (sym y) refl)); means = tt }
+module _ (k : List ℕ) {a : Step} {b : ℕ} {u : List ℕ} (h : wordReply a b u ≡ keyword k b u) where
+  pub operation-is : {c : ℕ} → a ≡ Next c → (x : Operation) → operation-of k ≡ x → (t : Bool) → isLower (take (c - b) u) ≡ t → OperationTo (keyword k) (Named (operationBy x t) c) b u
+  unfolding bytesOf
+  operation-is {c} e x s t z =
+      let r = told-next (wordAt b u) a c b u (keyword k b u) e h in
+      let i : isKeyword (take (c - b) u) k ≡ true = rw (← r) at (keyword-says k b u) in
+      record { reads = r; means = by-case operation-of (operationBy x) (take (c - b) u) k i s (other-operation (take (c - b) u)) ∙ ap (operationBy x) z }
+
+  pub operation-not : {l : Lost} → a ≡ Not l → OperationTo (keyword k) NoOperation b u
+  operation-not {l} e = record { reads = keyword-missing k b u a h l e; means = tt }
+
+-- one of the two
+module _ {a : OperationRead} {b : ℕ} {u : List ℕ} (h : OperationTo (keyword (ascii "read")) a b u) where
+  pub word-first : {k : Operation} {c : ℕ} → a ≡ Named k c → OperationTo (any-keyword access-words) a b u
+  unfolding any-keyword
+  word-first {k} {c} e =
+      let i = subst (λ (x : OperationRead). OperationTo (keyword (ascii "read")) x b u) e h in
+      subst (λ (x : OperationRead). OperationTo (any-keyword access-words) x b u) (sym e) (record { reads = or-here _ _ b u _ c (drop (c - b) u) (i .reads); means = i .means })
+
+  pub word-second : (r : OperationRead) → a ≡ NoOperation → OperationTo (keyword (ascii "write")) r b u → OperationTo (any-keyword access-words) r b u
+  unfolding any-keyword
+  word-second (Named k c) e g =
+      let i = subst (λ (x : OperationRead). OperationTo (keyword (ascii "read")) x b u) e h in
+      record { reads = or-next _ _ b u b _ c (drop (c - b) u) (i .reads) (or-here _ _ b u _ c (drop (c - b) u) (g .reads)); means = g .means }
+  word-second NoOperation e g =
+      let i = subst (λ (x : OperationRead). OperationTo (keyword (ascii "read")) x b u) e h in
+      record { reads = sym (or-both _ _ (sym (i .reads)) (or-both _ _ (sym (g .reads)) refl)); means = tt }
 
 -- as a step of a sequence
 pub record TookOperation (b : ℕ) (u : List ℕ) (n : ℕ) (k : Operation) (c : ℕ) : Type 0 where
@@ -92,7 +116,7 @@ pub record TookOperation (b : ℕ) (u : List ℕ) (n : ℕ) (k : Operation) (c :
   pub starts : offsetOf value ≡ n
   pub step : Took (any-keyword access-words) b u n value c
 
-module _ {a : OperationRead} {n : ℕ} {r : List ℕ} (h : OperationTo a n r) where
+module _ {a : OperationRead} {n : ℕ} {r : List ℕ} (h : OperationTo (any-keyword access-words) a n r) where
   pub operation-took : {b : ℕ} {u : List ℕ} {k : Operation} {c : ℕ} → Rest b u n r → a ≡ Named k c → TookOperation b u n k c
   unfolding offsetOf
   operation-took {b} {u} {k} {c} q e =
@@ -103,118 +127,138 @@ module _ {a : OperationRead} {n : ℕ} {r : List ℕ} (h : OperationTo a n r) wh
         step = took (walks (any-keyword-chain access-words)) q (subst (λ (x : OperationRead). reply (operationAnswer n r x) n r ≡ any-keyword access-words n r) e (h .reads));
       }
 
-  pub operation-not : {l l' : Lost} → l' ≡ operationLost a → a ≡ NoOperation l → lostReply l' ≡ any-keyword access-words n r
-  operation-not {l} {l'} e d =
-      let z : l' ≡ l = e ∙ ap operationLost d in
-      ap (λ (y : Lost). lostReply y) z ∙ subst (λ (x : OperationRead). reply (operationAnswer n r x) n r ≡ any-keyword access-words n r) d (h .reads)
+  pub operation-none : a ≡ NoOperation → fail n ≡ any-keyword access-words n r
+  operation-none e = subst (λ (x : OperationRead). reply (operationAnswer n r x) n r ≡ any-keyword access-words n r) e (h .reads)
 
--- what an entry grants
-grant-small : (k : Operation) (p o : ℕ) → p < 4 → grantSmall (grantBy k p o)
-grant-small Read p o h = h
-grant-small Write p o h = h
-grant-small Neither p o h = tt
+-- what is granted with an entry more
+pub grants-with : (g : Grants) (k : Operation) (p o : ℕ) {r w : ℕ} {j : Operation} → g ≡ Granted r w → k ≡ j → grantsWith (Granted r w) j p o ≡ grantsWith g k p o
+grants-with g k p o d e = rw (d, e) refl
 
-pub access-not : (m : Parser AccessOf) (l : Lost) (b : ℕ) (u : List ℕ) → lostReply l ≡ m b u → AccessTo m (NoAccess l) b u
-access-not m l b u e = record { reads = mapped-not grant-of m b u l e; within = tt }
+pub grants-refused : (g : Grants) (k : Operation) (p o : ℕ) {q : ℕ} → g ≡ RefusedAt q → g ≡ grantsWith g k p o
+grants-refused g k p o d = rw d refl
 
-pub access-is : {b n c d : ℕ} {u : List ℕ} {k : Operation} {p : ℕ} {g : Grant} (t : TookOperation b u n k c) → p < 4 → g ≡ grantBy k p n
-    → ok (record { operation = t .value; granted = p }) d (drop (d - b) u) ≡ access-entry b u → AccessTo access-entry (Access g d) b u
-unfolding grant-of
-access-is {b} {n} {c} {d} {u} {k} {p} {g} t s e h =
+grants-small : (g : Grants) (k : Operation) (p o : ℕ) → grantsSmall g → p < 4 → grantsSmall (grantsWith g k p o)
+grants-small (Granted r w) Read p o h l = record { read = l; write = h .write }
+grants-small (Granted r w) Write p o h l = record { read = h .read; write = l }
+grants-small (Granted r w) Neither p o h l = tt
+grants-small (RefusedAt q) k p o h l = tt
+
+grants-more : (g : Grants) (l : List AccessOf) (a : AccessOf) → grants-from g (l ++ (a ∷ [])) ≡ with-entry (grants-from g l) a
+unfolding grants-from
+grants-more g [] a = refl
+grants-more g (x ∷ l) a = grants-more (with-entry g x) l a
+
+-- an entry, which may be absent
+entry-calm : Calm access-entry
+unfolding access-entry access-privilege
+entry-calm =
+    let number : (w : List ℕ) (v : ℕ) → Calm (keyword w >> ret v) = λ w v. calm-then (calm-keyword w) (calm-ret v) in
+    let privilege = calm-or (number _ 0) (calm-or (number _ 1) (calm-or (number _ 2) (number _ 3))) in
+    calm-then calm-blanks (calm-bind (calm-any access-words) λ k. calm-then calm-blanks (calm-then (calm-tag 58) (calm-then calm-blanks (calm-bind privilege λ p. calm-then calm-blanks (calm-ret _)))))
+
+pub entry-none : {g : Grants} (l : Lost) {b : ℕ} {u : List ℕ} → grantsSmall g → lostReply l ≡ access-entry b u → EntryTo g (record { grants = g; next = b }) b u
+unfolding grants-after
+entry-none {g} l {b} {u} h e = record { reads = mapped-ok (grants-after g) (opt access-entry) b u none b (drop (b - b) u) refl (calm-absent entry-calm l e); within = h }
+
+pub entry-is : (g : Grants) {x : Grants} {b n c d : ℕ} {u : List ℕ} {k : Operation} {p : ℕ} (t : TookOperation b u n k c) → grantsSmall g → p < 4 → x ≡ grantsWith g k p n
+    → ok (record { operation = t .value; granted = p }) d (drop (d - b) u) ≡ access-entry b u → EntryTo g (record { grants = x; next = d }) b u
+unfolding grants-after with-entry
+entry-is g {x} {b} {n} {c} {d} {u} {k} {p} t s l e h =
     let v : AccessOf = record { operation = t .value; granted = p } in
-    let z : grant-of v ≡ g = rw (t .names, t .starts) (sym e) in
-    record { reads = mapped-ok grant-of access-entry b u v d (drop (d - b) u) z h; within = rw e (grant-small k p n s) }
+    let z : with-entry g v ≡ x = rw (t .names, t .starts) (sym e) in
+    record { reads = mapped-ok (grants-after g) (opt access-entry) b u (some v) d (drop (d - b) u) z (opt-ok access-entry b u v d (drop (d - b) u) h); within = rw e (grants-small g k p n s l) }
 
-pub access-small : (m : Parser AccessOf) {a : AccessRead} {n : ℕ} {r : List ℕ} {g : Grant} {c : ℕ} → AccessTo m a n r → a ≡ Access g c → grantSmall g
-access-small m h e = read-within h e
+-- it takes a byte, so that it is there where reading goes on behind its start
+pub record TookEntry (g : Grants) (b : ℕ) (u : List ℕ) (n : ℕ) (e : Entries) : Type 0 where
+  pub value : AccessOf
+  pub is : with-entry g value ≡ e .grants
+  pub step : Took access-entry b u n value (e .next)
 
-pub access-lost : (m : Parser AccessOf) {a : AccessRead} {n : ℕ} {r : List ℕ} {l l' : Lost} → AccessTo m a n r → l' ≡ accessLost a → a ≡ NoAccess l → lostReply l' ≡ m n r
-access-lost m {n = n} {r = r} {l' = l'} h e d = lost-as grant-of m n r l' (read-lost h d accessLost e refl)
+module _ (g : Grants) {b n : ℕ} {u r : List ℕ} {e : Entries} (q : Rest b u n r) (h : EntryTo g e n r) where
+  optional : TookAs (grants-after g) (opt access-entry) b u n (e .grants) (e .next)
+  optional = read-as h refl (walks (chain-opt (chain-inside access-entry-inside))) q refl
 
--- an entry behind a comma
-pub entry-onward : Onward access-entry
-entry-onward = walks (chain-inside access-entry-inside)
+  entry-cases : TookEntry g b u n e ⊎ ((e .next ≡ n) × ((p : ℕ) × (fail p ≡ access-entry n (drop (n - b) u))))
+  unfolding grants-after
+  entry-cases = go (access-entry n (drop (n - b) u)) refl
+    where
+      go : (x : Reply AccessOf) → access-entry n (drop (n - b) u) ≡ x → TookEntry g b u n e ⊎ ((e .next ≡ n) × ((p : ℕ) × (fail p ≡ access-entry n (drop (n - b) u))))
+      go (ok a d v) z =
+          let t = optional in
+          let i = sym (t .step .goes) ∙ opt-some access-entry z in
+          let x : t .value ≡ some a = cc in
+          let y : ok a d v ≡ ok a (e .next) (drop (e .next - b) u) = cc in
+          inl (record { value = a; is = subst (λ (o : Option AccessOf). grants-after g o ≡ e .grants) x (t .is); step = record { goes = z ∙ y; up = t .step .up; inside = t .step .inside } })
+      go (fail p) z = let t = optional in let i = sym (t .step .goes) ∙ opt-none access-entry z in let y : e .next ≡ n = cc in inr (y, (p, sym z))
+      go (stop j p) z = absurd (rw z at (entry-calm .runs n (drop (n - b) u)))
 
-pub separated-onward : Onward separated-entry
-separated-onward = walks (chain-then (comma-local .on-chain) (chain-inside access-entry-inside))
+  entry-there : (e .next ≡ n → ⊥) → TookEntry g b u n e
+  entry-there f = go entry-cases
+    where
+      go : TookEntry g b u n e ⊎ ((e .next ≡ n) × ((p : ℕ) × (fail p ≡ access-entry n (drop (n - b) u)))) → TookEntry g b u n e
+      go (inl t) = t
+      go (inr z) = absurd (f (z .0))
+
+  pub entry-on : (e .next ≡ n → ⊥) → n < e .next
+  entry-on f = further-on access-entry-consumes (q .from) (entry-there f .step)
+
+  entry-absent : e .next ≡ n → (p : ℕ) × (fail p ≡ access-entry n (drop (n - b) u))
+  entry-absent z = go entry-cases
+    where
+      go : TookEntry g b u n e ⊎ ((e .next ≡ n) × ((p : ℕ) × (fail p ≡ access-entry n (drop (n - b) u)))) → (p : ℕ) × (fail p ≡ access-entry n (drop (n - b) u))
+      go (inl t) = let l = further-on access-entry-consumes (q .from) (t .step) in absurd (omega (arith, l, z))
+      go (inr y) = y .1
+
+-- a comma and an entry; the blanks between them are read once
+abbrev separated-entry : Parser AccessOf
+separated-entry = comma >> access-entry
+
+module _ {A B C : Type 0} (m : Parser A) (p : Parser B) (k : Parser C) (n : ℕ) (v : List ℕ) where
+  assoc-at : (x : Reply A) → (((λ b u. x) >> p) >> k) n v ≡ ((λ b u. x) >> (p >> k)) n v
+  unfolding _>>_ _>>=_
+  assoc-at (ok a c r) = refl
+  assoc-at (fail q) = refl
+  assoc-at (stop i q) = refl
+
+  assoc : ((m >> p) >> k) n v ≡ (m >> (p >> k)) n v
+  unfolding _>>_ _>>=_
+  assoc = assoc-at (m n v)
+
+module _ {A B : Type 0} (m : Parser A) (p q : Parser B) (e : (n : ℕ) (v : List ℕ) → p n v ≡ q n v) (n : ℕ) (v : List ℕ) where
+  then-at : (x : Reply A) → ((λ b u. x) >> p) n v ≡ ((λ b u. x) >> q) n v
+  unfolding _>>_ _>>=_
+  then-at (ok a c r) = e c r
+  then-at (fail i) = refl
+  then-at (stop j i) = refl
+
+  then-same : (m >> p) n v ≡ (m >> q) n v
+  unfolding _>>_ _>>=_
+  then-same = then-at (m n v)
+
+blanks-once : {A : Type 0} (k : Parser A) (n : ℕ) (v : List ℕ) → (whitespace0 >> (whitespace0 >> k)) n v ≡ (whitespace0 >> k) n v
+blanks-once k n v = go (whitespace0 n v) refl
+  where
+    go : (x : Reply Doc) → whitespace0 n v ≡ x → (whitespace0 >> (whitespace0 >> k)) n v ≡ (whitespace0 >> k) n v
+    go (ok d c r) e = then-ok whitespace0 (whitespace0 >> k) e ∙ (then-ok whitespace0 k (blank-clear n v d c r e) ∙ sym (then-ok whitespace0 k e))
+    go (fail p) e = then-fail whitespace0 (whitespace0 >> k) e ∙ sym (then-fail whitespace0 k e)
+    go (stop i p) e = absurd (rw e at (calm-blanks .runs n v))
+
+entry-behind : (n : ℕ) (v : List ℕ) → (whitespace0 >> (ret (tt {0}) >> access-entry)) n v ≡ access-entry n v
+unfolding access-entry ret _>>_ _>>=_
+entry-behind n v = blanks-once _ n v
+
+separated-is : (n : ℕ) (v : List ℕ) → (whitespace0 >> (tag 44 >> access-entry)) n v ≡ separated-entry n v
+unfolding comma
+separated-is n v =
+    sym (assoc whitespace0 (tag 44 >> (whitespace0 >> ret tt)) access-entry n v ∙
+    then-same whitespace0 _ _ (λ n v. assoc (tag 44) (whitespace0 >> ret tt) access-entry n v ∙ then-same (tag 44) _ _ (λ n v. assoc whitespace0 (ret tt) access-entry n v ∙ entry-behind n v) n v) n v)
 
 separated-consumes : Consumes separated-entry
 separated-consumes = consumes-then-right (comma-local .on-chain) access-entry-consumes
 
-pub comma-took : {b n : ℕ} {u r : List ℕ} {a : Step} {c : ℕ} → Rest b u n r → tagReply a n r ≡ comma n r → a ≡ Next c → Took comma b u n tt c
-comma-took {n = n} {r = r} {a} {c} q h e = took (walks (comma-local .on-chain)) q (told-next (λ c. tt) a c n r (comma n r) e h)
-
-pub access-after : (a : AccessRead) {b n : ℕ} {u r : List ℕ} → Took comma b u b tt n → Rest b u n r → AccessTo access-entry a n r → AccessTo separated-entry a b u
-access-after (Access g c) t q h = record { reads = mapped-after grant-of entry-onward (got g c) t q (h .reads); within = h .within }
-access-after (NoAccess l) t q h = record { reads = mapped-after grant-of entry-onward (lost l) t q (h .reads); within = tt }
-
--- what is granted with one entry more
-pub grants-with : (g : Grants) (x : Grant) {r w : ℕ} {y : Grant} → g ≡ Granted r w → x ≡ y → grantsWith (Granted r w) y ≡ grantsWith g x
-grants-with g x d e = rw (d, e) refl
-
-pub grants-refused : (g : Grants) (x : Grant) (o : ℕ) → g ≡ RefusedAt o → g ≡ grantsWith g x
-grants-refused g x o d = rw d refl
-
-grants-small : (g : Grants) (x : Grant) → grantsSmall g → grantSmall x → grantsSmall (grantsWith g x)
-grants-small (Granted r w) (ToRead p) h k = record { read = k; write = h .write }
-grants-small (Granted r w) (ToWrite p) h k = record { read = h .read; write = k }
-grants-small (Granted r w) (Misnamed o) h k = tt
-grants-small (RefusedAt o) x h k = tt
-
-first-small : grantsSmall no-grants
-first-small = record { read = omega arith; write = omega arith }
-
-grants-more : (g : Grants) (l : List AccessOf) (a : AccessOf) → grants-from g (l ++ (a ∷ [])) ≡ grantsWith (grants-from g l) (grant-of a)
-unfolding grants-from
-grants-more g [] a = refl
-grants-more g (x ∷ l) a = grants-more (grantsWith g (grant-of x)) l a
-
--- the loop over the entries behind the first: those seen, and what they granted after s
-pub record Granting (s : Grants) (b : ℕ) (u : List ℕ) (c : ℕ) (g : Grants) : Type 0 where
-  pub seen : List AccessOf
-  pub run : ManyAt separated-entry b u c seen
-  pub so-far : grants-from s seen ≡ g
-  pub small : grantsSmall g
-
-pub granting-start : (s : Grants) (b : ℕ) (u : List ℕ) → grantsSmall s → Granting s b u b s
-unfolding grants-from
-granting-start s b u h = record { seen = []; run = many0-start separated-entry b u; so-far = refl; small = h }
-
-pub granting-more : {s : Grants} {b c n : ℕ} {u : List ℕ} {g t : Grants} {x : Grant} → Granting s b u c g → TookAs grant-of separated-entry b u c x n → grantSmall x → t ≡ grantsWith g x
-    → Granting s b u n t × (c < n)
-granting-more {s} {g = g} {t} {x} i k h e =
-    let m = many0-step separated-consumes (i .run) (k .step) in (
-      record {
-        seen = i .seen ++ (k .value ∷ []);
-        run = m .0;
-        so-far = grants-more s (i .seen) (k .value) ∙ (rw (i .so-far, k .is) (sym e));
-        small = rw e (grants-small g x (i .small) h);
-      },
-      m .1,
-    )
-
-list-ended : (s : Grants) (m : Parser AccessOf) (b c : ℕ) (u : List ℕ) (l : List AccessOf) (g : Grants) (x : Lost) → grants-from s l ≡ g → grantsSmall g
-    → many0 m b u ≡ manyEnd x l c (drop (c - b) u) → ListTo s (many0 m) (listEnd x g c) b u
-list-ended s m b c u l g (Fail p) d h e = record { reads = mapped-ok (grants-from s) (many0 m) b u l c (drop (c - b) u) d (sym e); within = h }
-list-ended s m b c u l g (Stop n p) d h e = record { reads = mapped-not (grants-from s) (many0 m) b u (Stop n p) (sym e); within = tt }
-
-pub granting-ends : {s : Grants} {b c : ℕ} {u r : List ℕ} {g : Grants} {t : ListRead} (x : Lost) → Granting s b u c g → Rest b u c r → lostReply x ≡ separated-entry c r → t ≡ listEnd x g c
-    → ListTo s (many0 separated-entry) t b u
-granting-ends {s} {b} {c} {u} {r} {g} x i q e d =
-    rw d (list-ended s separated-entry b c u (i .seen) g x (i .so-far) (i .small) (many0-ends separated-consumes x (i .run) q e))
-
--- a list's answer
-pub list-small : (s : Grants) (m : Parser (List AccessOf)) {a : ListRead} {n : ℕ} {r : List ℕ} {g : Grants} {c : ℕ} → ListTo s m a n r → a ≡ Listed g c → grantsSmall g
-list-small s m h e = read-within h e
-
-pub list-lost : (s : Grants) (m : Parser (List AccessOf)) {a : ListRead} {n : ℕ} {r : List ℕ} {l l' : Lost} → ListTo s m a n r → l' ≡ listLost a → a ≡ NoList l → lostReply l' ≡ m n r
-list-lost s m {n = n} {r = r} {l' = l'} h e d = lost-as (grants-from s) m n r l' (read-lost h d listLost e refl)
-
-pub list-not : (s : Grants) (m : Parser (List AccessOf)) (l : Lost) (b : ℕ) (u : List ℕ) → lostReply l ≡ m b u → ListTo s m (NoList l) b u
-list-not s m l b u e = record { reads = mapped-not (grants-from s) m b u l e; within = tt }
-
-pub list-is : (s : Grants) (m : Parser (List AccessOf)) {k : Parser (List AccessOf)} {b n c d : ℕ} {u : List ℕ} {g : Grants} (t : TookAs (grants-from s) k b u n g c) → grantsSmall g → ok (t .value) d (drop (d - b) u) ≡ m b u → ListTo s m (Listed g d) b u
-list-is s m {b = b} {d = d} {u = u} t h e = record { reads = mapped-ok (grants-from s) m b u (t .value) d (drop (d - b) u) (t .is) e; within = h }
+separated-calm : Calm separated-entry
+unfolding comma
+separated-calm = calm-then (calm-then calm-blanks (calm-then (calm-tag 44) (calm-then calm-blanks (calm-ret tt)))) entry-calm
 
 -- where a failure is caught
 module _ {A : Type 0} (m : Parser A) (h : ℕ → Parser A) (b : ℕ) (u : List ℕ) where
@@ -226,15 +270,11 @@ module _ {A : Type 0} (m : Parser A) (h : ℕ → Parser A) (b : ℕ) (u : List 
   unfolding catch
   catch-fail p e = rw (sym e, catch)
 
-  catch-stop : (n p : ℕ) → stop n p ≡ m b u → stop n p ≡ catch m h b u
-  unfolding catch
-  catch-stop n p e = rw (sym e, catch)
-
 -- a repetition never fails
-within-calm : {A : Type 0} (n : ℕ) (m : Parser A) (b : ℕ) (u : List ℕ) (p : ℕ) → fail p ≡ manyWithin n m b u → ⊥
+within-ends : {A : Type 0} (n : ℕ) (m : Parser A) (b : ℕ) (u : List ℕ) (p : ℕ) → fail p ≡ manyWithin n m b u → ⊥
 unfolding manyWithin prepend
-within-calm zero m b u p e = let z : _≡_ {A = ℕ} 0 1 = cc in omega arith
-within-calm {A} (suc n) m b u p e = go (m b u) refl (within-calm n m)
+within-ends zero m b u p e = let z : _≡_ {A = ℕ} 0 1 = cc in omega arith
+within-ends {A} (suc n) m b u p e = go (m b u) refl (within-ends n m)
   where
     after : (a : A) (x : Reply (List A)) → fail p ≡ prepend a x → (fail p ≡ x → ⊥) → ⊥
     after a (ok l c r) d k = let z : _≡_ {A = ℕ} 0 1 = cc in omega arith
@@ -246,9 +286,9 @@ within-calm {A} (suc n) m b u p e = go (m b u) refl (within-calm n m)
     go (fail q) d ih = let k = rw (d, manyWithin) at e in let z : _≡_ {A = ℕ} 0 1 = cc in omega arith
     go (stop i q) d ih = let k = rw (d, manyWithin) at e in let z : _≡_ {A = ℕ} 0 1 = cc in omega arith
 
-many0-calm : {A : Type 0} (m : Parser A) (b : ℕ) (u : List ℕ) (p : ℕ) → fail p ≡ many0 m b u → ⊥
+many0-ends : {A : Type 0} (m : Parser A) (b : ℕ) (u : List ℕ) (p : ℕ) → fail p ≡ many0 m b u → ⊥
 unfolding many0
-many0-calm m b u p e = within-calm (suc (length u)) m b u p e
+many0-ends m b u p e = within-ends (suc (length u)) m b u p e
 
 -- entries with commas between them
 abbrev entries : Parser (List AccessOf)
@@ -260,61 +300,101 @@ some-entries = access-entry >>= λ a. many0 separated-entry >>= λ l. ret (a ∷
 pub entries-onward : Onward entries
 entries-onward = walks (chain-inside (separated-list0-inside comma-local access-entry-inside access-entry-consumes))
 
-more-onward : Onward (many0 separated-entry)
-more-onward = walks (chain-many0 (chain-then (comma-local .on-chain) (chain-inside access-entry-inside)))
+-- those up to a place: what they grant, and what is left to read
+pub record Entered (b : ℕ) (u : List ℕ) (n : ℕ) (g : Grants) : Type 0 where
+  pub seen : List AccessOf
+  pub so-far : grants-from no-grants seen ≡ g
+  pub small : grantsSmall g
+  pub from : b ≤ n
+  pub inside : n ≤ b + length u
+  pub left : entries b u ≡ before seen (many0 separated-entry n (drop (n - b) u))
 
-first-lost : (x : Lost) (b : ℕ) (u : List ℕ) → lostReply x ≡ access-entry b u → ListTo no-grants entries (listEnd x no-grants b) b u
+-- before an entry: none was read, or a comma behind some
+pub data Entering (b : ℕ) (u : List ℕ) (n c : ℕ) (g : Grants) : Type 0 where
+  first : n ≡ b → c ≡ b → g ≡ no-grants → Entering b u n c g
+  next : Entered b u n g → {x : Unit {0}} → Took (whitespace0 >> tag 44) b u n x c → Entering b u n c g
+
+first-small : grantsSmall no-grants
+first-small = record { read = omega arith; write = omega arith }
+
+pub entering-small : {b n c : ℕ} {u : List ℕ} {g : Grants} → Entering b u n c g → grantsSmall g
+entering-small (first z y x) = rw x first-small
+entering-small (next i t) = i .small
+
+pub entering-at : {b n c : ℕ} {u : List ℕ} {g : Grants} → Entering b u n c g → (b ≤ c) × (c ≤ b + length u)
+entering-at (first z y x) = (omega arith, omega arith)
+entering-at (next i t) = (omega (arith, i .from, t .up), t .inside)
+
+-- the end
+ended : {b n : ℕ} {u : List ℕ} {g : Grants} → Entered b u n g → (p : ℕ) → fail p ≡ separated-entry n (drop (n - b) u) → EntriesTo (record { grants = g; next = n }) b u
+ended {b} {n} {u} {g} i p e =
+    let v = drop (n - b) u in
+    let z : entries b u ≡ ok (i .seen ++ []) n v = i .left ∙ ap (before (i .seen)) (many0-fail separated-entry separated-consumes n v p (sym e)) in
+    record { reads = mapped-ok (grants-from no-grants) entries b u (i .seen) n v (i .so-far) (ap (λ (l : List AccessOf). ok l n v) (sym (append-nil (i .seen))) ∙ sym z); within = i .small }
+
+pub entries-end : {b n c : ℕ} {u r : List ℕ} {g : Grants} {e : Entries} → Entering b u n c g → Rest b u c r → EntryTo g e c r → e .next ≡ c → EntriesTo (record { grants = g; next = n }) b u
 unfolding separated-list0 ret grants-from
-first-lost (Fail p) b u e =
-    let z : b - b ≡ 0 = omega arith in
-    let k : ok [] b u ≡ entries b u = catch-fail some-entries (λ q. ret []) b u p (begin some-entries b u (lose access-entry _ (Fail p) (rest-self b u) e)) in
-    record { reads = mapped-ok (grants-from no-grants) entries b u [] b (drop (b - b) u) refl (rw z k); within = first-small }
-first-lost (Stop n p) b u e =
-    record { reads = mapped-not (grants-from no-grants) entries b u (Stop n p) (catch-stop some-entries (λ q. ret []) b u n p (begin some-entries b u (lose access-entry _ (Stop n p) (rest-self b u) e))); within = tt }
+entries-end {b} {n} {c} {u} {r} {g} {e} (first z y x) q h d =
+    let k = entry-absent g q h d in
+    let i : fail (k .0) ≡ access-entry b u = begin access-entry b u (subst (λ (o : ℕ). fail (k .0) ≡ access-entry o (drop (o - b) u)) y (k .1)) in
+    let j : ok [] b u ≡ entries b u = catch-fail some-entries (λ p. ret []) b u (k .0) (begin some-entries b u (lose access-entry _ (Fail (k .0)) (rest-self b u) i)) in
+    let o : b - b ≡ 0 = omega arith in
+    rw (z, x) (record { reads = mapped-ok (grants-from no-grants) entries b u [] b (drop (b - b) u) refl (rw o j); within = first-small })
+entries-end {b} {n} {c} {u} {r} {g} {e} (next i t) q h d = let k = entry-absent g q h d in ended i (k .0) (pair-on _ _ _ t (k .1) ∙ separated-is n (drop (n - b) u))
 
-pub entries-none : (x : Lost) {t : ListRead} (b : ℕ) (u : List ℕ) → lostReply x ≡ access-entry b u → t ≡ listEnd x no-grants b → ListTo no-grants entries t b u
-entries-none x b u e d = rw d (first-lost x b u e)
+pub entries-closed : {b n : ℕ} {u : List ℕ} {g : Grants} {a : Step} {l : Lost} → Entered b u n g → SkipsAt (whitespace0 >> tag 44) a b u n → a ≡ Not l → EntriesTo (record { grants = g; next = n }) b u
+entries-closed {b} {n} {u} {g} {a} {l} i h d = go l (pair-fall _ _ access-entry l (h .at) (skips-none d h) ∙ separated-is n (drop (n - b) u))
+  where
+    go : (l : Lost) → lostReply l ≡ separated-entry n (drop (n - b) u) → EntriesTo (record { grants = g; next = n }) b u
+    go (Fail p) e = ended i p e
+    go (Stop j p) e = absurd (rw (← e) at (separated-calm .runs n (drop (n - b) u)))
 
-pub entries-some : {b c : ℕ} {u r : List ℕ} {x : Grant} {g : Grants} → TookAs grant-of access-entry b u b x c → g ≡ grantsWith no-grants x → (a : ListRead) → Rest b u c r → ListTo g (many0 separated-entry) a c r → ListTo no-grants entries a b u
-unfolding separated-list0 grants-from
-entries-some {b} {c} {u} {r} {x} {g} t e (Listed y d) q h =
-    let k : TookAs (grants-from g) (many0 separated-entry) b u c y d = read-as h refl more-onward q refl in
-    let z : grants-from no-grants (t .value ∷ k .value) ≡ y = ap (λ (i : Grant). grants-from (grantsWith no-grants i) (k .value)) (t .is) ∙ (ap (λ (i : Grants). grants-from i (k .value)) (sym e) ∙ k .is) in
+-- one entry more
+before-more : {A : Type 0} (l : List A) (a : A) (x : Reply (List A)) → before l (prepend a x) ≡ before (l ++ (a ∷ [])) x
+unfolding prepend
+before-more l a (ok k c r) = rw (append-assoc l (a ∷ []) k)
+before-more l a (fail p) = refl
+before-more l a (stop n p) = refl
+
+first-left : {b c : ℕ} {u : List ℕ} {a : AccessOf} → Took access-entry b u b a c → (x : Reply (List AccessOf)) → many0 separated-entry c (drop (c - b) u) ≡ x → entries b u ≡ before (a ∷ []) x
+unfolding separated-list0 ret
+first-left {b} {c} {u} {a} t (ok l d r) e = sym (catch-ok some-entries (λ p. ret []) b u (a ∷ l) d r (begin some-entries b u (go _ t (sym (bind-ok (many0 separated-entry) (λ l. ret (a ∷ l)) e)))))
+first-left {b} {c} {u} {a} t (fail p) e = absurd (many0-ends separated-entry c (drop (c - b) u) p (sym e))
+first-left {b} {c} {u} {a} t (stop i p) e = absurd (rw e at (calm-many0 separated-calm .runs c (drop (c - b) u)))
+
+pub entered : {b n c : ℕ} {u r : List ℕ} {g : Grants} {e : Entries} → Entering b u n c g → Rest b u c r → EntryTo g e c r → (e .next ≡ c → ⊥) → Entered b u (e .next) (e .grants)
+unfolding grants-from
+entered {b} {n} {c} {u} {r} {g} {e} (first z y x) q h f =
+    let t = entry-there g q h f in
+    let s : Took access-entry b u b (t .value) (e .next) = subst (λ (o : ℕ). Took access-entry b u o (t .value) (e .next)) y (t .step) in
+    let i : with-entry no-grants (t .value) ≡ e .grants = subst (λ (o : Grants). with-entry o (t .value) ≡ e .grants) x (t .is) in
+    record { seen = t .value ∷ []; so-far = i; small = h .within; from = s .up; inside = s .inside; left = first-left s (many0 separated-entry (e .next) (drop (e .next - b) u)) refl }
+entered {b} {n} {c} {u} {r} {g} {e} (next i t) q h f =
+    let s = entry-there g q h f in
+    let v = drop (n - b) u in
+    let k = pair-on _ _ _ t (sym (s .step .goes)) ∙ separated-is n v in
     record {
-      reads = mapped-ok (grants-from no-grants) entries b u (t .value ∷ k .value) d (drop (d - b) u) z (catch-ok some-entries (λ q. ret []) b u (t .value ∷ k .value) d (drop (d - b) u) (begin some-entries b u (go _ (t .step) (go _ (k .step) (done _ _ _ _)))));
-      within = h .within;
+      seen = i .seen ++ (s .value ∷ []);
+      so-far = grants-more no-grants (i .seen) (s .value) ∙ (ap (λ (o : Grants). with-entry o (s .value)) (i .so-far) ∙ s .is);
+      small = h .within;
+      from = omega (arith, i .from, t .up, s .step .up);
+      inside = s .step .inside;
+      left = i .left ∙ (ap (before (i .seen)) (many0-more separated-entry separated-consumes n v (s .value) (e .next) (drop (e .next - b) u) (sym k)) ∙ before-more (i .seen) (s .value) (many0 separated-entry (e .next) (drop (e .next - b) u)));
     }
-entries-some {b} {c} {u} {r} {x} {g} t e (NoList (Fail p)) q h = absurd (many0-calm separated-entry c r p (lost-as (grants-from g) (many0 separated-entry) c r (Fail p) (h .reads)))
-entries-some {b} {c} {u} {r} {x} {g} t e (NoList (Stop n p)) q h =
-    let k = lost-as (grants-from g) (many0 separated-entry) c r (Stop n p) (h .reads) in
-    record { reads = mapped-not (grants-from no-grants) entries b u (Stop n p) (catch-stop some-entries (λ q. ret []) b u n p (begin some-entries b u (go _ (t .step) (lose _ _ (Stop n p) q k)))); within = tt }
 
-pub first-grants : {a : AccessRead} {n : ℕ} {r : List ℕ} {x : Grant} {c : ℕ} {g : Grants} → AccessTo access-entry a n r → a ≡ Access x c → g ≡ grantsWith no-grants x → grantsSmall g
-first-grants {x = x} h d e = rw e (grants-small no-grants x first-small (access-small access-entry h d))
+-- the list, which may be absent
+list-calm : Calm access-list
+unfolding access-list separated-list0
+list-calm =
+    let list = calm-catch (calm-bind entry-calm λ a. calm-bind (calm-many0 separated-calm) λ l. calm-ret _) (λ p. calm-ret _) in
+    calm-then calm-blanks (calm-then (calm-keyword _) (calm-then calm-blanks (calm-then (calm-tag 40) (calm-then calm-blanks (calm-bind list λ l. calm-then calm-blanks (calm-then (calm-tag 41) (calm-ret _)))))))
 
--- a list that may be absent, by what it grants
-abbrev OptionalTo : ListRead → ℕ → List ℕ → Type 0
-OptionalTo a b u = ReadTo listAnswer listSmall (mapped (opt access-list) (λ o. grants-from no-grants (listed o))) a b u
+list-on : Onward (opt access-list)
+list-on = walks (chain-opt (chain-inside access-list-inside))
 
-optional-reads : (a : ListRead) (b : ℕ) (u : List ℕ) → ListTo no-grants access-list a b u → OptionalTo (optionalList a b) b u
-unfolding listed grants-from
-optional-reads (Listed g c) b u h =
-    let t : TookAs (grants-from no-grants) access-list b u b g c = read-as h refl (walks (chain-inside access-list-inside)) (rest-self b u) refl in
-    let k : ok (t .value) c (drop (c - b) u) ≡ access-list b u = begin access-list b u (sym (t .step .goes)) in
-    record { reads = mapped-ok _ (opt access-list) b u (some (t .value)) c (drop (c - b) u) (t .is) (opt-ok access-list b u (t .value) c (drop (c - b) u) k); within = h .within }
-optional-reads (NoList (Fail p)) b u h =
-    let z : b - b ≡ 0 = omega arith in
-    let k : fail p ≡ access-list b u = lost-as (grants-from no-grants) access-list b u (Fail p) (h .reads) in
-    record { reads = mapped-ok _ (opt access-list) b u none b (drop (b - b) u) refl (rw z (opt-fail access-list b u p k)); within = first-small }
-optional-reads (NoList (Stop n p)) b u h =
-    let k : stop n p ≡ access-list b u = lost-as (grants-from no-grants) access-list b u (Stop n p) (h .reads) in
-    record { reads = mapped-not _ (opt access-list) b u (Stop n p) (opt-stop access-list b u n p k); within = tt }
-
-pub optional-there : (r : ListRead) (b : ℕ) {g : Grants} {c : ℕ} → r ≡ Listed g c → r ≡ optionalList r b
-optional-there r b d = rw d refl
-
-pub optional-end : {r t : ListRead} (b : ℕ) {l : Lost} → r ≡ NoList l → t ≡ listEnd l no-grants b → t ≡ optionalList r b
-optional-end b d e = rw d e
+pub access-absent : (l : Lost) {b : ℕ} {u : List ℕ} → lostReply l ≡ access-list b u → PrivilegesTo (Privileges 0 1 b) b u
+unfolding attribute-access default-privileges listed granted-by
+access-absent l {b} {u} e = record { reads = begin attribute-access b u (go _ (took list-on (rest-self b u) (calm-absent list-calm l e)) (done _ _ _ _)); within = first-small }
 
 -- the definition's fold over the list
 abbrev granted : Grants → Parser PrivilegesOf
@@ -322,12 +402,12 @@ granted (Granted r w) = ret (record { read = r; write = w })
 granted (RefusedAt o) = stopAt 6 o
 
 refused-stays : (o : ℕ) (l : List AccessOf) → grants-from (RefusedAt o) l ≡ RefusedAt o
-unfolding grants-from
+unfolding grants-from with-entry
 refused-stays o [] = refl
 refused-stays o (a ∷ l) = refused-stays o l
 
 granted-is : (r w : ℕ) (l : List AccessOf) → granted-by (record { read = r; write = w }) l ≡ granted (grants-from (Granted r w) l)
-unfolding granted-by grants-from grant-of operation-of pick
+unfolding granted-by grants-from with-entry operation-of pick
 granted-is r w [] = refl
 granted-is r w (a ∷ l) = go (same-bytes (bytesOf (a .operation)) (ascii "read")) refl (same-bytes (bytesOf (a .operation)) (ascii "write")) refl (λ r w. granted-is r w l)
   where
@@ -337,34 +417,21 @@ granted-is r w (a ∷ l) = go (same-bytes (bytesOf (a .operation)) (ascii "read"
     go false d true e ih = rw (d, e) (ih r (a .granted))
     go false d false e ih = rw (d, e, refused-stays (offsetOf (a .operation)) l)
 
-module _ {b : ℕ} {u : List ℕ} {a t : ListRead} (h : ListTo no-grants access-list a b u) (d : t ≡ optionalList a b) where
-  optional-to : OptionalTo t b u
-  optional-to = rw d (optional-reads a b u h)
+folded : (l : List AccessOf) {g x : Grants} → grants-from no-grants l ≡ g → g ≡ x → granted-by default-privileges l ≡ granted x
+unfolding default-privileges
+folded l i d = granted-is 0 1 l ∙ ap (λ (y : Grants). granted y) (i ∙ d)
 
-  pub access-stops : {l l' : Lost} → l' ≡ listLost t → t ≡ NoList l → PrivilegesTo (NoPrivileges l') b u
-  unfolding attribute-access
-  access-stops {l} {l'} e f =
-      record { reads = begin attribute-access b u (lose (opt access-list) _ l' (rest-self b u) (lost-as (λ o. grants-from no-grants (listed o)) (opt access-list) b u l' (read-lost optional-to f listLost e refl))); within = tt }
+module _ {l : List AccessOf} {g : Grants} (i : grants-from no-grants l ≡ g) {b c : ℕ} {u : List ℕ} where
+  whole : ok l c (drop (c - b) u) ≡ access-list b u → Took (opt access-list) b u b (some l) c
+  whole e = took list-on (rest-self b u) (opt-ok access-list b u l c (drop (c - b) u) e)
 
-  whole : {g : Grants} {c : ℕ} → t ≡ Listed g c → TookAs (λ o. grants-from no-grants (listed o)) (opt access-list) b u b g c
-  whole f = read-as optional-to f (walks (chain-opt (chain-inside access-list-inside))) (rest-self b u) refl
+  pub access-grants : {r w : ℕ} → g ≡ Granted r w → grantsSmall g → ok l c (drop (c - b) u) ≡ access-list b u → PrivilegesTo (Privileges r w c) b u
+  unfolding attribute-access listed
+  access-grants {r} {w} d h e = record { reads = begin attribute-access b u (go _ (whole e) (rw (folded l i d) (done _ _ _ _))); within = subst (λ (y : Grants). grantsSmall y) d h }
 
-  pub access-grants : {g : Grants} {c r w : ℕ} → t ≡ Listed g c → g ≡ Granted r w → PrivilegesTo (Privileges r w c) b u
-  unfolding attribute-access default-privileges
-  access-grants {g} {c} {r} {w} f e =
-      let k = whole f in
-      let z : granted-by default-privileges (listed (k .value)) ≡ ret (record { read = r; write = w }) = granted-is 0 1 (listed (k .value)) ∙ ap (λ (y : Grants). granted y) (k .is ∙ e) in
-      record {
-        reads = begin attribute-access b u (go _ (k .step) (rw z (done _ _ _ _)));
-        within = subst (λ (y : Grants). grantsSmall y) e (read-within optional-to f);
-      }
-
-  pub access-refused : {g : Grants} {c o : ℕ} → t ≡ Listed g c → g ≡ RefusedAt o → PrivilegesTo (NoPrivileges (Stop 6 o)) b u
-  unfolding attribute-access default-privileges stopAt
-  access-refused {g} {c} {o} f e =
-      let k = whole f in
-      let z : granted-by default-privileges (listed (k .value)) ≡ stopAt 6 o = granted-is 0 1 (listed (k .value)) ∙ ap (λ (y : Grants). granted y) (k .is ∙ e) in
-      record { reads = begin attribute-access b u (go _ (k .step) (rw z)); within = tt }
+  pub access-refused : {o : ℕ} → g ≡ RefusedAt o → ok l c (drop (c - b) u) ≡ access-list b u → PrivilegesTo (NoPrivileges (Stop 6 o)) b u
+  unfolding attribute-access listed stopAt
+  access-refused {o} d e = record { reads = begin attribute-access b u (go _ (whole e) (rw (folded l i d))); within = tt }
 
 pub attribute-access-onward : Onward attribute-access
 attribute-access-onward = walks (chain-inside attribute-access-inside)
@@ -377,30 +444,44 @@ pub attribute-words : (a : AttributeOf) → word-count (attribute-records a) ≡
 unfolding word-count catalogue-words each record-words layout-20 attribute-records field-record plain documented
 attribute-words a = refl
 
-pub attribute-counted : (d : DocSpan) (v : ℕ) {a : AttributeRead} {b : ℕ} {u : List ℕ} {p : AttributeParts} {c : ℕ} → AttributeTo d v a b u → a ≡ Attribute p c
-    → CountTo attribute-records (parse-attribute-after-doc-maturity (docOf d) v) (Words 6 c) b u
-attribute-counted d v h e = read-counted attribute-records (parse-attribute-consumes (docOf d) v) h e refl (attribute-words _) (omega arith)
+-- the two ways of a reader, and of a count
+module _ {b : ℕ} {u : List ℕ} where
+  pub attribute-not : (l : Lost) → ((d : Doc) (m : ℕ) → lostReply l ≡ parse-attribute-after-doc-maturity d m b u) → AttributeTo (NoAttribute l) b u
+  attribute-not l e = record { to = λ d m. record { reads = e d m; within = tt } }
+
+  pub attribute-is : {p : AttributeParts} {c : ℕ} → AttributeBetween b p c → ((d : Doc) (m : ℕ) → ok (attributeAt d m b u p) c (drop (c - b) u) ≡ parse-attribute-after-doc-maturity d m b u) → AttributeTo (Attribute p c) b u
+  attribute-is w e = record { to = λ d m. record { reads = e d m; within = w } }
+
+  module _ {a : AttributeRead} (h : AttributeTo a b u) where
+    pub attribute-none : {l : Lost} → a ≡ NoAttribute l → (d : Doc) (m : ℕ) → lostReply l ≡ parse-attribute-after-doc-maturity d m b u
+    attribute-none e d m = reads-as (h .to d m) e
+
+    pub attribute-lost : {l : Lost} → a ≡ NoAttribute l → AttributeCountTo (NoCount l) b u
+    attribute-lost {l} e = record { counts = λ i. count-not attribute-records _ b u l (attribute-none e (i .doc) (i .maturity)) }
+
+    pub attribute-counted : {p : AttributeParts} {c : ℕ} → a ≡ Attribute p c → AttributeCountTo (Words 6 c) b u
+    attribute-counted e = record { counts = λ i. read-counted attribute-records (parse-attribute-consumes (i .doc) (i .maturity)) (h .to (i .doc) (i .maturity)) e refl (attribute-words _) (omega arith) }
 
 -- The second pass.
 
 -- the words of both records
-pub attribute-put : (a : AttributeParts) (p v : ℕ) (l l₁ l₂ : List ℕ) → p + 48 ≤ length l → v ≡ docBit (a .doc)
-    → l₁ ≡ put p (words-bytes (first-of (record { kind = 7; place = 0; maturity = a .maturity; documented = v; flags = a .flags * 8; name = 0; size = 0; privilege = a .read; further = a .write }) ∷ docWord (a .doc) ∷ [])) l
-    → l₂ ≡ put (p + 16) (catalogue-bytes layout-20 (field-parts (a .field) ∷ [])) l₁ → l₂ ≡ put p (catalogue-bytes layout-20 (attribute-parts a)) l
+pub attribute-put : (h : FrontParts) (a : AttributeParts) (p v : ℕ) (l l₁ l₂ : List ℕ) → p + 48 ≤ length l → v ≡ docBit (h .doc)
+    → l₁ ≡ put p (words-bytes (first-of (record { kind = 7; place = 0; maturity = h .maturity; documented = v; flags = a .flags * 8; name = 0; size = 0; privilege = a .read; further = a .write }) ∷ docWord (h .doc) ∷ [])) l
+    → l₂ ≡ put (p + 16) (catalogue-bytes layout-20 (field-parts (a .field) ∷ [])) l₁ → l₂ ≡ put p (catalogue-bytes layout-20 (attribute-parts h a)) l
 unfolding from-top packed width offset size
-attribute-put a p v l l₁ l₂ r d e₁ e₂ =
-    let w : List ℕ = first-of (record { kind = 7; place = 0; maturity = a .maturity; documented = docBit (a .doc); flags = a .flags * 8; name = 0; size = 0; privilege = a .read; further = a .write }) ∷ docWord (a .doc) ∷ [] in
+attribute-put h a p v l l₁ l₂ r d e₁ e₂ =
+    let w : List ℕ = first-of (record { kind = 7; place = 0; maturity = h .maturity; documented = docBit (h .doc); flags = a .flags * 8; name = 0; size = 0; privilege = a .read; further = a .write }) ∷ docWord (h .doc) ∷ [] in
     let f : List ℕ = catalogue-bytes layout-20 (field-parts (a .field) ∷ []) in
     let y : a .flags * 8 ≡ from-top 7 (bits 4 (a .flags) ∷ []) = omega arith in
-    let z = documented-bytes 7 0 (a .maturity) (a .doc) (bits 4 (a .flags) ∷ []) absent (a .read) (a .write) [] (a .flags * 8) y in
+    let z = documented-bytes 7 0 (h .maturity) (h .doc) (bits 4 (a .flags) ∷ []) absent (a .read) (a .write) [] (a .flags * 8) y in
     let k = catalogue-bytes-length (field-parts (a .field) ∷ []) in
     let g : l₂ ≡ put p (words-bytes w ++ f) l = put-on p (p + 16) (words-bytes w) f l l₁ l₂ (omega (arith, words-bytes-length w)) (omega (arith, k, field-parts-words (a .field))) (rw (← d) e₁) e₂ in
-    rw (catalogue-bytes-append layout-20 (attribute-first a ∷ []) (field-parts (a .field) ∷ []), z) g
+    rw (catalogue-bytes-append layout-20 (attribute-first h a ∷ []) (field-parts (a .field) ∷ []), z) g
 
 -- the records of what was read
-pub attribute-parts-is : (b : ℕ) (u : List ℕ) (a : AttributeParts) (c : ℕ) → AttributeBetween b a c → c ≤ b + length u → attribute-parts a ≡ attribute-records (attributeAt b u a)
+pub attribute-parts-is : (f : FrontParts) (b : ℕ) (u : List ℕ) (a : AttributeParts) (c : ℕ) → AttributeBetween b a c → c ≤ b + length u → attribute-parts f a ≡ attribute-records (attributeAt (docOf (f .doc)) (f .maturity) b u a)
 unfolding attribute-records
-attribute-parts-is b u a c w i = rw (field-parts-is b u (a .field) c (w .field) i)
+attribute-parts-is f b u a c w i = rw (field-parts-is b u (a .field) c (w .field) i)
 
 pub attribute-in-limit : {b : ℕ} {a : AttributeParts} {c : ℕ} → AttributeBetween b a c → c ≤ text-limit → AttributeBetween 0 a text-limit
 attribute-in-limit w i = record { flags = w .flags; privileges = w .privileges; field = field-in-limit (w .field) i }

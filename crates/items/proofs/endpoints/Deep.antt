@@ -1,21 +1,21 @@
--- Tries between braces that keep the furthest place: a try, a loop of tries, and the braces around it. They hold for any tries and records.
+-- Tries between braces, and the first pass over a loop of them. They hold for any tries and records.
 use mathlib.Core.Path.{_≡_, refl, sym, ap, _∙_, subst}
+use mathlib.Core.Logic.{_⊎_, inl, inr}
+use mathlib.Core.Bool.{Bool, true, false}
 use mathlib.Core.List.{List, [], _∷_, _++_}
-use Prim.Native.Nat.{ℕ, _+_, _-_, _*_, _≤_, _<_, max}
+use Prim.Native.Nat.{ℕ, suc, _+_, _-_, _*_, _≤_, _<_, max}
 use native.Mathlib.Omega.{arith}
-use lib.ListN.{length, drop}
-use Rattle.lexing.specs.reply.{Reply, ok, fail, stop, Parser, _>>=_, _>>_, catch, position, failAt}
+use lib.Dec.{eqb}
+use lib.ListN.{drop}
+use Rattle.lexing.specs.reply.{Reply, ok, fail, stop, Parser, ret, _>>=_, _>>_, catch, position, failAt}
 use Rattle.lexing.specs.words.{tag}
 use Rattle.lexing.specs.blanks.{Doc, whitespace0}
-use Rattle.lexing.specs.answers.{Rest, lostReply, reply, tagReply}
+use Rattle.lexing.specs.answers.{Answer, got, lost, Rest, lostReply, reply}
 use Rattle.lexing.specs.declared.answers.Lost.{Lost}
 use Rattle.lexing.specs.declared.answers.Lost.the-variants.{Fail, Stop}
-use Rattle.lexing.specs.declared.answers.Step.{Step}
-use Rattle.lexing.specs.declared.answers.Step.the-variants.{Next}
-use Rattle.lexing.proofs.Onward.{Ends, Onward}
-use Rattle.lexing.proofs.Chain.{MovesTo, to-suf}
-use Rattle.lexing.proofs.Locality.{Consumes, LocalInside}
-use Rattle.lexing.proofs.Slicing.{Took, took, begin, go, on, lose, fall, done, rest-self, told-next}
+use Rattle.lexing.proofs.Onward.{Onward, advances-onward, tag-advances}
+use Rattle.lexing.proofs.Locality.{Consumes, LocalInside, chain-ret}
+use Rattle.lexing.proofs.Slicing.{Took, took, walks, begin, go, on, lose, fall, done, rest-self, rest-from}
 use Rattle.lexing.proofs.Repetition.{IterAt, iter-start, iter-step, iter-ends, iter-stop}
 use Rattle.items.specs.entries.{enclosed}
 use Rattle.items.specs.clusters.{mapped}
@@ -23,55 +23,17 @@ use Rattle.items.specs.endpoints.{Tried as TriedOf, Deep, intercept, dee
 use Rattle.items.specs.records.{Record}
 use Rattle.items.specs.layout.{word-count}
 use Rattle.items.specs.answers.{CountTo}
-use Rattle.items.specs.answers.endpoints.{weighed, triedAnswer, triedLost, TriedFew, WeighedTo, TriedTo, DeepTo}
-use Rattle.items.specs.inner.endpoints.{furtherLost, triedEnd, deep-close}
+use Rattle.items.specs.answers.endpoints.{triedAnswer, weighed, TriedTo}
+use Rattle.items.specs.inner.endpoints.{deep-close, deep-tail, deep-rest}
+use Rattle.items.specs.declared.counts.Count.{Count}
 use Rattle.items.specs.declared.counts.Count.the-variants.{Words, NoCount}
-use Rattle.items.specs.declared.endpoints.Tried.{Tried}
-use Rattle.items.specs.declared.endpoints.Tried.the-variants.{Found, NotFound}
-use Rattle.items.proofs.Mapped.{mapped-ok, mapped-not, value-as, lost-as}
-use Rattle.items.proofs.Locality.{close-moves, deep-step-consumes}
+use Rattle.lexing.proofs.Composed.{onward-bind}
+use Rattle.items.proofs.Choice.{Past}
+use Rattle.items.proofs.Mapped.{mapped-ok, mapped-not, mapped-same, value-as, lost-as}
+use Rattle.items.proofs.Locality.{close-moves, deep-step-consumes, deep-run-inside}
 use Rattle.items.proofs.RecordWords.{Elementwise, word-count-none, word-count-more}
-use Rattle.items.proofs.Braces.{leaves, close-took, close-caught}
-use Rattle.items.proofs.counts.Laws.{count-is, count-not}
-use Rattle.items.proofs.Headed.{further-on}
-
--- what was found as a step of a sequence: the value, its words, the furthest place that it keeps, the step, and how few words they are
-pub record Weighed {A : Type 0} (records : A → List Record) (place : A → ℕ) (m : Parser A) (b : ℕ) (u : List ℕ) (n k c q : ℕ) : Type 0 where
-  pub value : A
-  pub words : word-count (records value) ≡ k
-  pub far : place value ≡ q
-  pub step : Took m b u n value c
-  pub few : k ≤ 8 * (c - n)
-
-abbrev weight : {A : Type 0} → (A → List Record) → (A → ℕ) → A → TriedOf ℕ
-weight records place a = record { furthest = place a; found = word-count (records a) }
-
-module _ {A : Type 0} {records : A → List Record} {place : A → ℕ} {m : Parser A} where
-  pub weighed-took : (w : Onward m) {b n : ℕ} {u r : List ℕ} {a : Tried} {k c q : ℕ} → Rest b u n r → a ≡ Found k c q → WeighedTo records place m a n r → Weighed records place m b u n k c q
-  unfolding weighed
-  weighed-took w {b} {n} {u} {r} {a} {k} {c} {q} z e h =
-      let s = value-as (weight records place) m n r (record { furthest = q; found = k }) c (drop (c - n) r) (subst (λ (x : Tried). reply (triedAnswer x) n r ≡ weighed records place m n r) e (h .reads)) in
-      record {
-        value = s .0;
-        words = ap (λ (t : TriedOf ℕ). t .found) (s .1 .0);
-        far = ap (λ (t : TriedOf ℕ). t .furthest) (s .1 .0);
-        step = took w z (s .1 .1);
-        few = subst (λ (x : Tried). TriedFew x n) e (h .few);
-      }
-
-  pub weighed-lost : {a : Tried} {l l' : Lost} → l' ≡ triedLost a → a ≡ NotFound l → (n : ℕ) (r : List ℕ) → WeighedTo records place m a n r → lostReply l' ≡ m n r
-  unfolding weighed
-  weighed-lost {a} {l} {l'} e d n r h =
-      let z : l' ≡ l = e ∙ ap triedLost d in
-      rw z (lost-as (weight records place) m n r l (subst (λ (x : Tried). reply (triedAnswer x) n r ≡ weighed records place m n r) d (h .reads)))
-
-  pub weighed-is : (a : A) (k c q b : ℕ) (u : List ℕ) → word-count (records a) ≡ k → place a ≡ q → k ≤ 8 * (c - b) → ok a c (drop (c - b) u) ≡ m b u → WeighedTo records place m (Found k c q) b u
-  unfolding weighed
-  weighed-is a k c q b u s z f e = record { reads = rw (← s, ← z) (mapped-ok (weight records place) m b u a c (drop (c - b) u) refl e); few = f }
-
-  pub weighed-not : (l : Lost) (b : ℕ) (u : List ℕ) → lostReply l ≡ m b u → WeighedTo records place m (NotFound l) b u
-  unfolding weighed
-  weighed-not l b u e = record { reads = mapped-not (weight records place) m b u l e; few = tt }
+use Rattle.items.proofs.Braces.{lost-not, brace-first, leaves, close-took, close-caught}
+use Rattle.items.proofs.counts.Laws.{count-is, count-not, count-pass, count-value, count-lost, count-behind}
 
 -- a try: found, failed, and stopped
 module _ {A : Type 0} (q : ℕ) (m : Parser A) (k : ℕ → Parser (TriedOf A)) (b : ℕ) (u : List ℕ) where
@@ -82,141 +44,264 @@ module _ {A : Type 0} (q : ℕ) (m : Parser A) (k : ℕ → Parser (TriedOf A)) 
   unfolding intercept catch
   intercept-found a c r e = rw (sym (mapped-ok with-place m b u a c r refl e), intercept, catch) refl
 
-  pub next-at : {X : Reply (TriedOf A)} (l : Lost) (q' : ℕ) → Fail q' ≡ furtherLost l q → lostReply l ≡ m b u → X ≡ k q' b u → X ≡ intercept q m k b u
+  pub next-at : {X : Reply (TriedOf A)} (p : ℕ) → fail p ≡ m b u → X ≡ k (max q p) b u → X ≡ intercept q m k b u
   unfolding intercept catch
-  next-at (Fail p) q' d e h =
-      let y : q' ≡ max p q = cc in
-      let z : max q p ≡ q' = omega arith in
-      rw (sym (mapped-not with-place m b u (Fail p) e), intercept, catch) (rw z h)
-  next-at (Stop n p) q' d e h = absurd (let z : _≡_ {A = ℕ} 0 1 = cc in omega arith)
+  next-at p e h = rw (sym (mapped-not with-place m b u (Fail p) e), intercept, catch) h
 
-  pub stop-at : (l : Lost) (n p : ℕ) → Stop n p ≡ furtherLost l q → lostReply l ≡ m b u → stop n p ≡ intercept q m k b u
+  pub stop-at : (n p : ℕ) → stop n p ≡ m b u → stop n p ≡ intercept q m k b u
   unfolding intercept catch
-  stop-at (Fail p') n p d e = absurd (let z : _≡_ {A = ℕ} 0 1 = cc in omega arith)
-  stop-at (Stop i p') n p d e =
-      let y : n ≡ i = cc in
-      let z : p ≡ p' = cc in
-      rw (y, z) (rw (sym (mapped-not with-place m b u (Stop i p') e), intercept, catch) refl)
+  stop-at n p e = rw (sym (mapped-not with-place m b u (Stop n p) e), intercept, catch) refl
 
-  module _ (l : Lost) {l' : Lost} (d : l' ≡ furtherLost l q) (e : lostReply l ≡ m b u) where
-    pub intercept-next : {X : Reply (TriedOf A)} {q' : ℕ} → l' ≡ Fail q' → X ≡ k q' b u → X ≡ intercept q m k b u
-    intercept-next {X} {q'} z h = next-at l q' (sym z ∙ d) e h
+abbrev pub three-tries : {A : Type 0} (m₁ m₂ m₃ : Parser A) → ℕ → Parser (TriedOf A)
+three-tries m₁ m₂ m₃ q = intercept q m₁ λ q. intercept q m₂ λ q. intercept q m₃ λ q. failAt q
 
-    pub intercept-stop : {n p : ℕ} → l' ≡ Stop n p → lostReply l' ≡ intercept q m k b u
-    intercept-stop {n} {p} z = ap (λ (x : Lost). lostReply x) z ∙ stop-at l n p (sym z ∙ d) e
-
--- the last of the tries
-module _ {A : Type 0} (q : ℕ) (m : Parser A) (b : ℕ) (u : List ℕ) where
-  last-at : (l : Lost) → lostReply l ≡ m b u → lostReply (furtherLost l q) ≡ intercept q m (λ q. failAt q) b u
+module _ {A : Type 0} (m₁ m₂ m₃ : Parser A) {b : ℕ} {u : List ℕ} where
+  pub none-found : {p p' p'' : ℕ} → fail p ≡ m₁ b u → fail p' ≡ m₂ b u → fail p'' ≡ m₃ b u → (q : ℕ) → fail (max (max (max q p) p') p'') ≡ three-tries m₁ m₂ m₃ q b u
   unfolding failAt
-  last-at (Fail p) e = next-at q m (λ q. failAt q) b u (Fail p) (max p q) refl e refl
-  last-at (Stop n p) e = stop-at q m (λ q. failAt q) b u (Stop n p) n p refl e
+  none-found {p} {p'} {p''} h h' h'' q = next-at q m₁ _ b u p h (next-at (max q p) m₂ _ b u p' h' (next-at (max (max q p) p') m₃ _ b u p'' h'' refl))
 
-  pub intercept-last : (l : Lost) {l' : Lost} → l' ≡ furtherLost l q → lostReply l ≡ m b u → lostReply l' ≡ intercept q m (λ q. failAt q) b u
-  intercept-last l d e = rw d (last-at l e)
+  -- a try that fails at the start adds no place
+  past-start : (m : Parser A) (k : ℕ → Parser (TriedOf A)) {X : Reply (TriedOf A)} → fail b ≡ m b u → X ≡ k b b u → X ≡ intercept b m k b u
+  past-start m k {X} e h = let z : b ≡ max b b = omega arith in next-at b m k b u b e (subst (λ (q : ℕ). X ≡ k q b u) z h)
 
--- a reader as a try: what it read is found
-module _ {A B : Type 0} (g : A → B) {m : Parser A} {b : ℕ} {u : List ℕ} {a : A} {c : ℕ} (t : Took m b u b a c) where
-  pub try-here : (q : ℕ) (k : ℕ → Parser (TriedOf B)) → ok (record { furthest = q; found = g a }) c (drop (c - b) u) ≡ intercept q (mapped m g) k b u
-  try-here q k = intercept-found q (mapped m g) k b u (g a) c (drop (c - b) u) (mapped-ok g m b u a c (drop (c - b) u) refl (begin m b u (sym (t .goes))))
+  -- where two of three tries do, the answer of the third is that of all
+  pub first-alone : fail b ≡ m₂ b u → fail b ≡ m₃ b u → Past b (m₁ b u) → (x : Answer A) → reply x b u ≡ m₁ b u → reply (triedAnswer b x) b u ≡ three-tries m₁ m₂ m₃ b b u
+  first-alone h h' p (got a c) e = intercept-found b m₁ _ b u a c (drop (c - b) u) e
+  first-alone h h' p (lost (Fail q)) e = let i : b ≤ q = rw (← e) at p in let z : q ≡ max (max (max b q) b) b = omega (arith, i) in ap fail z ∙ none-found e h h' b
+  first-alone h h' p (lost (Stop n q)) e = stop-at b m₁ _ b u n q e
 
-  -- where its words are counted
-  pub try-counts : (one : B → List Record) {f : Parser (TriedOf B)} {n q : ℕ} → word-count (one (g a)) ≡ n → n ≤ 8 * (c - b) → ok (record { furthest = q; found = g a }) c (drop (c - b) u) ≡ f b u → TriedTo one f (Found n c q) b u
-  try-counts one {n = n} {q = q} s h e = weighed-is (record { furthest = q; found = g a }) n c q b u s refl h e
+  pub second-alone : fail b ≡ m₁ b u → fail b ≡ m₃ b u → Past b (m₂ b u) → (x : Answer A) → reply x b u ≡ m₂ b u → reply (triedAnswer b x) b u ≡ three-tries m₁ m₂ m₃ b b u
+  second-alone h h' p (got a c) e = past-start m₁ _ h (intercept-found b m₂ _ b u a c (drop (c - b) u) e)
+  second-alone h h' p (lost (Fail q)) e = let i : b ≤ q = rw (← e) at p in let z : q ≡ max (max (max b b) q) b = omega (arith, i) in ap fail z ∙ none-found h e h' b
+  second-alone h h' p (lost (Stop n q)) e = past-start m₁ _ h (stop-at b m₂ _ b u n q e)
 
-  -- where it always takes so many words
-  pub try-is : Consumes m → (one : B → List Record) {f : Parser (TriedOf B)} {n q : ℕ} → word-count (one (g a)) ≡ n → n ≤ 8 → ok (record { furthest = q; found = g a }) c (drop (c - b) u) ≡ f b u → TriedTo one f (Found n c q) b u
-  try-is w one s h e = let b≤b : b ≤ b = omega arith in try-counts one s (omega (arith, h, further-on w b≤b t)) e
+  pub third-alone : fail b ≡ m₁ b u → fail b ≡ m₂ b u → Past b (m₃ b u) → (x : Answer A) → reply x b u ≡ m₃ b u → reply (triedAnswer b x) b u ≡ three-tries m₁ m₂ m₃ b b u
+  third-alone h h' p (got a c) e = past-start m₁ _ h (past-start m₂ _ h' (intercept-found b m₃ _ b u a c (drop (c - b) u) e))
+  third-alone h h' p (lost (Fail q)) e = let i : b ≤ q = rw (← e) at p in let z : q ≡ max (max (max b b) b) q = omega (arith, i) in ap fail z ∙ none-found h h' e b
+  third-alone h h' p (lost (Stop n q)) e = past-start m₁ _ h (past-start m₂ _ h' (stop-at b m₃ _ b u n q e))
+
+-- What tries answer after a furthest place q, by what they answer after q': they find the same, and where they fail only these two places make a difference.
+abbrev pub Near : {A : Type 0} → (q q' : ℕ) → Reply (TriedOf A) → Reply (TriedOf A) → Type 0
+Near q q' (ok t c r) y = (far : ℕ) × (((q' ≤ t .furthest) × (far ≤ max q (t .furthest))) × (ok (record { furthest = far; found = t .found }) c r ≡ y))
+Near q q' (fail p) y = (p' : ℕ) × ((((q' ≤ p) × (q ≤ p')) × (max p' q' ≡ max p q)) × (fail p' ≡ y))
+Near q q' (stop n p) y = stop n p ≡ y
+
+abbrev pub Nearer : {A : Type 0} → (ℕ → Parser (TriedOf A)) → Type 0
+Nearer f = (q q' b : ℕ) (u : List ℕ) → Near q q' (f q' b u) (f q b u)
+
+near-last : (A : Type 0) → Nearer {A = A} (λ q. failAt q)
+unfolding failAt
+near-last A q q' b u = (q, (((omega arith, omega arith), omega arith), refl))
+
+near-wider : {A : Type 0} (p q q' : ℕ) (X Y : Reply (TriedOf A)) → Near (max q p) (max q' p) X Y → Near q q' X Y
+near-wider p q q' (ok t c r) Y h = let i = h .1 .0 .0 in let j = h .1 .0 .1 in (h .0, ((omega (arith, i), omega (arith, i, j)), h .1 .1))
+near-wider p q q' (fail n) Y h = let i = h .1 .0 .0 .0 in let j = h .1 .0 .0 .1 in let k = h .1 .0 .1 in (h .0, (((omega (arith, i), omega (arith, j)), omega (arith, i, j, k)), h .1 .1))
+near-wider p q q' (stop n r) Y h = h
+
+near-more : {A : Type 0} (m : Parser A) (k : ℕ → Parser (TriedOf A)) → Nearer k → Nearer (λ q. intercept q m k)
+near-more {A} m k h q q' b u = go (m b u) refl
+  where
+    go : (x : Reply A) → m b u ≡ x → Near q q' (intercept q' m k b u) (intercept q m k b u)
+    go (ok a c r) e =
+        subst (λ (X : Reply (TriedOf A)). Near q q' X (intercept q m k b u)) (intercept-found q' m k b u a c r (sym e)) (q, ((omega arith, omega arith), intercept-found q m k b u a c r (sym e)))
+    go (fail p) e =
+        let z' = next-at q' m k b u p (sym e) refl in
+        let z = next-at q m k b u p (sym e) refl in
+        subst (λ (X : Reply (TriedOf A)). Near q q' X (intercept q m k b u)) z' (subst (λ (X : Reply (TriedOf A)). Near q q' (k (max q' p) b u) X) z (near-wider p q q' (k (max q' p) b u) (k (max q p) b u) (h (max q p) (max q' p) b u)))
+    go (stop n p) e = subst (λ (X : Reply (TriedOf A)). Near q q' X (intercept q m k b u)) (stop-at q' m k b u n p (sym e)) (stop-at q m k b u n p (sym e))
+
+pub nearer : {A : Type 0} (m₁ m₂ m₃ : Parser A) → Nearer (three-tries m₁ m₂ m₃)
+nearer {A} m₁ m₂ m₃ = near-more m₁ _ (near-more m₂ _ (near-more m₃ _ (near-last A)))
+
+near-found : {A : Type 0} (f : ℕ → Parser (TriedOf A)) → Nearer f → (q b : ℕ) (u : List ℕ) {t : TriedOf A} {c : ℕ} {r : List ℕ} → ok t c r ≡ f b b u → Near q b (ok t c r) (f q b u)
+near-found {A} f n q b u e = subst (λ (X : Reply (TriedOf A)). Near q b X (f q b u)) (sym e) (n q b b u)
+
+-- a try that counts
+module _ {A : Type 0} (one : A → List Record) (f : ℕ → Parser (TriedOf A)) {b : ℕ} {u : List ℕ} where
+  pub tried-is : (a : A) (k c : ℕ) → word-count (one a) ≡ k → k ≤ 8 * (c - b) → ok (record { furthest = b; found = a }) c (drop (c - b) u) ≡ f b b u → TriedTo one f (Words k c) b u
+  unfolding weighed
+  tried-is a k c s i e = record { reads = rw (← s) (mapped-ok _ (f b) b u (record { furthest = b; found = a }) c (drop (c - b) u) refl e); few = i }
+
+  pub tried-not : (l : Lost) → lostReply l ≡ f b b u → TriedTo one f (NoCount l) b u
+  unfolding weighed
+  tried-not l e = record { reads = mapped-not _ (f b) b u l e; few = tt }
+
+  -- by the one reader that is left
+  pub tried-by : {B : Type 0} (g : B → A) (m : Parser B) (r : Count) → ((x : Answer A) → reply x b u ≡ mapped m g b u → reply (triedAnswer b x) b u ≡ f b b u) → CountTo (λ x. one (g x)) m r b u → TriedTo one f r b u
+  tried-by g m (Words k c) s h =
+      let v = count-value (λ x. one (g x)) m b u k c h in
+      tried-is (g (v .value)) k c (v .words) (h .few) (s (got (g (v .value)) c) (mapped-ok g m b u (v .value) c (drop (c - b) u) refl (v .is)))
+  tried-by g m (NoCount l) s h = tried-not l (s (lost l) (mapped-not g m b u l (count-lost l refl b u h)))
+
+-- where a closing brace stands every try fails
+abbrev pub Unclosing : {A : Type 0} → (ℕ → Parser (TriedOf A)) → Type 0
+Unclosing f = (q b : ℕ) (u : List ℕ) → (p : ℕ) × (fail p ≡ f q b (125 ∷ u))
+
+-- a byte stands where reading is, or its tag fails there
+pub tag-cases : (t b : ℕ) (u : List ℕ) → Took (tag t) b u b tt (b + 1) ⊎ (fail b ≡ tag t b u)
+unfolding tag
+tag-cases t b [] = inr refl
+tag-cases t b (x ∷ u) = go (eqb x t) refl
+  where
+    go : (s : Bool) → eqb x t ≡ s → Took (tag t) b (x ∷ u) b tt (b + 1) ⊎ (fail b ≡ tag t b (x ∷ u))
+    go true e =
+        let z : b + 1 ≡ suc b = omega arith in
+        let y : suc b - b ≡ 1 = omega arith in
+        let k : ok tt (b + 1) (drop (b + 1 - b) (x ∷ u)) ≡ tag t b (x ∷ u) = rw (z, y, e, tag) refl in
+        inl (took (advances-onward (tag-advances t)) (rest-self b (x ∷ u)) k)
+    go false e = inr (rw (e, tag) refl)
+
+pub tag-missing : (t b : ℕ) (u : List ℕ) (l : Lost) → lostReply l ≡ tag t b u → fail b ≡ tag t b u
+tag-missing t b u l e = find (tag-cases t b u)
+  where
+    find : Took (tag t) b u b tt (b + 1) ⊎ (fail b ≡ tag t b u) → fail b ≡ tag t b u
+    find (inl k) = absurd (lost-not (begin (tag t) b u (sym (k .goes))) l e)
+    find (inr k) = k
+
+-- the state of a loop of tries at c, and its run so far
+abbrev start-at : {A : Type 0} → ℕ → Deep A
+start-at b = record { deepest = b; read = [] }
+
+abbrev pub RunAt : {A : Type 0} → (ℕ → Parser (TriedOf A)) → ℕ → List ℕ → ℕ → ℕ → List A → Type 0
+RunAt f b u c far seen = IterAt (deep-step f) deeper (start-at b) b u c (record { deepest = far; read = seen })
+
+module _ {A : Type 0} {f : ℕ → Parser (TriedOf A)} (t : (q : ℕ) → LocalInside (f q)) (v : (q : ℕ) → Consumes (f q)) {b c c₁ far : ℕ} {u : List ℕ} {seen : List A} {d : Doc} (i : RunAt f b u c far seen) (s : Took whitespace0 b u c d c₁) where
+  abbrev state : Deep A
+  state = record { deepest = far; read = seen }
+
+  -- a turn
+  pub turn : {x : TriedOf A} {e : ℕ} → Took (f far) b u c₁ x e → RunAt f b u e (x .furthest) (seen ++ (x .found ∷ [])) × (c < e)
+  unfolding deep-step
+  turn {x} {e} g =
+      let k = mapped-ok {B = Deep A} (λ x. record { deepest = x .furthest; read = seen ++ (x .found ∷ []) }) (f far) c₁ (drop (c₁ - b) u) x e (drop (e - b) u) refl (sym (g .goes)) in
+      iter-step (deep-step-consumes t v) i (record { goes = sym (on _ s k); up = omega (arith, s .up, g .up); inside = g .inside })
+
+  module _ {r : List ℕ} (q : Rest b u c₁ r) where
+    -- the same, by a try that starts with c₁ as the furthest place
+    pub turn-near : Nearer f → {x : TriedOf A} {e : ℕ} → ok x e (drop (e - c₁) r) ≡ f c₁ c₁ r → (far' : ℕ) × ((far' ≤ max far (x .furthest)) × (RunAt f b u e far' (seen ++ (x .found ∷ [])) × ((c < e) × (c₁ ≤ e))))
+    turn-near n {x} {e} k =
+        let y = near-found f n far c₁ r k in
+        let g = took (walks (t far .on-chain)) q (y .1 .1) in
+        let j = turn g in
+        (y .0, (y .1 .0 .1, (j .0, (j .1, g .up))))
+
+    step-lost : (l : Lost) → lostReply l ≡ f far c₁ r → lostReply l ≡ deep-step f state c (drop (c - b) u)
+    unfolding deep-step
+    step-lost l e = on _ s (mapped-not _ (f far) c₁ (drop (c₁ - b) u) l (e ∙ ap (f far c₁) (q .same)))
+
+    -- the loop ends where a try fails, and where one stops
+    run-ends : (p : ℕ) → fail p ≡ f far c₁ r → ok (deeper p state) c (drop (c - b) u) ≡ deep-run f b u
+    unfolding deep-run position _>>=_
+    run-ends p e = iter-ends (deep-step-consumes t v) i p (sym (step-lost (Fail p) e))
+
+    pub run-stops : (n p : ℕ) → stop n p ≡ f far c₁ r → stop n p ≡ deep-run f b u
+    unfolding deep-run position _>>=_
+    run-stops n p e = sym (iter-stop (deep-step f) deeper (deep-step-consumes t v) state c (drop (c - b) u) n p (sym (step-lost (Stop n p) e))) ∙ i .left
+
+    pub run-took : (p : ℕ) → fail p ≡ f far c₁ r → Took (deep-run f) b u b (record { deepest = max p far; read = seen }) c
+    unfolding deeper
+    run-took p e = took (walks (deep-run-inside t v .on-chain)) (rest-self b u) (run-ends p e)
+
+    -- without a closing brace the place is the furthest
+    pub unclosed : fail c₁ ≡ tag 125 c₁ r → (m : ℕ) → fail (max c₁ m) ≡ deep-close m c (drop (c - b) u)
+    unfolding deep-close failAt
+    unclosed e m = close-caught s _ (Fail c₁) q e
+
+    -- the closing brace
+    pub run-closed : Unclosing f → {e : ℕ} → Took (tag 125) b u c₁ tt e → ok seen e (drop (e - b) u) ≡ deep-rest f b u
+    unfolding deep-rest deep-close
+    run-closed x {e} k =
+        let y = brace-first c₁ (drop (c₁ - b) u) (sym (k .goes)) in
+        let z = x far c₁ (y .0) in
+        let g = run-took (z .0) (z .1 ∙ ap (f far c₁) (sym (q .same ∙ y .1))) in
+        mapped-ok (λ s. s .read) (deep-tail f) b u (record { deepest = max (z .0) far; read = seen }) e (drop (e - b) u) refl (begin (deep-tail f) b u (go _ g (on _ (close-took s _ k) (done _ b e u))))
+
+    -- without it, a try that is lost
+    run-lost : Nearer f → far ≤ c → fail c₁ ≡ tag 125 c₁ r → (l : Lost) → lostReply l ≡ f c₁ c₁ r → lostReply l ≡ deep-rest f b u
+    unfolding deep-rest
+    run-lost n w o (Fail p) e =
+        let y : Near far c₁ (fail p) (f far c₁ r) = subst (λ (X : Reply (TriedOf A)). Near far c₁ X (f far c₁ r)) (sym e) (n far c₁ c₁ r) in
+        let p' = y .0 in
+        let h = y .1 .0 in
+        let z : max c₁ (max p' far) ≡ p = omega (arith, w, s .up, h .0 .0, h .0 .1, h .1) in
+        let k = unclosed o (max p' far) in
+        let x = fall _ (ret _) (Fail (max c₁ (max p' far))) (rest-from b c u (i .from) (i .inside)) k in
+        rw (← z) (mapped-not (λ s. s .read) (deep-tail f) b u (Fail (max c₁ (max p' far))) (begin (deep-tail f) b u (go _ (run-took p' (y .1 .1)) x)))
+    run-lost n w o (Stop j p) e =
+        let y : stop j p ≡ f far c₁ r = subst (λ (X : Reply (TriedOf A)). Near far c₁ X (f far c₁ r)) (sym e) (n far c₁ c₁ r) in
+        mapped-not (λ s. s .read) (deep-tail f) b u (Stop j p) (begin (deep-tail f) b u (lose (deep-run f) _ (Stop j p) (rest-self b u) (run-stops j p y)))
 
 -- a loop of tries that counts
-pub record Seeking {A : Type 0} (records : List A → List Record) (f : ℕ → Parser (TriedOf A)) (b : ℕ) (u : List ℕ) (c n q : ℕ) : Type 0 where
+pub record Seeking {A : Type 0} (records : List A → List Record) (f : ℕ → Parser (TriedOf A)) (b : ℕ) (u : List ℕ) (c n : ℕ) : Type 0 where
   pub seen : List A
-  pub run : IterAt (deep-step f) deeper (record { deepest = b; read = [] }) b u c (record { deepest = q; read = seen })
+  pub far : ℕ
+  pub near : far ≤ c
+  pub run : RunAt f b u c far seen
   pub words : word-count (records seen) ≡ n
   pub few : n ≤ 8 * (c - b)
 
 module _ {A : Type 0} {records : List A → List Record} {one : A → List Record} (w : Elementwise records one) {f : ℕ → Parser (TriedOf A)} (t : (q : ℕ) → LocalInside (f q)) (v : (q : ℕ) → Consumes (f q)) where
-  pub seeking-start : (b : ℕ) (u : List ℕ) → Seeking records f b u b 0 b
-  seeking-start b u = record { seen = []; run = iter-start (deep-step f) deeper _ b u; words = ap word-count (w .nothing) ∙ word-count-none; few = omega arith }
+  pub seeking-start : (b : ℕ) (u : List ℕ) → Seeking records f b u b 0
+  seeking-start b u = record { seen = []; far = b; near = omega arith; run = iter-start (deep-step f) deeper _ b u; words = ap word-count (w .nothing) ∙ word-count-none; few = omega arith }
 
-  module _ {b c c₁ n q : ℕ} {u : List ℕ} {d : Doc} (i : Seeking records f b u c n q) (s : Took whitespace0 b u c d c₁) where
+  module _ {b c c₁ n : ℕ} {u r : List ℕ} {d : Doc} (i : Seeking records f b u c n) (s : Took whitespace0 b u c d c₁) (q : Rest b u c₁ r) where
     -- a turn that finds k words
-    pub seeking-more : {k e q' : ℕ} → Weighed (λ x. one (x .found)) (λ x. x .furthest) (f q) b u c₁ k e q' → Seeking records f b u e (n + k) q' × (c < e)
-    unfolding deep-step
-    seeking-more {k} {e} {q'} g =
-        let a = g .value in
-        let r = mapped-ok {B = Deep A} (λ x. record { deepest = x .furthest; read = i .seen ++ (x .found ∷ []) }) (f q) c₁ (drop (c₁ - b) u) a e (drop (e - b) u) refl (sym (g .step .goes)) in
-        let j = iter-step (deep-step-consumes t v) (i .run) (record { goes = sym (on _ s r); up = omega (arith, s .up, g .step .up); inside = g .step .inside }) in (
-          subst (λ (x : ℕ). Seeking records f b u e (n + k) x) (g .far) (record {
-            seen = i .seen ++ (a .found ∷ []);
-            run = j .0;
-            words = omega (arith, word-count-more w (i .seen) (a .found), i .words, g .words);
-            few = omega (arith, i .few, g .few, s .up, g .step .up, i .run .from);
-          }),
-          j .1,
+    pub seeking-more : Nearer f → {a : Count} {k e : ℕ} → a ≡ Words k e → TriedTo one f a c₁ r → Seeking records f b u e (n + k) × (c < e)
+    unfolding weighed
+    seeking-more m {a} {k} {e} z h =
+        let g = subst (λ (x : Count). TriedTo one f x c₁ r) z h in
+        let x = value-as _ (f c₁) c₁ r (record { furthest = c₁; found = k }) e (drop (e - c₁) r) (g .reads) in
+        let o : x .0 .furthest ≡ c₁ = ap (λ (y : TriedOf ℕ). y .furthest) (x .1 .0) in
+        let l : word-count (one (x .0 .found)) ≡ k = ap (λ (y : TriedOf ℕ). y .found) (x .1 .0) in
+        let j = turn-near t v (i .run) s q m (x .1 .1) in (
+          record {
+            seen = i .seen ++ (x .0 .found ∷ []);
+            far = j .0;
+            near = omega (arith, j .1 .0, o, i .near, s .up, j .1 .1 .1 .1);
+            run = j .1 .1 .0;
+            words = omega (arith, word-count-more w (i .seen) (x .0 .found), i .words, l);
+            few = omega (arith, i .few, g .few, s .up, j .1 .1 .1 .1, i .run .from);
+          },
+          j .1 .1 .1 .0,
         )
 
-    -- the step whose try is lost
-    step-lost : (l : Lost) {r : List ℕ} → Rest b u c₁ r → lostReply l ≡ f q c₁ r → lostReply l ≡ deep-step f (record { deepest = q; read = i .seen }) c (drop (c - b) u)
-    unfolding deep-step
-    step-lost l z e = on _ s (mapped-not _ (f q) c₁ (drop (c₁ - b) u) l (e ∙ ap (f q c₁) (z .same)))
+    -- the closing brace
+    pub seeking-closed : Unclosing f → {e : ℕ} → Took (tag 125) b u c₁ tt e → CountTo records (deep-rest f) (Words n e) b u
+    seeking-closed x {e} k = count-is records (deep-rest f) b u (i .seen) n e (i .words) (omega (arith, i .few, s .up, k .up)) (run-closed t v (i .run) s q x k)
 
-    ended : (l : Lost) → lostReply l ≡ deep-step f (record { deepest = q; read = i .seen }) c (drop (c - b) u) → DeepTo records (deep-run f) (triedEnd (furtherLost l q) n c) b u
-    unfolding deep-run position _>>=_ deeper
-    ended (Fail p) e = weighed-is (record { deepest = max p q; read = i .seen }) n c (max p q) b u (i .words) refl (i .few) (iter-ends (deep-step-consumes t v) (i .run) p (sym e))
-    ended (Stop k p) e = weighed-not (Stop k p) b u (sym (iter-stop (deep-step f) deeper (deep-step-consumes t v) _ c (drop (c - b) u) k p (sym e)) ∙ i .run .left)
+    -- a try that is lost without it
+    pub seeking-lost : Nearer f → (l' : Lost) → lostReply l' ≡ tag 125 c₁ r → {a : Count} {l : Lost} → a ≡ NoCount l → TriedTo one f a c₁ r → CountTo records (deep-rest f) a b u
+    unfolding weighed
+    seeking-lost m l' o {a} {l} z h =
+        let g = subst (λ (x : Count). TriedTo one f x c₁ r) z h in
+        count-pass records (deep-rest f) b u a l z (run-lost t v (i .run) s q m (i .near) (tag-missing 125 c₁ r l' o) l (lost-as _ (f c₁) c₁ r l (g .reads)))
 
-    pub seeking-ends : (l : Lost) {l' : Lost} {x : Tried} {r : List ℕ} → Rest b u c₁ r → lostReply l ≡ f q c₁ r → l' ≡ furtherLost l q → x ≡ triedEnd l' n c → DeepTo records (deep-run f) x b u
-    seeking-ends l z e y h = rw (h, y) (ended l (step-lost l z e))
+-- The braces around them: behind the opening one stands the rest.
 
--- the closing brace
-module _ (q : ℕ) {b c : ℕ} {u : List ℕ} {d : Doc} (t : Took whitespace0 b u b d c) where
-  pub deep-closed : {e : ℕ} → Took (tag 125) b u c tt e → ok tt e (drop (e - b) u) ≡ deep-close q b u
-  unfolding deep-close
-  deep-closed s = begin (deep-close q) b u (sym (close-took t _ s .goes))
-
-  far-lost : (l : Lost) {r : List ℕ} → Rest b u c r → lostReply l ≡ tag 125 c r → lostReply (furtherLost l q) ≡ deep-close q b (drop (b - b) u)
-  unfolding deep-close failAt
-  far-lost (Fail p) z e = close-caught t (λ p. failAt (max p q)) (Fail p) z e
-  far-lost (Stop n p) z e = close-caught t (λ p. failAt (max p q)) (Stop n p) z e
-
-  pub deep-missing : (l : Lost) {l' : Lost} {r : List ℕ} → Rest b u c r → lostReply l ≡ tag 125 c r → l' ≡ furtherLost l q → lostReply l' ≡ deep-close q b u
-  deep-missing l z e y = rw y (begin (deep-close q) b u (far-lost l z e))
-
--- it goes on in the text, though a depth less
-pub deep-close-on : (q : ℕ) → Onward (deep-close q)
+-- the closing one goes on in the text, though a depth less
+deep-close-on : (q : ℕ) → Onward (deep-close q)
 unfolding deep-close
 deep-close-on q = record { onward = λ b u. leaves b u (deep-close q b u) (close-moves (λ (s p : ℕ). max p s) q 0 b u) }
 
-pub deep-close-took : (q : ℕ) {b n : ℕ} {u r : List ℕ} {a : Step} {c : ℕ} → Rest b u n r → a ≡ Next c → tagReply a n r ≡ deep-close q n r → Took (deep-close q) b u n tt c
-deep-close-took q {b} {n} {u} {r} {a} {c} z e h = took (deep-close-on q) z (told-next (λ c. tt) a c n r (deep-close q n r) e h)
+deep-tail-on : {A : Type 0} (f : ℕ → Parser (TriedOf A)) → Onward (deep-run f) → Onward (deep-tail f)
+unfolding _>>_
+deep-tail-on f w = onward-bind w λ s. onward-bind (deep-close-on (s .deepest)) λ x. walks (chain-ret s)
 
--- the braces around a loop of tries
-module _ {A : Type 0} {records : List A → List Record} (f : ℕ → Parser (TriedOf A)) {b : ℕ} {u : List ℕ} where
-  braced-not : (l : Lost) → lostReply l ≡ enclosed (deep-run f) deep-place b (drop (b - b) u) → CountTo records (deep-braces f) (NoCount l) b u
-  unfolding deep-braces
-  braced-not l e = count-not records (deep-braces f) b u l (mapped-not _ _ b u l (begin (enclosed (deep-run f) deep-place) b u e))
+pub deep-rest-on : {A : Type 0} (f : ℕ → Parser (TriedOf A)) → Onward (deep-run f) → Onward (deep-rest f)
+unfolding deep-rest mapped
+deep-rest-on f w = onward-bind (deep-tail-on f w) λ s. walks (chain-ret (s .read))
 
-  pub deep-unopened : (l : Lost) → lostReply l ≡ tag 123 b u → CountTo records (deep-braces f) (NoCount l) b u
-  unfolding enclosed
-  deep-unopened l e = braced-not l (fall _ _ l (rest-self b u) e)
+module _ {A : Type 0} (f : ℕ → Parser (TriedOf A)) (b : ℕ) (u : List ℕ) where
+  pub deep-unopened : (l : Lost) → lostReply l ≡ tag 123 b u → lostReply l ≡ deep-braces f b u
+  unfolding deep-braces enclosed
+  deep-unopened l e = mapped-not _ _ b u l (begin (enclosed (deep-run f) deep-place) b u (fall _ _ l (rest-self b u) e))
 
-  module _ {c₁ : ℕ} (t₁ : Took (tag 123) b u b tt c₁) where
-    pub deep-lost : (l : Lost) {r : List ℕ} → Rest b u c₁ r → lostReply l ≡ deep-run f c₁ r → CountTo records (deep-braces f) (NoCount l) b u
-    unfolding enclosed
-    deep-lost l z e = braced-not l (on _ t₁ (lose _ _ l z e))
+  pub deep-opened : {c : ℕ} → Took (tag 123) b u b tt c → deep-rest f c (drop (c - b) u) ≡ deep-braces f b u
+  unfolding deep-braces enclosed deep-rest deep-close deep-place
+  deep-opened t = mapped-same (deep-tail f) (enclosed (deep-run f) deep-place) (λ s. s .read) (begin (enclosed (deep-run f) deep-place) b u (on (deep-tail f) t refl))
 
-    module _ {n c₂ q : ℕ} (g : Weighed (λ s. records (s .read)) (λ s. s .deepest) (deep-run f) b u c₁ n c₂ q) where
-      -- without the closing brace the place is the furthest
-      pub deep-unclosed : (l : Lost) {r : List ℕ} → Rest b u c₂ r → lostReply l ≡ deep-close q c₂ r → CountTo records (deep-braces f) (NoCount l) b u
-      unfolding enclosed deep-close deep-place
-      deep-unclosed l {r} z e =
-          let h : lostReply l ≡ deep-close (g .value .deepest) c₂ r = subst (λ (x : ℕ). lostReply l ≡ deep-close x c₂ r) (sym (g .far)) e in
-          braced-not l (on _ t₁ (go _ (g .step) (fall _ _ l z h)))
+  pub deep-uncounted : {records : List A → List Record} (l : Lost) → lostReply l ≡ tag 123 b u → CountTo records (deep-braces f) (NoCount l) b u
+  deep-uncounted {records} l e = count-not records (deep-braces f) b u l (deep-unopened l e)
 
-      pub deep-counted : {c : ℕ} → Took (deep-close q) b u c₂ tt c → CountTo records (deep-braces f) (Words n c) b u
-      unfolding deep-braces enclosed deep-close deep-place
-      deep-counted {c} t =
-          let h : Took (deep-close (g .value .deepest)) b u c₂ tt c = subst (λ (x : ℕ). Took (deep-close x) b u c₂ tt c) (sym (g .far)) t in
-          count-is records (deep-braces f) b u (g .value .read) n c (g .words) (omega (arith, g .few, t₁ .up, g .step .up, t .up))
-          (mapped-ok _ _ b u (g .value) c (drop (c - b) u) refl (begin (enclosed (deep-run f) deep-place) b u (on _ t₁ (go _ (g .step) (on _ h (done (g .value) b c u))))))
+  pub deep-counted : {records : List A → List Record} → Onward (deep-run f) → {c : ℕ} → Took (tag 123) b u b tt c → {r : List ℕ} → Rest b u c r → (a : Count) → CountTo records (deep-rest f) a c r → CountTo records (deep-braces f) a b u
+  deep-counted {records} w t q a h = count-behind records (deep-braces f) (deep-rest f) (deep-rest-on f w) a q (deep-opened t) h

@@ -5,33 +5,35 @@ use mathlib.Core.Option.{Option, none, some}
 use mathlib.Core.List.{List, [], _∷_, map}
 use Prim.Native.Nat.{ℕ, _+_, _-_, _*_, _≤_, _<_}
 use native.Mathlib.Omega.{arith}
-use lib.Dec.{ltb}
+use lib.Dec.{eqb, ltb}
 use lib.ListN.{length, drop}
 use borrow.Author.Tests.{lt-ltb, le-ltb}
 use Rattle.lexing.specs.bytes.{ascii}
-use Rattle.lexing.specs.reply.{Reply, ok, Parser, _>>_, opt}
-use Rattle.lexing.specs.words.{Word, parse-id}
-use Rattle.lexing.specs.answers.{Rest, lostReply, reply, lostOf, wordAt, wordReply, docOf, wordBetween, optionalStep}
+use Rattle.lexing.specs.reply.{Reply, ok, fail, stop, Parser, ret, _>>=_, _>>_, opt, position, failAt, pick}
+use Rattle.lexing.specs.words.{Word, parse-id, keyword, tag}
+use Rattle.lexing.specs.blanks.{Doc, no-doc, whitespace0, whitespace1}
+use Rattle.lexing.specs.answers.{Rest, lostReply, lostOf, wordAt, wordReply, docOf, wordBetween, Skips, SkipsAt, optionalStep}
 use Rattle.lexing.specs.word_sets.{bit}
 use Rattle.lexing.specs.declared.answers.Lost.{Lost}
 use Rattle.lexing.specs.declared.answers.Lost.the-variants.{Fail, Stop}
 use Rattle.lexing.specs.declared.answers.Step.{Step}
 use Rattle.lexing.specs.declared.answers.Step.the-variants.{Next, Not}
-use Rattle.lexing.specs.declared.blanks.DocSpan.{DocSpan}
-use Rattle.lexing.proofs.Onward.{Onward, parse-id-advances}
-use Rattle.lexing.proofs.Locality.{OnChain, chain-opt, chain-inside}
-use Rattle.lexing.proofs.TokenLocality.{parse-id-chain, keyword-chain, whitespace1-chain}
-use Rattle.lexing.proofs.Slicing.{Took, took, walks, begin, on}
+use Rattle.lexing.proofs.FirstWord.{blank-clear}
+use Rattle.lexing.proofs.Onward.{Onward, advances-onward, parse-id-advances, tag-advances}
+use Rattle.lexing.proofs.Locality.{chain-then, chain-opt, chain-inside}
+use Rattle.lexing.proofs.TokenLocality.{parse-id-chain, keyword-chain, whitespace0-chain, whitespace1-chain}
+use Rattle.lexing.proofs.Slicing.{Took, took, walks, begin, on, fall, rebase}
 use Rattle.items.specs.structs.{struct-fields, StructField as StructFieldOf}
-use Rattle.items.specs.members.{or-else, event-qualities, event-head, parse-event-after-doc-maturity, command-head, CommandTypes as CommandTypesOf, command-types, Command as CommandOf, parse-command-after-doc-maturity}
+use Rattle.items.specs.members.{or-else, access-privilege, access-to, event-qualities, event-head, parse-event-after-doc-maturity, command-head, CommandTypes as CommandTypesOf, command-types, Command as CommandOf, parse-command-after-doc-maturity}
 use Rattle.items.specs.records.{bits, value, word-extent, documented, field-record, command-record, event-records, at, spanned, flag, optional-extent}
 use Rattle.lexing.specs.buffers.{each, words-bytes, put}
 use Rattle.items.specs.layout.{layout-20, record-words, catalogue-words, word-count, packed, width, from-top, offset, size, further-word, catalogue-bytes, text-limit}
-use Rattle.items.specs.answers.{optionOf, CountTo, Front, first-of, spanWord, docWord, docBit, frontOf}
-use Rattle.items.specs.answers.members.{command-records, levelAnswer, levelLost, levelSmall, LevelTo, levelOr, SmallEventQualities, EventQualitiesTo, eventHeadAt, eventHeadLost, EventHeadBetween, EventHeadTo, optionalBetween, CommandHeadBetween, CommandHeadTo, commandTypesAt, CommandTypesBetween, CommandTypesTo, commandAt, CommandTo, CommandBetween}
-use Rattle.items.specs.declared.counts.Count.the-variants.{Words}
+use Rattle.items.specs.answers.{optionOf, Front, first-of, spanWord, docWord, docBit, frontOf}
+use Rattle.items.specs.answers.members.{command-records, levelLost, LevelTo, LevelAt, access-opening, colon-privilege, PrivilegeTo, SmallEventQualities, EventQualitiesTo, eventHeadAt, eventHeadLost, EventHeadBetween, EventHeadTo, optionalBetween, CommandHeadBetween, CommandHeadTo, commandTypesAt, CommandTypesBetween, CommandTypesTo, commandAt, CommandTo, CommandBetween, CommandCountTo}
+use Rattle.items.specs.declared.counts.Count.the-variants.{Words, NoCount}
 use Rattle.items.specs.declared.members.Level.{Level}
 use Rattle.items.specs.declared.members.Level.the-variants.{Chosen, NoLevel}
+use Rattle.items.specs.declared.members.Privilege.{Privilege}
 use Rattle.items.specs.declared.members.EventQualitiesParts.{EventQualitiesParts}
 use Rattle.items.specs.declared.members.EventQualitiesRead.{EventQualitiesRead}
 use Rattle.items.specs.declared.members.EventQualitiesRead.the-variants.{EventQualities}
@@ -46,29 +48,51 @@ use Rattle.items.specs.declared.members.CommandTypesRead.{CommandTypesRe
 use Rattle.items.specs.declared.members.CommandTypesRead.the-variants.{CommandTypes}
 use Rattle.items.specs.declared.members.CommandParts.{CommandParts}
 use Rattle.items.specs.declared.members.CommandRead.{CommandRead}
-use Rattle.items.specs.declared.members.CommandRead.the-variants.{Command}
-use Rattle.lexing.proofs.AnswerLaws.{read-within, read-took, read-lost, last-lost}
-use Rattle.items.proofs.Mapped.{mapped-ok, mapped-not}
+use Rattle.items.specs.declared.members.CommandRead.the-variants.{Command, NoCommand}
+use Rattle.lexing.proofs.AnswerLaws.{reads-as, read-within, read-took, read-lost, last-lost}
+use Rattle.items.proofs.Mapped.{TookAs, mapped-ok, read-as}
+use Rattle.lexing.proofs.Pairs.{pair-on, pair-fall, three-go, three-lose, four-go, four-lose}
+use Rattle.items.proofs.Calm.{Calm, calm-absent, calm-ret, calm-or, calm-bind, calm-then, calm-tag, calm-keyword, calm-blanks}
+use Rattle.items.proofs.Tries.{then-ok, opt-some, opt-none}
+use Rattle.lexing.proofs.steps.Laws.{tag-behind-took, keyword-behind-took}
 use Rattle.lexing.proofs.Composed.{onward-then}
 use Rattle.lexing.proofs.WordBetween.{word-moved}
 use Rattle.items.proofs.WordBetween.{extent-between}
 use Rattle.lexing.proofs.buffers.Laws.{put-further}
 use Rattle.items.proofs.writing.Laws.{documented-bytes, documented-put}
 use Rattle.items.proofs.structs.Laws.{present-is}
-use Rattle.lexing.proofs.optional.Laws.{opt-ok, opt-fail, opt-stop}
-use Rattle.items.proofs.Locality.{access-to-inside, command-types-inside, event-head-inside, parse-command-consumes}
-use Rattle.items.specs.clusters.{mapped}
-use Rattle.items.specs.inner.members.{event-access, event-first, extentIf, command-parts}
+use Rattle.lexing.proofs.optional.Laws.{opt-ok, opt-fail, opt-stop, skip-took, skip-lost}
+use Rattle.items.proofs.Locality.{access-privilege-local, access-to-inside, command-types-inside, event-head-inside, parse-command-consumes}
+use Rattle.items.specs.inner.members.{event-word, event-first, extentIf, command-parts}
 use Rattle.items.specs.declared.writing.FrontParts.{FrontParts}
 use Rattle.items.proofs.Headed.{Headed}
-use Rattle.items.proofs.counts.Laws.{read-counted}
+use Rattle.items.proofs.counts.Laws.{count-not, read-counted}
 
--- an optional part that is not there
-pub level-or-fail : (r : Level) (z b : ℕ) (l : Lost) (p : ℕ) → r ≡ NoLevel l → l ≡ Fail p → Chosen z b ≡ levelOr r z b
-level-or-fail r z b l p e f = sym (ap (λ (x : Level). levelOr x z b) (e ∙ ap NoLevel f))
+-- three and four steps that the code takes as one and whose value is dropped
+module _ {A B C D : Type 0} (m : Parser A) (p : Parser B) (q : Parser C) (k : Parser D) {b n : ℕ} {u : List ℕ} where
+  pub three-on : {X : Reply D} {a : C} {c : ℕ} → Took (m >> (p >> q)) b u n a c → X ≡ k c (drop (c - b) u) → X ≡ (m >> (p >> (q >> k))) n (drop (n - b) u)
+  unfolding _>>_
+  three-on t e = three-go m p q (λ a. k) t e
 
-pub level-or-stop : (r : Level) (z b : ℕ) (l : Lost) (n p : ℕ) → r ≡ NoLevel l → l ≡ Stop n p → NoLevel (Stop n p) ≡ levelOr r z b
-level-or-stop r z b l n p e f = sym (ap (λ (x : Level). levelOr x z b) (e ∙ ap NoLevel f))
+  pub three-fall : {r : List ℕ} (l : Lost) → Rest b u n r → lostReply l ≡ (m >> (p >> q)) n r → lostReply l ≡ (m >> (p >> (q >> k))) n (drop (n - b) u)
+  unfolding _>>_
+  three-fall l w e = three-lose m p q (λ a. k) l w e
+
+module _ {A B C D E : Type 0} (m : Parser A) (p : Parser B) (q : Parser C) (s : Parser D) (k : Parser E) {b n : ℕ} {u : List ℕ} where
+  pub four-on : {X : Reply E} {a : D} {c : ℕ} → Took (m >> (p >> (q >> s))) b u n a c → X ≡ k c (drop (c - b) u) → X ≡ (m >> (p >> (q >> (s >> k)))) n (drop (n - b) u)
+  unfolding _>>_
+  four-on t e = four-go m p q s (λ a. k) t e
+
+  pub four-fall : {r : List ℕ} (l : Lost) → Rest b u n r → lostReply l ≡ (m >> (p >> (q >> s))) n r → lostReply l ≡ (m >> (p >> (q >> (s >> k)))) n (drop (n - b) u)
+  unfolding _>>_
+  four-fall l w e = four-lose m p q s (λ a. k) l w e
+
+-- a step that is not there, where its answer is passed on or dropped
+pub skip-none : {A : Type 0} {m : Parser A} {a : Step} {l : Lost} {n : ℕ} {r : List ℕ} → a ≡ Not l → Skips m a n r → lostReply l ≡ m n r
+skip-none {n = n} {r = r} d h = skip-lost (sym (ap lostOf d)) d n r h
+
+pub skips-none : {A : Type 0} {m : Parser A} {a : Step} {l : Lost} {b n : ℕ} {u : List ℕ} → a ≡ Not l → SkipsAt m a b u n → lostReply l ≡ m n (drop (n - b) u)
+skips-none d h = skip-none d (h .skips)
 
 -- a level, as a step of a sequence
 module _ {m : Parser ℕ} {a : Level} {n : ℕ} {r : List ℕ} (h : LevelTo m a n r) where
@@ -81,62 +105,128 @@ module _ {m : Parser ℕ} {a : Level} {n : ℕ} {r : List ℕ} (h : LevelTo m a 
   pub level-lost : {l l' : Lost} → l' ≡ levelLost a → a ≡ NoLevel l → lostReply l' ≡ m n r
   level-lost e d = read-lost h d levelLost e refl
 
--- an optional level, with what it is where it is absent
-pub record TookOr (m : Parser ℕ) (z b : ℕ) (u : List ℕ) (n v c : ℕ) : Type 0 where
-  pub granted : Option ℕ
-  pub is : or-else z granted ≡ v
-  pub small : v < 4
-  pub step : Took (opt m) b u n granted c
+-- from an offset of a part
+module _ {m : Parser ℕ} {a : Level} {b n : ℕ} {u : List ℕ} (h : LevelAt m a b u n) where
+  pub level-at-took : Onward m → {v c : ℕ} → a ≡ Chosen v c → Took m b u n v c
+  level-at-took w e = level-took (h .to) w (h .at) e
 
-level-or-at : (m : Parser ℕ) (z : ℕ) (a : Level) (n : ℕ) (r : List ℕ) (v c : ℕ) → z < 4 → reply (levelAnswer n r a) n r ≡ m n r → levelSmall n a → levelOr a z n ≡ Chosen v c
-    → (o : Option ℕ) × (or-else z o ≡ v) × (v < 4) × (ok o c (drop (c - n) r) ≡ opt m n r)
-unfolding or-else
-level-or-at m z (Chosen w e) n r v c l h s d =
-    let x : w ≡ v = cc in
-    let y : e ≡ c = cc in
-    (some w, x, omega arith, rw (← y) (opt-ok m n r w e (drop (e - n) r) h))
-level-or-at m z (NoLevel (Fail p)) n r v c l h s d =
-    let x : z ≡ v = cc in
-    let y : n ≡ c = cc in
-    let t : n - n ≡ 0 = omega arith in
-    (none, x, omega arith, rw (← y, t) (opt-fail m n r p h))
-level-or-at m z (NoLevel (Stop i p)) n r v c l h s d = let t : _≡_ {A = ℕ} 0 1 = cc in absurd (omega arith)
+  pub level-at-none : {l : Lost} → a ≡ NoLevel l → lostReply l ≡ m n (drop (n - b) u)
+  level-at-none d = level-lost (h .to) (sym (ap levelLost d)) d
 
-level-or-not : (m : Parser ℕ) (z : ℕ) (a : Level) (n : ℕ) (r : List ℕ) (l : Lost) → reply (levelAnswer n r a) n r ≡ m n r → levelOr a z n ≡ NoLevel l → lostReply l ≡ opt m n r
-level-or-not m z (Chosen w e) n r l h d = let t : _≡_ {A = ℕ} 0 1 = cc in absurd (omega arith)
-level-or-not m z (NoLevel (Fail p)) n r l h d = let t : _≡_ {A = ℕ} 0 1 = cc in absurd (omega arith)
-level-or-not m z (NoLevel (Stop i p)) n r l h d = let x : Stop i p ≡ l = cc in subst (λ (y : Lost). lostReply y ≡ opt m n r) x (opt-stop m n r i p h)
+-- `access(`
+behind-on : {A : Type 0} {m : Parser A} → Onward m → Onward (whitespace0 >> m)
+behind-on w = onward-then (walks whitespace0-chain) w
 
-module _ {m : Parser ℕ} (z : ℕ) {a t : Level} {n : ℕ} {r : List ℕ} (h : LevelTo m a n r) (d : t ≡ levelOr a z n) where
-  pub level-or-took : OnChain m → z < 4 → {b : ℕ} {u : List ℕ} {v c : ℕ} → Rest b u n r → t ≡ Chosen v c → TookOr m z b u n v c
-  level-or-took w l {b} {u} {v} {c} q e =
-      let x = level-or-at m z a n r v c l (h .reads) (h .within) (sym d ∙ e) in
-      record { granted = x .0; is = x .1; small = x .2; step = took (walks (chain-opt w)) q (x .3) }
+pub opening-on : Onward access-opening
+opening-on = behind-on (onward-then (walks (keyword-chain (ascii "access"))) (behind-on (advances-onward (tag-advances 40))))
 
-  pub level-or-lost : {l l' : Lost} → l' ≡ levelLost t → t ≡ NoLevel l → lostReply l' ≡ opt m n r
-  level-or-lost {l} {l'} e f =
-      let x : l' ≡ l = e ∙ ap levelLost f in
-      ap (λ (y : Lost). lostReply y) x ∙ level-or-not m z a n r l (h .reads) (sym d ∙ f)
+module _ {a : Step} {b : ℕ} {u : List ℕ} (h : SkipsAt (whitespace0 >> keyword (ascii "access")) a b u b) where
+  pub opening-not : {l : Lost} → a ≡ Not l → Skips access-opening a b u
+  opening-not {l} d = subst (λ (x : Step). Skips access-opening x b u) (sym d) (record { value = tt; reads = begin access-opening b u (pair-fall _ _ _ l (h .at) (skips-none d h)) })
 
--- as the last step of M, by what is chosen
-pub level-or-ends : {m : Parser ℕ} (z : ℕ) {a : Level} {n : ℕ} {r : List ℕ} → LevelTo m a n r → (t : Level) → t ≡ levelOr a z n → OnChain m → z < 4 → (M : Parser (Option ℕ)) {b : ℕ} {u : List ℕ} → Rest b u n r
-    → ((X : Reply (Option ℕ)) → X ≡ opt m n (drop (n - b) u) → X ≡ M b u) → LevelTo (mapped M (or-else z)) t b u
-level-or-ends z h (Chosen v c) d w l M {b} {u} q g =
-    let s : TookOr _ z b u _ v c = level-or-took z h d w l q refl in
-    record { reads = mapped-ok (or-else z) M b u (s .granted) c (drop (c - b) u) (s .is) (g _ (sym (s .step .goes))); within = s .small }
-level-or-ends {m} z h (NoLevel l') d w l M {b} {u} q g = record { reads = mapped-not (or-else z) M b u l' (g _ (last-lost (opt m) l' q (level-or-lost z h d refl refl))); within = tt }
+  pub opening-is : (r : Step) {c : ℕ} → a ≡ Next c → SkipsAt (whitespace0 >> tag 40) r b u c → Skips access-opening r b u
+  opening-is (Next e) d k = record { value = k .skips .value; reads = begin access-opening b u (pair-on _ _ _ (keyword-behind-took (ascii "access") d h) (sym (tag-behind-took 40 refl k .goes))) }
+  opening-is (Not l) d k = record { value = tt; reads = begin access-opening b u (pair-on _ _ _ (keyword-behind-took (ascii "access") d h) (skips-none refl k)) }
 
-pub level-not : (z : ℕ) (M : Parser (Option ℕ)) (l : Lost) {b : ℕ} {u : List ℕ} → lostReply l ≡ M b u → LevelTo (mapped M (or-else z)) (NoLevel l) b u
-level-not z M l {b} {u} e = record { reads = mapped-not (or-else z) M b u l e; within = tt }
+-- `: privilege`
+privilege-on : Onward access-privilege
+privilege-on = walks (access-privilege-local .on-chain)
 
-pub event-access-on : Onward event-access
-event-access-on =
-    onward-then (walks whitespace1-chain) (onward-then (walks (keyword-chain (ascii "event"))) (onward-then (walks whitespace1-chain) (walks (chain-opt (chain-inside (access-to-inside (ascii "read")))))))
+pub colon-on : Onward colon-privilege
+colon-on = onward-then (advances-onward (tag-advances 58)) (behind-on privilege-on)
 
--- a level behind another step
-pub level-after : {A : Type 0} {m : Parser A} {k : Parser ℕ} → Onward k → (a : Level) {x : A} {b n : ℕ} {u r : List ℕ} → Took m b u b x n → Rest b u n r → LevelTo k a n r → LevelTo (m >> k) a b u
-level-after {m = m} {k} w (Chosen v c) {b = b} {u = u} t q h = record { reads = begin (m >> k) b u (on k t (sym (took w q (h .reads) .goes))); within = h .within }
-level-after {m = m} {k} w (NoLevel l) {b = b} {n} {u} t q h = record { reads = begin (m >> k) b u (on k t (h .reads ∙ ap (k n) (q .same))); within = tt }
+pub colon-after : (a : Level) {b n c e : ℕ} {u r : List ℕ} {d : Doc} → Rest b u n (drop (n - b) u) → Took (tag 58) b u n tt c → Took whitespace0 b u c d e → Rest b u e r → LevelTo access-privilege a e r → LevelAt colon-privilege a b u n
+colon-after (Chosen v x) {b} {n} {u = u} o t s q h =
+    let k = level-took h privilege-on q refl in
+    record { at = o; to = record { reads = ap (λ z. ok v x z) (rebase b n x u (o .from) (omega (arith, t .up, s .up, k .up))) ∙ on _ t (on _ s (sym (k .goes))); within = h .within } }
+colon-after (NoLevel l) o t s q h = record { at = o; to = record { reads = on _ t (on _ s (last-lost access-privilege l q (h .reads))); within = tt } }
+
+-- `access(KEY: privilege)`, which may be absent
+access-calm : (k : List ℕ) → Calm (whitespace0 >> access-to k)
+unfolding access-to access-privilege
+access-calm k =
+    let number : (w : List ℕ) (v : ℕ) → Calm (keyword w >> ret v) = λ w v. calm-then (calm-keyword w) (calm-ret v) in
+    let privilege = calm-or (number _ 0) (calm-or (number _ 1) (calm-or (number _ 2) (number _ 3))) in
+    calm-then calm-blanks (calm-then (calm-keyword _) (calm-then calm-blanks (calm-then (calm-tag 40) (calm-then calm-blanks (calm-then (calm-keyword k) (calm-then (calm-tag 58) (calm-then calm-blanks (
+    calm-bind privilege λ p. calm-then calm-blanks (calm-then (calm-tag 41) (calm-ret p))
+    ))))))))
+
+pub access-on : (k : List ℕ) → Onward (opt (whitespace0 >> access-to k))
+access-on k = walks (chain-opt (chain-then whitespace0-chain (chain-inside (access-to-inside k))))
+
+module _ (k : List ℕ) (z : ℕ) {b : ℕ} {u : List ℕ} where
+  pub privilege-none : (l : Lost) → z < 4 → lostReply l ≡ (whitespace0 >> access-to k) b u → PrivilegeTo k z (record { level = z; next = b }) b u
+  unfolding or-else
+  privilege-none l h e = record { reads = mapped-ok (or-else z) (opt (whitespace0 >> access-to k)) b u none b (drop (b - b) u) refl (calm-absent (access-calm k) l e); within = h }
+
+  pub privilege-is : {v c : ℕ} → v < 4 → ok v c (drop (c - b) u) ≡ (whitespace0 >> access-to k) b u → PrivilegeTo k z (record { level = v; next = c }) b u
+  unfolding or-else
+  privilege-is {v} {c} h e = record { reads = mapped-ok (or-else z) (opt (whitespace0 >> access-to k)) b u (some v) c (drop (c - b) u) refl (opt-ok (whitespace0 >> access-to k) b u v c (drop (c - b) u) e); within = h }
+
+-- a part behind another, from an offset
+module _ {A B : Type 0} (k : Parser A) (m : Parser B) {b n : ℕ} {u : List ℕ} (q : Rest b u n (drop (n - b) u)) where
+  pub skips-fall : (v : B) {a : Step} {l : Lost} → a ≡ Not l → lostReply l ≡ k n (drop (n - b) u) → SkipsAt (k >> m) a b u n
+  skips-fall v {a} {l} d e = subst (λ (x : Step). SkipsAt (k >> m) x b u n) (sym d) (record { at = q; skips = record { value = v; reads = fall k m l q e } })
+
+  pub skips-after : Onward m → (a : Step) {x : A} {c : ℕ} → Took k b u n x c → SkipsAt m a b u c → SkipsAt (k >> m) a b u n
+  skips-after w (Next e) t h =
+      let s = skip-took w (h .at) refl (h .skips) in
+      record { at = q; skips = record { value = h .skips .value; reads = ap (λ z. ok (h .skips .value) e z) (rebase b n e u (q .from) (omega (arith, t .up, s .up))) ∙ on m t (sym (s .goes)) } }
+  skips-after w (Not l) t h = record { at = q; skips = record { value = h .skips .value; reads = on m t (skips-none refl h) } }
+
+-- the word of an event
+gap-on : Onward whitespace1
+gap-on = walks whitespace1-chain
+
+pub word-gap-on : Onward (keyword (ascii "event") >> whitespace1)
+word-gap-on = onward-then (walks (keyword-chain (ascii "event"))) gap-on
+
+pub event-word-on : Onward event-word
+event-word-on = onward-then gap-on word-gap-on
+
+-- behind which no blank stands
+then-last : {A B : Type 0} (m : Parser A) (k : Parser B) (n : ℕ) (v : List ℕ) {c : ℕ} {r : List ℕ} {a : B} → (m >> k) n v ≡ ok a c r → (e : ℕ) × ((w : List ℕ) × (k e w ≡ ok a c r))
+unfolding _>>_ _>>=_
+then-last {A} {B} m k n v {c} {r} {a} h = go (m n v) refl
+  where
+    go : (x : Reply A) → m n v ≡ x → (e : ℕ) × ((w : List ℕ) × (k e w ≡ ok a c r))
+    go (ok y e w) z = (e, (w, rw (z, _>>_, _>>=_) at h))
+    go (fail p) z = let i : fail p ≡ ok a c r = rw (z, _>>_, _>>=_) at h in let t : _≡_ {A = ℕ} 0 1 = cc in absurd (omega arith)
+    go (stop j p) z = let i : stop j p ≡ ok a c r = rw (z, _>>_, _>>=_) at h in let t : _≡_ {A = ℕ} 0 1 = cc in absurd (omega arith)
+
+gap-clear : (b : ℕ) (u : List ℕ) (d : Doc) (c : ℕ) (r : List ℕ) → whitespace1 b u ≡ ok d c r → whitespace0 c r ≡ ok no-doc c r
+unfolding whitespace1 _>>=_ position pick failAt ret
+gap-clear b u d c r h = go (whitespace0 b u) refl
+  where
+    by : (e : Doc) (c' : ℕ) (r' : List ℕ) → whitespace0 b u ≡ ok e c' r' → (t : Bool) → eqb b c' ≡ t → whitespace0 c r ≡ ok no-doc c r
+    by e c' r' z true q = let i : fail b ≡ ok d c r = rw (q, pick) at (rw (z, whitespace1, _>>=_) at h) in let t : _≡_ {A = ℕ} 0 1 = cc in absurd (omega arith)
+    by e c' r' z false q =
+        let i : ok e c' r' ≡ ok d c r = rw (q, pick) at (rw (z, whitespace1, _>>=_) at h) in
+        let x : c' ≡ c = cc in
+        let y : r' ≡ r = cc in
+        rw (← x, ← y) (blank-clear b u e c' r' z)
+
+    go : (x : Reply Doc) → whitespace0 b u ≡ x → whitespace0 c r ≡ ok no-doc c r
+    go (ok e c' r') z = by e c' r' z (eqb b c') refl
+    go (fail p) z = let i : fail p ≡ ok d c r = rw (z, whitespace1, _>>=_) at h in let t : _≡_ {A = ℕ} 0 1 = cc in absurd (omega arith)
+    go (stop n p) z = let i : stop n p ≡ ok d c r = rw (z, whitespace1, _>>=_) at h in let t : _≡_ {A = ℕ} 0 1 = cc in absurd (omega arith)
+
+opt-same : {A : Type 0} (m k : Parser A) (b : ℕ) (u : List ℕ) → m b u ≡ k b u → opt m b u ≡ opt k b u
+opt-same {A} m k b u e = go (k b u) refl
+  where
+    go : (x : Reply A) → k b u ≡ x → opt m b u ≡ opt k b u
+    go (ok a c r) z = opt-some m (e ∙ z) ∙ sym (opt-some k z)
+    go (fail p) z = opt-none m (e ∙ z) ∙ sym (opt-none k z)
+    go (stop n p) z = sym (opt-stop m b u n p (sym (e ∙ z))) ∙ opt-stop k b u n p (sym z)
+
+pub event-access-took : (k : List ℕ) (z : ℕ) {b n c : ℕ} {u r : List ℕ} {d : Doc} {a : Privilege} → Took event-word b u n d c → Rest b u c r → PrivilegeTo k z a c r → TookAs (or-else z) (opt (access-to k)) b u c (a .level) (a .next)
+event-access-took k z {b} {n} {c} {u} {r} {d} {a} t q h =
+    let v = drop (c - b) u in
+    let x = then-last whitespace1 (keyword (ascii "event") >> whitespace1) n (drop (n - b) u) (t .goes) in
+    let y = then-last (keyword (ascii "event")) whitespace1 (x .0) (x .1 .0) (x .1 .1) in
+    let clear = gap-clear (y .0) (y .1 .0) d c v (y .1 .1) in
+    let s : TookAs (or-else z) (opt (whitespace0 >> access-to k)) b u c (a .level) (a .next) = read-as h refl (access-on k) q refl in
+    record { value = s .value; is = s .is; step = record { goes = sym (opt-same (whitespace0 >> access-to k) (access-to k) c v (then-ok whitespace0 (access-to k) clear)) ∙ s .step .goes; up = s .step .up; inside = s .step .inside } }
 
 -- events, up to the name
 pub event-qualities-is : (q y z v : ℕ) (o : Option ℕ) (b c : ℕ) (u : List ℕ) → q < 2 → y < 4 → v < 4 → or-else z o ≡ v
@@ -228,43 +318,41 @@ module _ {a : CommandTypesRead} {t : CommandTypesParts} {n c : ℕ} {r : List �
       (read-took h e (walks (chain-inside command-types-inside)) q refl)
 
 -- commands
-abbrev pub commandParts : DocSpan → ℕ → ℕ → CommandHeadParts → CommandTypesParts → CommandParts
-commandParts d v k h t = record { doc = d; maturity = v; flags = h .qualities; access = h .privilege; name = h .name; end = h .end; input = t .input; «input_end» = t .«input_end»; output = t .output; «output_end» = t .«output_end»; code = k }
-
 pub command-head-within : {a : CommandHeadRead} {h : CommandHeadParts} {b c : ℕ} {u : List ℕ} → CommandHeadTo a b u → a ≡ CommandHead h c → CommandHeadBetween b h c
 command-head-within t e = read-within t e
-
-pub command-is : (d : DocSpan) (v k : ℕ) (h : CommandHeadParts) (t : CommandTypesParts) (b c1 c2 c : ℕ) (u : List ℕ)
-    → CommandHeadBetween b h c1 → CommandTypesBetween c1 t c2 → c2 ≤ c
-    → ok (commandAt b u (commandParts d v k h t)) c (drop (c - b) u) ≡ parse-command-after-doc-maturity (docOf d) v b u → CommandTo d v (Command (commandParts d v k h t) c) b u
-command-is d v k h t b c1 c2 c u x y l e =
-    record {
-      reads = e;
-      within = record {
-        doc = refl;
-        maturity = refl;
-        between = record {
-          flags = x .qualities;
-          access = x .privilege;
-          name-from = x .name-from;
-          name-to = x .name-to;
-          input-from = omega (arith, x .before, y .input-from);
-          input-to = y .input-to;
-          output-from = y .output-from;
-          output-to = y .output-to;
-          before = omega (arith, y .before);
-        };
-      };
-    }
 
 -- five words a command
 pub command-words : (c : CommandOf) → word-count (command-record c ∷ []) ≡ 5
 unfolding word-count catalogue-words each record-words layout-20 command-record documented
 command-words c = refl
 
-pub command-counted : (d : DocSpan) (v : ℕ) {a : CommandRead} {b : ℕ} {u : List ℕ} {p : CommandParts} {c : ℕ} → CommandTo d v a b u → a ≡ Command p c
-    → CountTo command-records (parse-command-after-doc-maturity (docOf d) v) (Words 5 c) b u
-command-counted d v h e = read-counted command-records (parse-command-consumes (docOf d) v) h e refl (command-words _) (omega arith)
+-- the two ways of a reader, and of a count
+module _ {b : ℕ} {u : List ℕ} where
+  pub command-not : (l : Lost) → ((d : Doc) (m : ℕ) → lostReply l ≡ parse-command-after-doc-maturity d m b u) → CommandTo (NoCommand l) b u
+  command-not l e = record { to = λ d m. record { reads = e d m; within = tt } }
+
+  pub command-is : {h : CommandHeadParts} {t : CommandTypesParts} {k c1 c2 c : ℕ} → CommandHeadBetween b h c1 → CommandTypesBetween c1 t c2 → c2 ≤ c
+      → ((d : Doc) (m : ℕ) → ok (commandAt d m b u (record { head = h; types = t; code = k })) c (drop (c - b) u) ≡ parse-command-after-doc-maturity d m b u) → CommandTo (Command (record { head = h; types = t; code = k }) c) b u
+  command-is {h} {t} x y l e =
+      record {
+        to = λ d m. record {
+          reads = e d m;
+          within = record {
+            head = record { qualities = x .qualities; privilege = x .privilege; name-from = x .name-from; name-to = x .name-to; before = omega (arith, x .before, y .input-from) };
+            types = record { input-from = omega (arith, x .before, y .input-from); input-to = y .input-to; output-from = y .output-from; output-to = y .output-to; before = omega (arith, y .before) };
+          };
+        };
+      }
+
+  module _ {a : CommandRead} (h : CommandTo a b u) where
+    pub command-none : {l : Lost} → a ≡ NoCommand l → (d : Doc) (m : ℕ) → lostReply l ≡ parse-command-after-doc-maturity d m b u
+    command-none e d m = reads-as (h .to d m) e
+
+    pub command-lost : {l : Lost} → a ≡ NoCommand l → CommandCountTo (NoCount l) b u
+    command-lost {l} e = record { counts = λ i. count-not command-records _ b u l (command-none e (i .doc) (i .maturity)) }
+
+    pub command-counted : {p : CommandParts} {c : ℕ} → a ≡ Command p c → CommandCountTo (Words 5 c) b u
+    command-counted e = record { counts = λ i. read-counted command-records (parse-command-consumes (i .doc) (i .maturity)) (h .to (i .doc) (i .maturity)) e refl (command-words _) (omega arith) }
 
 -- The second pass.
 
@@ -294,22 +382,24 @@ unfolding layout-20 further-word packed offset size
 span-absent o e t = rw t refl
 
 -- the five words of a command's record
-pub command-put : (p : CommandParts) (q v j s t : ℕ) (l l₁ l₂ : List ℕ) → q + 40 ≤ length l → v ≡ docBit (p .doc) → j ≡ bit (ltb (p .input) (p .«input_end»))
-    → l₁ ≡ put q (words-bytes (first-of (record { kind = 8; place = 0; maturity = p .maturity; documented = v; flags = p .flags * 32 + j * 16; name = p .name; size = p .end - p .name; privilege = p .access; further = 0 }) ∷ docWord (p .doc) ∷ [])) l
-    → s ≡ further-word layout-20 (spanned (extentIf (ltb (p .input) (p .«input_end»)) (p .input) (p .«input_end» - p .input)))
-    → t ≡ spanWord (p .output) (p .«output_end» - p .output) → l₂ ≡ put (q + 16) (words-bytes (s ∷ t ∷ p .code ∷ [])) l₁
-    → l₂ ≡ put q (catalogue-bytes layout-20 (command-parts p ∷ [])) l
+pub command-put : (i : FrontParts) (p : CommandParts) (q v j x y : ℕ) (l l₁ l₂ : List ℕ) → q + 40 ≤ length l → v ≡ docBit (i .doc) → j ≡ bit (ltb (p .types .input) (p .types .«input_end»))
+    → l₁ ≡ put q (words-bytes (first-of (record { kind = 8; place = 0; maturity = i .maturity; documented = v; flags = p .head .qualities * 32 + j * 16; name = p .head .name; size = p .head .end - p .head .name; privilege = p .head .privilege; further = 0 }) ∷ docWord (i .doc) ∷ [])) l
+    → x ≡ further-word layout-20 (spanned (extentIf (ltb (p .types .input) (p .types .«input_end»)) (p .types .input) (p .types .«input_end» - p .types .input)))
+    → y ≡ spanWord (p .types .output) (p .types .«output_end» - p .types .output) → l₂ ≡ put (q + 16) (words-bytes (x ∷ y ∷ p .code ∷ [])) l₁
+    → l₂ ≡ put q (catalogue-bytes layout-20 (command-parts i p ∷ [])) l
 unfolding from-top packed width flag offset size layout-20 further-word
-command-put p q v j s t l l₁ l₂ r d ej e₁ f h e₂ =
-    let there : Bool = ltb (p .input) (p .«input_end») in
-    let g : ℕ = p .flags * 32 + j * 16 in
-    let y : g ≡ from-top 7 (bits 2 (p .flags) ∷ flag there ∷ []) = omega (arith, ej) in
-    let w₁ : ℕ = first-of (record { kind = 8; place = 0; maturity = p .maturity; documented = docBit (p .doc); flags = g; name = p .name; size = p .end - p .name; privilege = p .access; further = 0 }) in
-    let w₂ : ℕ = further-word layout-20 (spanned (extentIf there (p .input) (p .«input_end» - p .input))) in
-    let w₃ : ℕ = spanWord (p .output) (p .«output_end» - p .output) in
-    rw (documented-bytes 8 0 (p .maturity) (p .doc) (bits 2 (p .flags) ∷ flag there ∷ []) (at (p .name) (p .end - p .name)) (p .access) 0
-    (spanned (extentIf there (p .input) (p .«input_end» - p .input)) ∷ spanned (at (p .output) (p .«output_end» - p .output)) ∷ value (p .code) ∷ []) g y)
-    (put-further q (q + 16) (w₁ ∷ docWord (p .doc) ∷ []) (w₂ ∷ w₃ ∷ p .code ∷ []) l l₁ l₂ (omega arith) (omega arith) (rw (← d) e₁) (rw (f, h) at e₂))
+command-put i p q v j x y l l₁ l₂ r d ej e₁ f h e₂ =
+    let s : CommandHeadParts = p .head in
+    let t : CommandTypesParts = p .types in
+    let there : Bool = ltb (t .input) (t .«input_end») in
+    let g : ℕ = s .qualities * 32 + j * 16 in
+    let z : g ≡ from-top 7 (bits 2 (s .qualities) ∷ flag there ∷ []) = omega (arith, ej) in
+    let w₁ : ℕ = first-of (record { kind = 8; place = 0; maturity = i .maturity; documented = docBit (i .doc); flags = g; name = s .name; size = s .end - s .name; privilege = s .privilege; further = 0 }) in
+    let w₂ : ℕ = further-word layout-20 (spanned (extentIf there (t .input) (t .«input_end» - t .input))) in
+    let w₃ : ℕ = spanWord (t .output) (t .«output_end» - t .output) in
+    rw (documented-bytes 8 0 (i .maturity) (i .doc) (bits 2 (s .qualities) ∷ flag there ∷ []) (at (s .name) (s .end - s .name)) (s .privilege) 0
+    (spanned (extentIf there (t .input) (t .«input_end» - t .input)) ∷ spanned (at (t .output) (t .«output_end» - t .output)) ∷ value (p .code) ∷ []) g z)
+    (put-further q (q + 16) (w₁ ∷ docWord (i .doc) ∷ []) (w₂ ∷ w₃ ∷ p .code ∷ []) l l₁ l₂ (omega arith) (omega arith) (rw (← d) e₁) (rw (f, h) at e₂))
 
 -- the record of what was read
 extent-if : (t : Bool) (w : Word) {o n : ℕ} → word-extent w ≡ at o n → optional-extent (optionOf t w) ≡ extentIf t o n
@@ -317,25 +407,24 @@ unfolding optional-extent
 extent-if true w e = e
 extent-if false w e = refl
 
-pub command-parts-is : (b : ℕ) (u : List ℕ) (p : CommandParts) (c : ℕ) → CommandBetween b p c → c ≤ b + length u → command-parts p ≡ command-record (commandAt b u p)
+pub command-parts-is : (f : FrontParts) (b : ℕ) (u : List ℕ) (p : CommandParts) (c : ℕ) → CommandBetween b p c → c ≤ b + length u → command-parts f p ≡ command-record (commandAt (docOf (f .doc)) (f .maturity) b u p)
 unfolding command-record
-command-parts-is b u p c w i =
-    let there : Bool = ltb (p .input) (p .«input_end») in
-    let x = extent-between b u (p .name) (p .end) (w .name-from) (w .name-to) (omega (arith, w .input-from, w .input-to, w .output-from, w .output-to, w .before)) in
-    let y = extent-between b u (p .output) (p .«output_end») (omega (arith, w .name-from, w .name-to, w .input-from, w .input-to, w .output-from)) (w .output-to) (omega (arith, w .before)) in
-    let z = extent-between b u (p .input) (p .«input_end») (omega (arith, w .name-from, w .name-to, w .input-from)) (w .input-to) (omega (arith, w .output-from, w .output-to, w .before)) in
-    rw (present-is there (wordBetween b u (p .input) (p .«input_end»)), x, y, extent-if there (wordBetween b u (p .input) (p .«input_end»)) z)
+command-parts-is f b u p c w i =
+    let s : CommandHeadParts = p .head in
+    let t : CommandTypesParts = p .types in
+    let h = w .head in
+    let k = w .types in
+    let there : Bool = ltb (t .input) (t .«input_end») in
+    let x = extent-between b u (s .name) (s .end) (h .name-from) (h .name-to) (omega (arith, k .input-from, k .input-to, k .output-from, k .output-to, k .before)) in
+    let y = extent-between b u (t .output) (t .«output_end») (omega (arith, h .name-from, h .name-to, k .input-from, k .input-to, k .output-from)) (k .output-to) (omega (arith, k .before)) in
+    let z = extent-between b u (t .input) (t .«input_end») (omega (arith, h .name-from, h .name-to, k .input-from)) (k .input-to) (omega (arith, k .output-from, k .output-to, k .before)) in
+    rw (present-is there (wordBetween b u (t .input) (t .«input_end»)), x, y, extent-if there (wordBetween b u (t .input) (t .«input_end»)) z)
 
 pub command-in-limit : {b : ℕ} {p : CommandParts} {c : ℕ} → CommandBetween b p c → c ≤ text-limit → CommandBetween 0 p text-limit
 command-in-limit w i =
+    let h = w .head in
+    let k = w .types in
     record {
-      flags = w .flags;
-      access = w .access;
-      name-from = omega arith;
-      name-to = w .name-to;
-      input-from = w .input-from;
-      input-to = w .input-to;
-      output-from = w .output-from;
-      output-to = w .output-to;
-      before = omega (arith, w .before);
+      head = record { qualities = h .qualities; privilege = h .privilege; name-from = omega arith; name-to = h .name-to; before = h .before };
+      types = record { input-from = k .input-from; input-to = k .input-to; output-from = k .output-from; output-to = k .output-to; before = omega (arith, k .before) };
     }

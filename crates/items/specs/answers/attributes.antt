@@ -1,12 +1,14 @@
 -- Answers of the readers of attributes.
 use Prim.Native.Nat.{ℕ, _<_}
-use mathlib.Core.Path.{_≡_}
 use mathlib.Core.List.{List}
-use Rattle.lexing.specs.answers.{Answer, got, lost, docOf, ReadTo}
+use Rattle.lexing.specs.blanks.{Doc}
+use Rattle.lexing.specs.answers.{Answer, got, lost, ReadTo}
 use Rattle.lexing.specs.declared.answers.Lost.{Lost}
 use Rattle.lexing.specs.declared.answers.Lost.the-variants.{Fail}
-use Rattle.lexing.specs.declared.blanks.DocSpan.{DocSpan}
 use Rattle.items.specs.members.{Privileges as PrivilegesOf, attribute-access, Attribute as AttributeOf, parse-attribute-after-doc-maturity}
+use Rattle.items.specs.records.{attribute-records}
+use Rattle.items.specs.answers.{Front, CountsTo}
+use Rattle.items.specs.declared.counts.Count.{Count}
 use Rattle.items.specs.answers.structs.{structFieldAt, StructFieldBetween}
 use Rattle.items.specs.declared.attributes.PrivilegesRead.{PrivilegesRead}
 use Rattle.items.specs.declared.attributes.PrivilegesRead.the-variants.{Privileges, NoPrivileges}
@@ -34,38 +36,31 @@ privilegesSmall b (NoPrivileges l) = Unit {0}
 abbrev pub PrivilegesTo : PrivilegesRead → ℕ → List ℕ → Type 0
 PrivilegesTo r b u = ReadTo privilegesAnswer privilegesSmall attribute-access r b u
 
--- an attribute
-abbrev pub attributeAt : ℕ → List ℕ → AttributeParts → AttributeOf
-attributeAt b u p = record {
-  doc = docOf (p .doc);
-  maturity = p .maturity;
+-- an attribute, whatever stands before it
+abbrev pub attributeAt : Doc → ℕ → ℕ → List ℕ → AttributeParts → AttributeOf
+attributeAt d m b u p = record {
+  doc = d;
+  maturity = m;
   flags = p .flags;
   privileges = record { read = p .read; write = p .write };
   field = structFieldAt b u (p .field);
 }
 
-abbrev pub attributeAnswer : ℕ → List ℕ → AttributeRead → Answer AttributeOf
-attributeAnswer b u (Attribute p c) = got (attributeAt b u p) c
-attributeAnswer b u (NoAttribute l) = lost l
-
-abbrev pub attributeLost : AttributeRead → Lost
-attributeLost (Attribute p c) = Fail c
-attributeLost (NoAttribute l) = l
+abbrev pub attributeAnswer : Doc → ℕ → ℕ → List ℕ → AttributeRead → Answer AttributeOf
+attributeAnswer d m b u (Attribute p c) = got (attributeAt d m b u p) c
+attributeAnswer d m b u (NoAttribute l) = lost l
 
 pub record AttributeBetween (b : ℕ) (p : AttributeParts) (c : ℕ) : Type 0 where
   pub flags : p .flags < 16
   pub privileges : SmallPrivileges (p .read) (p .write)
   pub field : StructFieldBetween b (p .field) c
 
--- with the doc comment and the maturity that its reader was handed
-pub record AttributeIn (d : DocSpan) (m b : ℕ) (p : AttributeParts) (c : ℕ) : Type 0 where
-  pub doc : p .doc ≡ d
-  pub maturity : p .maturity ≡ m
-  pub between : AttributeBetween b p c
+abbrev pub attributeWithin : ℕ → AttributeRead → Type 0
+attributeWithin b (Attribute p c) = AttributeBetween b p c
+attributeWithin b (NoAttribute l) = Unit {0}
 
-abbrev pub attributeWithin : DocSpan → ℕ → ℕ → AttributeRead → Type 0
-attributeWithin d m b (Attribute p c) = AttributeIn d m b p c
-attributeWithin d m b (NoAttribute l) = Unit {0}
+pub record AttributeTo (r : AttributeRead) (b : ℕ) (u : List ℕ) : Type 0 where
+  pub to : (d : Doc) (m : ℕ) → ReadTo (attributeAnswer d m) attributeWithin (parse-attribute-after-doc-maturity d m) r b u
 
-abbrev pub AttributeTo : DocSpan → ℕ → AttributeRead → ℕ → List ℕ → Type 0
-AttributeTo d m r b u = ReadTo attributeAnswer (attributeWithin d m) (parse-attribute-after-doc-maturity (docOf d) m) r b u
+abbrev pub AttributeCountTo : Count → ℕ → List ℕ → Type 0
+AttributeCountTo r b u = CountsTo {I = Front} (λ i. attribute-records) (λ i. parse-attribute-after-doc-maturity (i .doc) (i .maturity)) r b u

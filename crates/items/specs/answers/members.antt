@@ -1,21 +1,24 @@
 -- Answers of the readers of events and commands.
-use Prim.Native.Nat.{ℕ, _≤_, _<_}
-use mathlib.Core.Path.{_≡_}
+use Prim.Native.Nat.{ℕ, _-_, _≤_, _<_}
 use mathlib.Core.Option.{Option}
 use mathlib.Core.List.{List, [], _∷_}
 use lib.Dec.{ltb}
-use Rattle.lexing.specs.reply.{Parser, ret, _>>_}
-use Rattle.lexing.specs.words.{Word, keyword}
-use Rattle.lexing.specs.answers.{Answer, got, lost, docOf, ReadTo, wordBetween}
+use lib.ListN.{drop}
+use Rattle.lexing.specs.bytes.{ascii, byte}
+use Rattle.lexing.specs.reply.{Parser, ret, _>>_, opt}
+use Rattle.lexing.specs.words.{Word, keyword, tag}
+use Rattle.lexing.specs.blanks.{Doc, whitespace0}
+use Rattle.lexing.specs.answers.{Rest, Answer, got, lost, ReadTo, wordBetween, behind-blanks}
 use Rattle.lexing.specs.declared.answers.Lost.{Lost}
-use Rattle.lexing.specs.declared.answers.Lost.the-variants.{Fail, Stop}
-use Rattle.lexing.specs.declared.blanks.DocSpan.{DocSpan}
-use Rattle.items.specs.members.{EventQualities as EventQualitiesOf, event-qualities, EventHead as EventHeadOf, event-head, parse-event-after-doc-maturity, CommandHead as CommandHeadOf, command-head, CommandTypes as CommandTypesOf, command-types, Command as CommandOf, parse-command-after-doc-maturity}
+use Rattle.lexing.specs.declared.answers.Lost.the-variants.{Fail}
+use Rattle.items.specs.members.{access-privilege, or-else, access-to, EventQualities as EventQualitiesOf, event-qualities, EventHead as EventHeadOf, event-head, parse-event-after-doc-maturity, CommandHead as CommandHeadOf, command-head, CommandTypes as CommandTypesOf, command-types, Command as CommandOf, parse-command-after-doc-maturity}
 use Rattle.items.specs.answers.{optionOf, Front, CountsTo}
+use Rattle.items.specs.clusters.{mapped}
 use Rattle.items.specs.records.{Record, command-record, event-records}
 use Rattle.items.specs.declared.counts.Count.{Count}
 use Rattle.items.specs.declared.members.Level.{Level}
 use Rattle.items.specs.declared.members.Level.the-variants.{Chosen, NoLevel}
+use Rattle.items.specs.declared.members.Privilege.{Privilege}
 use Rattle.items.specs.declared.members.EventQualitiesParts.{EventQualitiesParts}
 use Rattle.items.specs.declared.members.EventQualitiesRead.{EventQualitiesRead}
 use Rattle.items.specs.declared.members.EventQualitiesRead.the-variants.{EventQualities, NoEventQualities}
@@ -52,11 +55,34 @@ levelSmall b (NoLevel l) = Unit {0}
 abbrev pub LevelTo : Parser ℕ → Level → ℕ → List ℕ → Type 0
 LevelTo m r b u = ReadTo levelAnswer levelSmall m r b u
 
--- an optional one that stands at b: where it fails it is z
-abbrev pub levelOr : Level → ℕ → ℕ → Level
-levelOr (Chosen v c) z b = Chosen v c
-levelOr (NoLevel (Fail p)) z b = Chosen z b
-levelOr (NoLevel (Stop n p)) z b = NoLevel (Stop n p)
+-- the same from an offset c of a part
+pub record LevelAt (m : Parser ℕ) (r : Level) (b : ℕ) (u : List ℕ) (c : ℕ) : Type 0 where
+  pub at : Rest b u c (drop (c - b) u)
+  pub to : LevelTo m r c (drop (c - b) u)
+
+-- what the privileges of attributes, events and commands have in common
+abbrev pub access-opening : Parser (Unit {0})
+access-opening = do
+  whitespace0
+  keyword (ascii "access")
+  whitespace0
+  tag (byte "(")
+
+abbrev pub colon-privilege : Parser ℕ
+colon-privilege = do
+  tag (byte ":")
+  whitespace0
+  access-privilege
+
+-- a privilege in parentheses, behind blanks; it may be absent, and is z then
+abbrev pub privilegeAnswer : ℕ → List ℕ → Privilege → Answer ℕ
+privilegeAnswer b u r = got (r .level) (r .next)
+
+abbrev pub privilegeSmall : ℕ → Privilege → Type 0
+privilegeSmall b r = r .level < 4
+
+abbrev pub PrivilegeTo : List ℕ → ℕ → Privilege → ℕ → List ℕ → Type 0
+PrivilegeTo k z r b u = ReadTo privilegeAnswer privilegeSmall (mapped (opt (behind-blanks (access-to k))) (or-else z)) r b u
 
 -- up to an event's name
 abbrev pub eventQualitiesOf : EventQualitiesParts → EventQualitiesOf
@@ -168,51 +194,37 @@ commandTypesWithin b (NoCommandTypes l) = Unit {0}
 abbrev pub CommandTypesTo : CommandTypesRead → ℕ → List ℕ → Type 0
 CommandTypesTo r b u = ReadTo commandTypesAnswer commandTypesWithin command-types r b u
 
--- a command
-abbrev pub commandAt : ℕ → List ℕ → CommandParts → CommandOf
-commandAt b u p = record {
-  doc = docOf (p .doc);
-  maturity = p .maturity;
-  flags = p .flags;
-  access = p .access;
-  name = wordBetween b u (p .name) (p .end);
-  input = optionalBetween b u (p .input) (p .«input_end»);
-  output = wordBetween b u (p .output) (p .«output_end»);
+-- a command, whatever stands before it
+abbrev pub commandAt : Doc → ℕ → ℕ → List ℕ → CommandParts → CommandOf
+commandAt d m b u p = record {
+  doc = d;
+  maturity = m;
+  flags = p .head .qualities;
+  access = p .head .privilege;
+  name = wordBetween b u (p .head .name) (p .head .end);
+  input = optionalBetween b u (p .types .input) (p .types .«input_end»);
+  output = wordBetween b u (p .types .output) (p .types .«output_end»);
   code = p .code;
 }
 
-abbrev pub commandAnswer : ℕ → List ℕ → CommandRead → Answer CommandOf
-commandAnswer b u (Command p c) = got (commandAt b u p) c
-commandAnswer b u (NoCommand l) = lost l
-
-abbrev pub commandLost : CommandRead → Lost
-commandLost (Command p c) = Fail c
-commandLost (NoCommand l) = l
+abbrev pub commandAnswer : Doc → ℕ → ℕ → List ℕ → CommandRead → Answer CommandOf
+commandAnswer d m b u (Command p c) = got (commandAt d m b u p) c
+commandAnswer d m b u (NoCommand l) = lost l
 
 pub record CommandBetween (b : ℕ) (p : CommandParts) (c : ℕ) : Type 0 where
-  pub flags : p .flags < 4
-  pub access : p .access < 4
-  pub name-from : b ≤ p .name
-  pub name-to : p .name ≤ p .end
-  pub input-from : p .end ≤ p .input
-  pub input-to : p .input ≤ p .«input_end»
-  pub output-from : p .«input_end» ≤ p .output
-  pub output-to : p .output ≤ p .«output_end»
-  pub before : p .«output_end» ≤ c
+  pub head : CommandHeadBetween b (p .head) (p .types .input)
+  pub types : CommandTypesBetween (p .head .end) (p .types) c
 
--- with the doc comment and the maturity that its reader was handed
-pub record CommandIn (d : DocSpan) (m b : ℕ) (p : CommandParts) (c : ℕ) : Type 0 where
-  pub doc : p .doc ≡ d
-  pub maturity : p .maturity ≡ m
-  pub between : CommandBetween b p c
+abbrev pub commandWithin : ℕ → CommandRead → Type 0
+commandWithin b (Command p c) = CommandBetween b p c
+commandWithin b (NoCommand l) = Unit {0}
 
-abbrev pub commandWithin : DocSpan → ℕ → ℕ → CommandRead → Type 0
-commandWithin d m b (Command p c) = CommandIn d m b p c
-commandWithin d m b (NoCommand l) = Unit {0}
-
-abbrev pub CommandTo : DocSpan → ℕ → CommandRead → ℕ → List ℕ → Type 0
-CommandTo d m r b u = ReadTo commandAnswer (commandWithin d m) (parse-command-after-doc-maturity (docOf d) m) r b u
+pub record CommandTo (r : CommandRead) (b : ℕ) (u : List ℕ) : Type 0 where
+  pub to : (d : Doc) (m : ℕ) → ReadTo (commandAnswer d m) commandWithin (parse-command-after-doc-maturity d m) r b u
 
 -- a command is one record
 abbrev pub command-records : CommandOf → List Record
 command-records c = command-record c ∷ []
+
+abbrev pub CommandCountTo : Count → ℕ → List ℕ → Type 0
+CommandCountTo r b u = CountsTo {I = Front} (λ i. command-records) (λ i. parse-command-after-doc-maturity (i .doc) (i .maturity)) r b u

@@ -2,23 +2,20 @@
 use Prim.Native.Nat.{ℕ, _-_, max}
 use mathlib.Core.Path.{_≡_}
 use mathlib.Core.List.{List, [], _∷_}
-use Rattle.lexing.specs.bytes.{ascii, byte}
+use Rattle.lexing.specs.bytes.{byte}
 use Rattle.lexing.specs.reply.{fail, Parser, ret, _>>=_, _>>_, catch, failAt}
-use Rattle.lexing.specs.words.{Word, tag}
+use Rattle.lexing.specs.words.{tag}
 use Rattle.lexing.specs.integers.{positive-integer, signed-integer}
 use Rattle.lexing.specs.blanks.{whitespace0}
 use Rattle.lexing.specs.declared.answers.Lost.{Lost}
 use Rattle.lexing.specs.declared.answers.Lost.the-variants.{Fail, Stop}
 use Rattle.items.specs.clusters.{mapped}
 use Rattle.items.specs.endpoints.{Tried as TriedOf, Deep, deep-run, number, signed-number}
-use Rattle.lexing.specs.names.{named-after}
 use Rattle.items.specs.records.{Record, absent, at, bits, value, plain, default-number, default-word}
 use Rattle.items.specs.answers.{first-of}
 use Rattle.items.specs.answers.endpoints.{defaultOf}
 use Rattle.items.specs.declared.endpoints.DeviceTypeParts.{DeviceTypeParts}
 use Rattle.items.specs.declared.endpoints.AttributeInstanceParts.{AttributeInstanceParts}
-use Rattle.items.specs.declared.endpoints.Tried.{Tried}
-use Rattle.items.specs.declared.endpoints.Tried.the-variants.{Found, NotFound}
 
 -- no number stands at b, as the value of a default
 pub record NoNumberAt (b : ℕ) (u : List ℕ) : Type 0 where
@@ -29,11 +26,6 @@ pub record NoNumberAt (b : ℕ) (u : List ℕ) : Type 0 where
 abbrev pub furtherLost : Lost → ℕ → Lost
 furtherLost (Fail p) q = Fail (max p q)
 furtherLost (Stop n p) q = Stop n p
-
--- the end of a loop after n words at c, by why its last try was lost
-abbrev pub triedEnd : Lost → ℕ → ℕ → Tried
-triedEnd (Fail p) n c = Found n c p
-triedEnd (Stop i p) n c = NotFound (Stop i p)
 
 -- the closing brace behind tries whose furthest place is q
 unfoldable pub deep-close : ℕ → Parser (Unit {0})
@@ -48,10 +40,6 @@ deep-tail f = do
 
 unfoldable pub deep-rest : {A : Type 0} → (ℕ → Parser (TriedOf A)) → Parser (List A)
 deep-rest f = mapped (deep-tail f) (λ s. s .read)
-
--- a binding as a try: blanks may stand before it
-unfoldable pub blank-binding : Parser Word
-blank-binding = whitespace0 >> named-after (ascii "binding") (ascii "cluster")
 
 -- The second pass.
 

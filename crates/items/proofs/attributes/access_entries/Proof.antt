@@ -1,54 +1,61 @@
-use borrow.Author.Needs.{needs}
 use Rattle.items.proofs.attributes.access_entries.Statement.{statement}
 use Rattle.items.proofs.attributes.access_entries.Tie as tie
 use native.Mathlib.Omega.{arith}
+use Prim.Native.Nat.{_-_, _+_}
 use mathlib.Core.Path.{refl}
-use Rattle.lexing.proofs.Slicing.{rest-self}
-use Rattle.items.specs.members.{access-entry}
-use Rattle.items.proofs.Mapped.{read-as}
-use Rattle.items.proofs.attributes.Laws.{entry-onward, access-lost, entries-none, entries-some, first-grants}
+use lib.ListN.{length}
+use Rattle.lexing.proofs.steps.Laws.{tag-behind-took}
+use Rattle.items.proofs.attributes.Laws.{Entering, first, next, entering-small, entering-at, entry-on, entries-end, entered, entries-closed}
 
-access-entry-requires : tie.Need-access-entry-requires
-access-entry-requires c κs = search needs
+abbrev Inv-loop : tie.InvT-loop
+Inv-loop part base grants₀ end₀ c₀ grants end c = Entering base part end c grants
 
-enum-known-first : tie.Need-enum-known-first
-enum-known-first c = c .match .keys1
+abbrev μ-loop : tie.MeasureT-loop
+μ-loop part base grants₀ end₀ c₀ grants end c = base + length part - c
 
-enum-told : tie.Need-enum-told
+loop-holds : tie.Need-loop-holds Inv-loop μ-loop
+loop-holds c = first refl refl refl
+
+rest-at-requires : tie.Need-rest-at-requires Inv-loop μ-loop
+rest-at-requires c κs = entering-at (c .loop .inv)
+
+access-entry-requires : tie.Need-access-entry-requires Inv-loop μ-loop
+access-entry-requires c κs = (omega (arith, c .rest-at .ensures .size, c .before .before .before .pre), entering-small (c .before .loop .inv))
+
+returns : tie.Need-returns Inv-loop μ-loop
+returns c = entries-end (c .before .before .before .before .loop .inv) (c .before .before .before .rest-at .ensures) (c .before .before .access-entry .ensures) (c .if1 .taken)
+
+tag-behind-requires : tie.Need-tag-behind-requires Inv-loop μ-loop
+tag-behind-requires c κs = let i = (entered (c .before .before .before .before .loop .inv) (c .before .before .before .rest-at .ensures) (c .before .before .access-entry .ensures) (c .if1 .left)) in omega (arith, i .from, i .inside, c .before .before .before .before .before .before .pre)
+
+enum-known-comma : tie.Need-enum-known-comma Inv-loop μ-loop
+enum-known-comma c = c .match .keys1
+
+enum-told : tie.Need-enum-told Inv-loop μ-loop
 enum-told c = c .match .keys2
 
-access-lost-requires : tie.Need-access-lost-requires
-access-lost-requires c κs = tt
+returns-2 : tie.Need-returns-2 Inv-loop μ-loop
+returns-2 c = entries-closed (entered (c .before .before .before .before .before .before .before .loop .inv) (c .before .before .before .before .before .before .rest-at .ensures) (c .before .before .before .before .before .access-entry .ensures) (c .before .before .before .if1 .left)) (c .before .before .tag-behind .ensures) (c .enum-told .given .1)
 
-list-end-requires : tie.Need-list-end-requires
-list-end-requires c κs = tt
+loop-less : tie.Need-loop-less Inv-loop μ-loop
+loop-less c = let t = (tag-behind-took 44 (c .before .comma .given .1) (c .before .before .before .tag-behind .ensures)) in omega (arith, entry-on _ (c .before .before .before .before .before .before .before .rest-at .ensures) (c .before .before .before .before .before .before .access-entry .ensures) (c .before .before .before .before .if1 .left), t .up, t .inside)
 
-returns : tie.Need-returns
-returns c = entries-none (c .before .access-lost .result) _ _ (access-lost access-entry (c .before .before .before .before .access-entry .ensures) (c .before .access-lost .ensures) (c .before .before .enum-told .given .1)) (c .list-end .ensures)
-
-grants-with-requires : tie.Need-grants-with-requires
-grants-with-requires c κs = tt
-
-rest-at-requires : tie.Need-rest-at-requires
-rest-at-requires c κs = let t = (read-as (c .before .before .before .before .access-entry .ensures) (c .before .before .first .given .1) entry-onward (rest-self _ _) refl) in omega (arith, t .step .up, t .step .inside)
-
-more-entries-requires : tie.Need-more-entries-requires
-more-entries-requires c κs = (omega (arith, c .rest-at .ensures .size, c .before .before .before .before .before .before .before .pre), first-grants (c .before .before .before .before .before .access-entry .ensures) (c .before .before .before .first .given .1) (c .before .grants-with .ensures))
-
-returns-2 : tie.Need-returns-2
-returns-2 c = entries-some (read-as (c .before .before .before .before .before .before .access-entry .ensures) (c .before .before .before .before .first .given .1) entry-onward (rest-self _ _) refl) (c .before .before .grants-with .ensures) (c .more-entries .result) (c .before .rest-at .ensures) (c .more-entries .ensures)
+loop-again : tie.Need-loop-again Inv-loop μ-loop
+loop-again c = next (entered (c .before .before .before .before .before .before .before .before .loop .inv) (c .before .before .before .before .before .before .before .rest-at .ensures) (c .before .before .before .before .before .before .access-entry .ensures) (c .before .before .before .before .if1 .left)) (tag-behind-took 44 (c .before .comma .given .1) (c .before .before .before .tag-behind .ensures))
 
 pub access-entries-spec : {M : Type 1} → statement M
 access-entries-spec =
     tie.close
     (tie.spec
-    access-entry-requires
-    enum-known-first
-    enum-told
-    access-lost-requires
-    list-end-requires
-    returns
-    grants-with-requires
+    Inv-loop
+    μ-loop
+    loop-holds
     rest-at-requires
-    more-entries-requires
-    returns-2)
+    access-entry-requires
+    returns
+    tag-behind-requires
+    enum-known-comma
+    enum-told
+    returns-2
+    loop-less
+    loop-again)

@@ -9,25 +9,25 @@ enum-told : tie.Need-enum-told
 enum-told c = c .match .keys2
 
 returns : tie.Need-returns
-returns c = grants-refused _ _ _ (c .enum-told .given .1)
+returns c = grants-refused _ (c .before .before .args .operation) (c .before .before .args .privilege) (c .before .before .args .at) (c .enum-told .given .1)
 
-enum-known-grant : tie.Need-enum-known-grant
-enum-known-grant c = c .match2 .keys1
+enum-told-2 : tie.Need-enum-told-2
+enum-told-2 c = c .match2 .keys1
 
-enum-known-grant-2 : tie.Need-enum-known-grant-2
-enum-known-grant-2 c = c .match2 .keys2
+enum-told-3 : tie.Need-enum-told-3
+enum-told-3 c = c .match2 .keys2
 
-enum-known-grant-3 : tie.Need-enum-known-grant-3
-enum-known-grant-3 c = c .match2 .keys3
+enum-told-4 : tie.Need-enum-told-4
+enum-told-4 c = c .match2 .keys3
 
 returns-2 : tie.Need-returns-2
-returns-2 c = grants-with _ _ (c .before .before .before .before .grants .given .1) (c .before .grant .given .1)
+returns-2 c = grants-with _ _ (c .before .before .before .before .before .args .privilege) (c .before .before .before .before .before .args .at) (c .before .before .before .grants .given .1) (c .enum-told2 .given .1)
 
 returns-3 : tie.Need-returns-3
-returns-3 c = grants-with _ _ (c .before .before .before .before .grants .given .1) (c .before .grant2 .given .1)
+returns-3 c = grants-with _ _ (c .before .before .before .before .before .args .privilege) (c .before .before .before .before .before .args .at) (c .before .before .before .grants .given .1) (c .enum-told3 .given .1)
 
 returns-4 : tie.Need-returns-4
-returns-4 c = grants-with _ _ (c .before .before .before .before .grants .given .1) (c .before .grant3 .given .1)
+returns-4 c = grants-with _ _ (c .before .before .before .before .before .args .privilege) (c .before .before .before .before .before .args .at) (c .before .before .before .grants .given .1) (c .enum-told4 .given .1)
 
 pub grants-with-spec : {M : Type 1} → statement M
 grants-with-spec =
@@ -36,9 +36,9 @@ grants-with-spec =
     enum-known-grants
     enum-told
     returns
-    enum-known-grant
-    enum-known-grant-2
-    enum-known-grant-3
+    enum-told-2
+    enum-told-3
+    enum-told-4
     returns-2
     returns-3
     returns-4)

@@ -1,17 +1,16 @@
 use borrow.Author.Needs.{needs}
 use Rattle.items.proofs.attributes.parse_attribute_after_doc_maturity.Statement.{statement}
 use Rattle.items.proofs.attributes.parse_attribute_after_doc_maturity.Tie as tie
-use Rattle.lexing.specs.answers.{docOf}
 use Rattle.items.specs.members.{parse-attribute-after-doc-maturity}
 use Rattle.items.proofs.SetSizes.{fits}
-use Rattle.items.proofs.attributes.Laws.{privileges-small, attribute-access-onward}
+use Rattle.items.proofs.attributes.Laws.{privileges-small, attribute-not, attribute-is, attribute-access-onward}
 use Rattle.items.specs.structs.{closed-field}
 use Rattle.items.proofs.structs.Laws.{closed-field-on, struct-field-between, between-wider, struct-field-took, struct-field-none}
 use mathlib.Core.Path.{refl}
 use native.Mathlib.Omega.{arith}
 use Rattle.lexing.specs.bytes.{ascii}
 use Rattle.lexing.proofs.Slicing.{rest-self, begin, go, on, lose, fall, done, set-took}
-use Rattle.lexing.proofs.AnswerLaws.{read-is, read-not, read-lost, read-took}
+use Rattle.lexing.proofs.AnswerLaws.{read-lost, read-took}
 use Rattle.lexing.proofs.Pairs.{pair-on, pair-fall, closed-go, closed-lose}
 use Rattle.lexing.proofs.steps.Laws.{gap-at-took, keyword-behind-took, skips-lost}
 use Rattle.items.specs.answers.attributes.{privilegesLost}
@@ -36,7 +35,7 @@ step-lost-requires c κs = tt
 
 returns : tie.Need-returns
 unfolding parse-attribute-after-doc-maturity closed-field
-returns c = read-not _ refl tt (begin (parse-attribute-after-doc-maturity (docOf (c .before .before .before .before .before .before .before .args .doc)) (c .before .before .before .before .before .before .before .args .maturity)) _ _ (go _ (set-took (rest-self _ _) (c .before .before .before .before .before .keywords-set .ensures)) (pair-fall _ _ _ (c .step-lost .result) (c .before .before .before .keyword-behind .ensures .at) (skips-lost (c .step-lost .ensures) (c .before .enum-told .given .1) (c .before .before .before .keyword-behind .ensures)))))
+returns c = attribute-not _ λ d m. (begin (parse-attribute-after-doc-maturity d m) _ _ (go _ (set-took (rest-self _ _) (c .before .before .before .before .before .keywords-set .ensures)) (pair-fall _ _ _ (c .step-lost .result) (c .before .before .before .keyword-behind .ensures .at) (skips-lost (c .step-lost .ensures) (c .before .enum-told .given .1) (c .before .before .before .keyword-behind .ensures)))))
 
 gap-at-requires : tie.Need-gap-at-requires
 gap-at-requires c κs = let t = keyword-behind-took (ascii "attribute") (c .before .attribute .given .1) (c .before .before .before .keyword-behind .ensures) in omega (arith, t .up, t .inside, c .before .before .before .keyword-behind .ensures .at .from, c .before .before .before .before .before .before .before .pre)
@@ -52,7 +51,7 @@ step-lost-requires-2 c κs = tt
 
 returns-2 : tie.Need-returns-2
 unfolding parse-attribute-after-doc-maturity closed-field
-returns-2 c = read-not _ refl tt (begin (parse-attribute-after-doc-maturity (docOf (c .before .before .before .before .before .before .before .before .before .before .before .args .doc)) (c .before .before .before .before .before .before .before .before .before .before .before .args .maturity)) _ _ (go _ (set-took (rest-self _ _) (c .before .before .before .before .before .before .before .before .before .keywords-set .ensures)) (pair-on _ _ _ (keyword-behind-took (ascii "attribute") (c .before .before .before .before .before .attribute .given .1) (c .before .before .before .before .before .before .before .keyword-behind .ensures)) (fall _ _ (c .step-lost2 .result) (c .before .before .before .gap-at .ensures .at) (skips-lost (c .step-lost2 .ensures) (c .before .enum-told2 .given .1) (c .before .before .before .gap-at .ensures))))))
+returns-2 c = attribute-not _ λ d m. (begin (parse-attribute-after-doc-maturity d m) _ _ (go _ (set-took (rest-self _ _) (c .before .before .before .before .before .before .before .before .before .keywords-set .ensures)) (pair-on _ _ _ (keyword-behind-took (ascii "attribute") (c .before .before .before .before .before .attribute .given .1) (c .before .before .before .before .before .before .before .keyword-behind .ensures)) (fall _ _ (c .step-lost2 .result) (c .before .before .before .gap-at .ensures .at) (skips-lost (c .step-lost2 .ensures) (c .before .enum-told2 .given .1) (c .before .before .before .gap-at .ensures))))))
 
 rest-at-requires : tie.Need-rest-at-requires
 rest-at-requires c κs = let t = gap-at-took (c .before .gap .given .1) (c .before .before .before .gap-at .ensures) in omega (arith, t .up, t .inside, c .before .before .before .gap-at .ensures .at .from)
@@ -71,7 +70,7 @@ privileges-lost-requires c κs = tt
 
 returns-3 : tie.Need-returns-3
 unfolding parse-attribute-after-doc-maturity closed-field
-returns-3 c = read-not _ refl tt (begin (parse-attribute-after-doc-maturity (docOf (c .before .before .before .before .before .before .before .before .before .before .before .before .before .before .before .before .args .doc)) (c .before .before .before .before .before .before .before .before .before .before .before .before .before .before .before .before .args .maturity)) _ _ (go _ (set-took (rest-self _ _) (c .before .before .before .before .before .before .before .before .before .before .before .before .before .before .keywords-set .ensures)) (pair-on _ _ _ (keyword-behind-took (ascii "attribute") (c .before .before .before .before .before .before .before .before .before .before .attribute .given .1) (c .before .before .before .before .before .before .before .before .before .before .before .before .keyword-behind .ensures)) (on _ (gap-at-took (c .before .before .before .before .before .before .gap .given .1) (c .before .before .before .before .before .before .before .before .gap-at .ensures)) (lose _ _ (c .privileges-lost .result) (c .before .before .before .before .rest-at .ensures) (read-lost (c .before .before .before .attribute-access .ensures) (c .before .enum-told3 .given .1) privilegesLost (c .privileges-lost .ensures) refl))))))
+returns-3 c = attribute-not _ λ d m. (begin (parse-attribute-after-doc-maturity d m) _ _ (go _ (set-took (rest-self _ _) (c .before .before .before .before .before .before .before .before .before .before .before .before .before .before .keywords-set .ensures)) (pair-on _ _ _ (keyword-behind-took (ascii "attribute") (c .before .before .before .before .before .before .before .before .before .before .attribute .given .1) (c .before .before .before .before .before .before .before .before .before .before .before .before .keyword-behind .ensures)) (on _ (gap-at-took (c .before .before .before .before .before .before .gap .given .1) (c .before .before .before .before .before .before .before .before .gap-at .ensures)) (lose _ _ (c .privileges-lost .result) (c .before .before .before .before .rest-at .ensures) (read-lost (c .before .before .before .attribute-access .ensures) (c .before .enum-told3 .given .1) privilegesLost (c .privileges-lost .ensures) refl))))))
 
 rest-at-requires-2 : tie.Need-rest-at-requires-2
 rest-at-requires-2 c κs = let t = read-took (c .before .before .before .attribute-access .ensures) (c .before .access .given .1) attribute-access-onward (c .before .before .before .before .rest-at .ensures) refl in omega (arith, t .up, t .inside, c .before .before .before .before .rest-at .ensures .from)
@@ -90,11 +89,11 @@ struct-field-lost-requires c κs = tt
 
 returns-4 : tie.Need-returns-4
 unfolding parse-attribute-after-doc-maturity closed-field
-returns-4 c = read-not _ refl tt (begin (parse-attribute-after-doc-maturity (docOf (c .before .before .before .before .before .before .before .before .before .before .before .before .before .before .before .before .before .before .before .before .before .args .doc)) (c .before .before .before .before .before .before .before .before .before .before .before .before .before .before .before .before .before .before .before .before .before .args .maturity)) _ _ (go _ (set-took (rest-self _ _) (c .before .before .before .before .before .before .before .before .before .before .before .before .before .before .before .before .before .before .before .keywords-set .ensures)) (pair-on _ _ _ (keyword-behind-took (ascii "attribute") (c .before .before .before .before .before .before .before .before .before .before .before .before .before .before .before .attribute .given .1) (c .before .before .before .before .before .before .before .before .before .before .before .before .before .before .before .before .before .keyword-behind .ensures)) (on _ (gap-at-took (c .before .before .before .before .before .before .before .before .before .before .before .gap .given .1) (c .before .before .before .before .before .before .before .before .before .before .before .before .before .gap-at .ensures)) (go _ (read-took (c .before .before .before .before .before .before .before .before .attribute-access .ensures) (c .before .before .before .before .before .before .access .given .1) attribute-access-onward (c .before .before .before .before .before .before .before .before .before .rest-at .ensures) refl) (closed-lose _ _ _ _ _ (c .struct-field-lost .result) (c .before .before .before .before .rest-at2 .ensures) (struct-field-none closed-field-on (c .before .before .before .before .rest-at2 .ensures) (c .before .before .before .closed-field .ensures) (c .struct-field-lost .ensures) (c .before .enum-told4 .given .1))))))))
+returns-4 c = attribute-not _ λ d m. (begin (parse-attribute-after-doc-maturity d m) _ _ (go _ (set-took (rest-self _ _) (c .before .before .before .before .before .before .before .before .before .before .before .before .before .before .before .before .before .before .before .keywords-set .ensures)) (pair-on _ _ _ (keyword-behind-took (ascii "attribute") (c .before .before .before .before .before .before .before .before .before .before .before .before .before .before .before .attribute .given .1) (c .before .before .before .before .before .before .before .before .before .before .before .before .before .before .before .before .before .keyword-behind .ensures)) (on _ (gap-at-took (c .before .before .before .before .before .before .before .before .before .before .before .gap .given .1) (c .before .before .before .before .before .before .before .before .before .before .before .before .before .gap-at .ensures)) (go _ (read-took (c .before .before .before .before .before .before .before .before .attribute-access .ensures) (c .before .before .before .before .before .before .access .given .1) attribute-access-onward (c .before .before .before .before .before .before .before .before .before .rest-at .ensures) refl) (closed-lose _ _ _ _ _ (c .struct-field-lost .result) (c .before .before .before .before .rest-at2 .ensures) (struct-field-none closed-field-on (c .before .before .before .before .rest-at2 .ensures) (c .before .before .before .closed-field .ensures) (c .struct-field-lost .ensures) (c .before .enum-told4 .given .1))))))))
 
 returns-5 : tie.Need-returns-5
 unfolding parse-attribute-after-doc-maturity closed-field
-returns-5 c = read-is refl (begin (parse-attribute-after-doc-maturity (docOf (c .before .before .before .before .before .before .before .before .before .before .before .before .before .before .before .before .before .before .before .before .before .args .doc)) (c .before .before .before .before .before .before .before .before .before .before .before .before .before .before .before .before .before .before .before .before .before .args .maturity)) _ _ (go _ (set-took (rest-self _ _) (c .before .before .before .before .before .before .before .before .before .before .before .before .before .before .before .before .before .before .before .keywords-set .ensures)) (pair-on _ _ _ (keyword-behind-took (ascii "attribute") (c .before .before .before .before .before .before .before .before .before .before .before .before .before .before .before .attribute .given .1) (c .before .before .before .before .before .before .before .before .before .before .before .before .before .before .before .before .before .keyword-behind .ensures)) (on _ (gap-at-took (c .before .before .before .before .before .before .before .before .before .before .before .gap .given .1) (c .before .before .before .before .before .before .before .before .before .before .before .before .before .gap-at .ensures)) (go _ (read-took (c .before .before .before .before .before .before .before .before .attribute-access .ensures) (c .before .before .before .before .before .before .access .given .1) attribute-access-onward (c .before .before .before .before .before .before .before .before .before .rest-at .ensures) refl) (closed-go _ _ _ _ _ (struct-field-took closed-field-on (c .before .before .before .before .rest-at2 .ensures) (c .before .before .before .closed-field .ensures) (c .before .r .given .1)) (done _ _ _ _))))))) (let w = struct-field-between closed-field-on (c .before .before .before .before .rest-at2 .ensures) (c .before .before .before .closed-field .ensures) (c .before .r .given .1) in record { doc = refl; maturity = refl; between = record { flags = fits 4 (c .before .before .before .before .before .before .before .before .before .before .before .before .before .before .before .before .before .before .before .keywords-set .ensures); privileges = privileges-small (c .before .before .before .before .before .before .before .before .attribute-access .ensures) (c .before .before .before .before .before .before .access .given .1); field = record { between = between-wider (c .before .before .before .before .rest-at2 .ensures .from) (omega arith) (w .between); few-maturities = w .few-maturities; few-flags = w .few-flags } } })
+returns-5 c = attribute-is (let w = struct-field-between closed-field-on (c .before .before .before .before .rest-at2 .ensures) (c .before .before .before .closed-field .ensures) (c .before .r .given .1) in record { flags = fits 4 (c .before .before .before .before .before .before .before .before .before .before .before .before .before .before .before .before .before .before .before .keywords-set .ensures); privileges = privileges-small (c .before .before .before .before .before .before .before .before .attribute-access .ensures) (c .before .before .before .before .before .before .access .given .1); field = record { between = between-wider (c .before .before .before .before .rest-at2 .ensures .from) (omega arith) (w .between); few-maturities = w .few-maturities; few-flags = w .few-flags } }) λ d m. (begin (parse-attribute-after-doc-maturity d m) _ _ (go _ (set-took (rest-self _ _) (c .before .before .before .before .before .before .before .before .before .before .before .before .before .before .before .before .before .before .before .keywords-set .ensures)) (pair-on _ _ _ (keyword-behind-took (ascii "attribute") (c .before .before .before .before .before .before .before .before .before .before .before .before .before .before .before .attribute .given .1) (c .before .before .before .before .before .before .before .before .before .before .before .before .before .before .before .before .before .keyword-behind .ensures)) (on _ (gap-at-took (c .before .before .before .before .before .before .before .before .before .before .before .gap .given .1) (c .before .before .before .before .before .before .before .before .before .before .before .before .before .gap-at .ensures)) (go _ (read-took (c .before .before .before .before .before .before .before .before .attribute-access .ensures) (c .before .before .before .before .before .before .access .given .1) attribute-access-onward (c .before .before .before .before .before .before .before .before .before .rest-at .ensures) refl) (closed-go _ _ _ _ _ (struct-field-took closed-field-on (c .before .before .before .before .rest-at2 .ensures) (c .before .before .before .closed-field .ensures) (c .before .r .given .1)) (done _ _ _ _)))))))
 
 pub parse-attribute-after-doc-maturity-spec : {M : Type 1} → statement M
 parse-attribute-after-doc-maturity-spec =

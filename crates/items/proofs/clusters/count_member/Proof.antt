@@ -68,10 +68,10 @@ returns-4 : tie.Need-returns-4
 returns-4 c = kind-counts (docOf (c .before .before .before .before .args .doc)) (c .before .before .before .before .args .maturity) _ _ (c .before .enum-told4 .given .1) (counts-struct (docOf (c .before .before .before .before .args .doc)) (c .before .before .before .before .args .maturity) _ _ (c .parse-struct-after-doc-maturity .ensures))
 
 returns-5 : tie.Need-returns-5
-returns-5 c = kind-counts (docOf (c .before .before .before .before .args .doc)) (c .before .before .before .before .args .maturity) _ _ (c .before .enum-told5 .given .1) (counts-attribute (docOf (c .before .before .before .before .args .doc)) (c .before .before .before .before .args .maturity) _ _ (c .count-attribute .ensures))
+returns-5 c = kind-counts (docOf (c .before .before .before .before .args .doc)) (c .before .before .before .before .args .maturity) _ _ (c .before .enum-told5 .given .1) (counts-attribute (docOf (c .before .before .before .before .args .doc)) (c .before .before .before .before .args .maturity) _ _ (c .count-attribute .ensures .counts (record { kind = 0; place = 0; doc = docOf (c .before .before .before .before .args .doc); maturity = c .before .before .before .before .args .maturity })))
 
 returns-6 : tie.Need-returns-6
-returns-6 c = kind-counts (docOf (c .before .before .before .before .args .doc)) (c .before .before .before .before .args .maturity) _ _ (c .before .enum-told6 .given .1) (counts-command (docOf (c .before .before .before .before .args .doc)) (c .before .before .before .before .args .maturity) _ _ (c .count-command .ensures))
+returns-6 c = kind-counts (docOf (c .before .before .before .before .args .doc)) (c .before .before .before .before .args .maturity) _ _ (c .before .enum-told6 .given .1) (counts-command (docOf (c .before .before .before .before .args .doc)) (c .before .before .before .before .args .maturity) _ _ (c .count-command .ensures .counts (record { kind = 0; place = 0; doc = docOf (c .before .before .before .before .args .doc); maturity = c .before .before .before .before .args .maturity })))
 
 returns-7 : tie.Need-returns-7
 returns-7 c = kind-counts (docOf (c .before .before .before .before .args .doc)) (c .before .before .before .before .args .maturity) _ _ (c .before .enum-told7 .given .1) (counts-event (docOf (c .before .before .before .before .args .doc)) (c .before .before .before .before .args .maturity) _ _ (c .parse-event-after-doc-maturity .ensures))

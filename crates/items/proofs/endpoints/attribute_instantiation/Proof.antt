@@ -3,9 +3,9 @@ use Rattle.items.proofs.endpoints.attribute_instantiation.Statement.{st
 use Rattle.items.proofs.endpoints.attribute_instantiation.Tie as tie
 use Rattle.items.specs.endpoints.{attribute-instantiation}
 use Rattle.items.specs.answers.endpoints.{defaultLost}
-use Rattle.lexing.proofs.AnswerLaws.{read-within, read-is, read-not, read-lost, read-took}
+use Rattle.lexing.proofs.AnswerLaws.{read-within, read-lost, read-took}
 use Rattle.lexing.proofs.names.Laws.{named-in, named-took, keyword-name-on}
-use Rattle.items.proofs.endpoints.Laws.{default-within, handling-on, optional-on}
+use Rattle.items.proofs.endpoints.Laws.{default-within, attribute-is, attribute-not, handling-on, optional-on}
 use mathlib.Core.Path.{refl}
 use native.Mathlib.Omega.{arith}
 use Rattle.lexing.proofs.Slicing.{rest-self, begin, go, on, lose, fall, done}
@@ -28,7 +28,7 @@ level-lost-requires c κs = tt
 
 returns : tie.Need-returns
 unfolding attribute-instantiation
-returns c = read-not _ refl tt (begin (attribute-instantiation) _ _ (lose _ _ (c .level-lost .result) (rest-self _ _) (level-lost (c .before .before .before .attribute-handling-type .ensures) (c .level-lost .ensures) (c .before .enum-told .given .1))))
+returns c = attribute-not _ (begin (attribute-instantiation) _ _ (lose _ _ (c .level-lost .result) (rest-self _ _) (level-lost (c .before .before .before .attribute-handling-type .ensures) (c .level-lost .ensures) (c .before .enum-told .given .1))))
 
 gap-at-requires : tie.Need-gap-at-requires
 gap-at-requires c κs = let t = level-took (c .before .before .before .attribute-handling-type .ensures) handling-on (rest-self _ _) (c .before .held .given .1) in omega (arith, t .up, t .inside, c .before .before .before .before .before .pre)
@@ -44,7 +44,7 @@ step-lost-requires c κs = tt
 
 returns-2 : tie.Need-returns-2
 unfolding attribute-instantiation
-returns-2 c = read-not _ refl tt (begin (attribute-instantiation) _ _ (go _ (level-took (c .before .before .before .before .before .before .before .attribute-handling-type .ensures) handling-on (rest-self _ _) (c .before .before .before .before .before .held .given .1)) (fall _ _ (c .step-lost .result) (c .before .before .before .gap-at .ensures .at) (skips-lost (c .step-lost .ensures) (c .before .enum-told2 .given .1) (c .before .before .before .gap-at .ensures)))))
+returns-2 c = attribute-not _ (begin (attribute-instantiation) _ _ (go _ (level-took (c .before .before .before .before .before .before .before .attribute-handling-type .ensures) handling-on (rest-self _ _) (c .before .before .before .before .before .held .given .1)) (fall _ _ (c .step-lost .result) (c .before .before .before .gap-at .ensures .at) (skips-lost (c .step-lost .ensures) (c .before .enum-told2 .given .1) (c .before .before .before .gap-at .ensures)))))
 
 rest-at-requires : tie.Need-rest-at-requires
 rest-at-requires c κs = let t = gap-at-took (c .before .gap .given .1) (c .before .before .before .gap-at .ensures) in omega (arith, t .up, t .inside, c .before .before .before .gap-at .ensures .at .from)
@@ -66,7 +66,7 @@ named-lost-requires c κs = tt
 
 returns-3 : tie.Need-returns-3
 unfolding attribute-instantiation
-returns-3 c = read-not _ refl tt (begin (attribute-instantiation) _ _ (go _ (level-took (c .before .before .before .before .before .before .before .before .before .before .before .before .before .attribute-handling-type .ensures) handling-on (rest-self _ _) (c .before .before .before .before .before .before .before .before .before .before .before .held .given .1)) (on _ (gap-at-took (c .before .before .before .before .before .before .before .gap .given .1) (c .before .before .before .before .before .before .before .before .before .gap-at .ensures)) (three-lose _ _ _ _ (c .named-lost .result) (c .before .before .before .before .before .rest-at .ensures) (read-lost (c .before .before .before .keyword-name .ensures) (c .before .enum-told3 .given .1) namedLost (c .named-lost .ensures) refl)))))
+returns-3 c = attribute-not _ (begin (attribute-instantiation) _ _ (go _ (level-took (c .before .before .before .before .before .before .before .before .before .before .before .before .before .attribute-handling-type .ensures) handling-on (rest-self _ _) (c .before .before .before .before .before .before .before .before .before .before .before .held .given .1)) (on _ (gap-at-took (c .before .before .before .before .before .before .before .gap .given .1) (c .before .before .before .before .before .before .before .before .before .gap-at .ensures)) (three-lose _ _ _ _ (c .named-lost .result) (c .before .before .before .before .before .rest-at .ensures) (read-lost (c .before .before .before .keyword-name .ensures) (c .before .enum-told3 .given .1) namedLost (c .named-lost .ensures) refl)))))
 
 rest-at-requires-2 : tie.Need-rest-at-requires-2
 rest-at-requires-2 c κs = let t = named-took (c .before .before .before .keyword-name .ensures) (c .before .named .given .1) (keyword-name-on _) (c .before .before .before .before .before .rest-at .ensures) in omega (arith, t .up, t .inside, c .before .before .before .before .before .rest-at .ensures .from)
@@ -85,7 +85,7 @@ default-lost-requires c κs = tt
 
 returns-4 : tie.Need-returns-4
 unfolding attribute-instantiation
-returns-4 c = read-not _ refl tt (begin (attribute-instantiation) _ _ (go _ (level-took (c .before .before .before .before .before .before .before .before .before .before .before .before .before .before .before .before .before .before .attribute-handling-type .ensures) handling-on (rest-self _ _) (c .before .before .before .before .before .before .before .before .before .before .before .before .before .before .before .before .held .given .1)) (on _ (gap-at-took (c .before .before .before .before .before .before .before .before .before .before .before .before .gap .given .1) (c .before .before .before .before .before .before .before .before .before .before .before .before .before .before .gap-at .ensures)) (three-go _ _ _ _ (named-took (c .before .before .before .before .before .before .before .before .keyword-name .ensures) (c .before .before .before .before .before .before .named .given .1) (keyword-name-on _) (c .before .before .before .before .before .before .before .before .before .before .rest-at .ensures)) (lose _ _ (c .default-lost .result) (c .before .before .before .before .rest-at2 .ensures) (read-lost (c .before .before .before .optional-default .ensures) (c .before .enum-told4 .given .1) defaultLost (c .default-lost .ensures) refl))))))
+returns-4 c = attribute-not _ (begin (attribute-instantiation) _ _ (go _ (level-took (c .before .before .before .before .before .before .before .before .before .before .before .before .before .before .before .before .before .before .attribute-handling-type .ensures) handling-on (rest-self _ _) (c .before .before .before .before .before .before .before .before .before .before .before .before .before .before .before .before .held .given .1)) (on _ (gap-at-took (c .before .before .before .before .before .before .before .before .before .before .before .before .gap .given .1) (c .before .before .before .before .before .before .before .before .before .before .before .before .before .before .gap-at .ensures)) (three-go _ _ _ _ (named-took (c .before .before .before .before .before .before .before .before .keyword-name .ensures) (c .before .before .before .before .before .before .named .given .1) (keyword-name-on _) (c .before .before .before .before .before .before .before .before .before .before .rest-at .ensures)) (lose _ _ (c .default-lost .result) (c .before .before .before .before .rest-at2 .ensures) (read-lost (c .before .before .before .optional-default .ensures) (c .before .enum-told4 .given .1) defaultLost (c .default-lost .ensures) refl))))))
 
 tag-behind-requires : tie.Need-tag-behind-requires
 tag-behind-requires c κs = let t = read-took (c .before .before .before .optional-default .ensures) (c .before .optional .given .1) optional-on (c .before .before .before .before .rest-at2 .ensures) refl in omega (arith, t .up, t .inside, c .before .before .before .before .rest-at2 .ensures .from, c .before .before .before .before .before .before .before .before .before .before .before .before .before .before .before .before .before .before .before .before .pre)
@@ -101,11 +101,11 @@ step-lost-requires-2 c κs = tt
 
 returns-5 : tie.Need-returns-5
 unfolding attribute-instantiation
-returns-5 c = read-not _ refl tt (begin (attribute-instantiation) _ _ (go _ (level-took (c .before .before .before .before .before .before .before .before .before .before .before .before .before .before .before .before .before .before .before .before .before .before .attribute-handling-type .ensures) handling-on (rest-self _ _) (c .before .before .before .before .before .before .before .before .before .before .before .before .before .before .before .before .before .before .before .before .held .given .1)) (on _ (gap-at-took (c .before .before .before .before .before .before .before .before .before .before .before .before .before .before .before .before .gap .given .1) (c .before .before .before .before .before .before .before .before .before .before .before .before .before .before .before .before .before .before .gap-at .ensures)) (three-go _ _ _ _ (named-took (c .before .before .before .before .before .before .before .before .before .before .before .before .keyword-name .ensures) (c .before .before .before .before .before .before .before .before .before .before .named .given .1) (keyword-name-on _) (c .before .before .before .before .before .before .before .before .before .before .before .before .before .before .rest-at .ensures)) (go _ (read-took (c .before .before .before .before .before .before .before .optional-default .ensures) (c .before .before .before .before .before .optional .given .1) optional-on (c .before .before .before .before .before .before .before .before .rest-at2 .ensures) refl) (pair-fall _ _ _ (c .step-lost2 .result) (c .before .before .before .tag-behind .ensures .at) (skips-lost (c .step-lost2 .ensures) (c .before .enum-told5 .given .1) (c .before .before .before .tag-behind .ensures))))))))
+returns-5 c = attribute-not _ (begin (attribute-instantiation) _ _ (go _ (level-took (c .before .before .before .before .before .before .before .before .before .before .before .before .before .before .before .before .before .before .before .before .before .before .attribute-handling-type .ensures) handling-on (rest-self _ _) (c .before .before .before .before .before .before .before .before .before .before .before .before .before .before .before .before .before .before .before .before .held .given .1)) (on _ (gap-at-took (c .before .before .before .before .before .before .before .before .before .before .before .before .before .before .before .before .gap .given .1) (c .before .before .before .before .before .before .before .before .before .before .before .before .before .before .before .before .before .before .gap-at .ensures)) (three-go _ _ _ _ (named-took (c .before .before .before .before .before .before .before .before .before .before .before .before .keyword-name .ensures) (c .before .before .before .before .before .before .before .before .before .before .named .given .1) (keyword-name-on _) (c .before .before .before .before .before .before .before .before .before .before .before .before .before .before .rest-at .ensures)) (go _ (read-took (c .before .before .before .before .before .before .before .optional-default .ensures) (c .before .before .before .before .before .optional .given .1) optional-on (c .before .before .before .before .before .before .before .before .rest-at2 .ensures) refl) (pair-fall _ _ _ (c .step-lost2 .result) (c .before .before .before .tag-behind .ensures .at) (skips-lost (c .step-lost2 .ensures) (c .before .enum-told5 .given .1) (c .before .before .before .tag-behind .ensures))))))))
 
 returns-6 : tie.Need-returns-6
 unfolding attribute-instantiation
-returns-6 c = read-is refl (begin (attribute-instantiation) _ _ (go _ (level-took (c .before .before .before .before .before .before .before .before .before .before .before .before .before .before .before .before .before .before .before .before .before .before .attribute-handling-type .ensures) handling-on (rest-self _ _) (c .before .before .before .before .before .before .before .before .before .before .before .before .before .before .before .before .before .before .before .before .held .given .1)) (on _ (gap-at-took (c .before .before .before .before .before .before .before .before .before .before .before .before .before .before .before .before .gap .given .1) (c .before .before .before .before .before .before .before .before .before .before .before .before .before .before .before .before .before .before .gap-at .ensures)) (three-go _ _ _ _ (named-took (c .before .before .before .before .before .before .before .before .before .before .before .before .keyword-name .ensures) (c .before .before .before .before .before .before .before .before .before .before .named .given .1) (keyword-name-on _) (c .before .before .before .before .before .before .before .before .before .before .before .before .before .before .rest-at .ensures)) (go _ (read-took (c .before .before .before .before .before .before .before .optional-default .ensures) (c .before .before .before .before .before .optional .given .1) optional-on (c .before .before .before .before .before .before .before .before .rest-at2 .ensures) refl) (pair-on _ _ _ (tag-behind-took 59 (c .before .semicolon .given .1) (c .before .before .before .tag-behind .ensures)) (done _ _ _ _))))))) (let w = named-in (c .before .before .before .before .before .before .before .before .before .before .before .before .keyword-name .ensures) (c .before .before .before .before .before .before .before .before .before .before .named .given .1) in record { small = read-within (c .before .before .before .before .before .before .before .before .before .before .before .before .before .before .before .before .before .before .before .before .before .before .attribute-handling-type .ensures) (c .before .before .before .before .before .before .before .before .before .before .before .before .before .before .before .before .before .before .before .before .held .given .1); named = record { from = omega (arith, w .from, c .before .before .before .before .before .before .before .before .before .before .before .before .before .before .rest-at .ensures .from); up = w .up; inside = omega (arith, w .inside, (read-took (c .before .before .before .before .before .before .before .optional-default .ensures) (c .before .before .before .before .before .optional .given .1) optional-on (c .before .before .before .before .before .before .before .before .rest-at2 .ensures) refl) .up, (tag-behind-took 59 (c .before .semicolon .given .1) (c .before .before .before .tag-behind .ensures)) .up) }; spanned = default-within (c .before .before .before .before .before .optional .given .0 .0) (c .before .before .before .before .before .optional .given .0 .1 .0) (c .before .semicolon .given .0 .0) (read-within (c .before .before .before .before .before .before .before .optional-default .ensures) (c .before .before .before .before .before .optional .given .1)) (omega (arith, (tag-behind-took 59 (c .before .semicolon .given .1) (c .before .before .before .tag-behind .ensures)) .up)) })
+returns-6 c = attribute-is (begin (attribute-instantiation) _ _ (go _ (level-took (c .before .before .before .before .before .before .before .before .before .before .before .before .before .before .before .before .before .before .before .before .before .before .attribute-handling-type .ensures) handling-on (rest-self _ _) (c .before .before .before .before .before .before .before .before .before .before .before .before .before .before .before .before .before .before .before .before .held .given .1)) (on _ (gap-at-took (c .before .before .before .before .before .before .before .before .before .before .before .before .before .before .before .before .gap .given .1) (c .before .before .before .before .before .before .before .before .before .before .before .before .before .before .before .before .before .before .gap-at .ensures)) (three-go _ _ _ _ (named-took (c .before .before .before .before .before .before .before .before .before .before .before .before .keyword-name .ensures) (c .before .before .before .before .before .before .before .before .before .before .named .given .1) (keyword-name-on _) (c .before .before .before .before .before .before .before .before .before .before .before .before .before .before .rest-at .ensures)) (go _ (read-took (c .before .before .before .before .before .before .before .optional-default .ensures) (c .before .before .before .before .before .optional .given .1) optional-on (c .before .before .before .before .before .before .before .before .rest-at2 .ensures) refl) (pair-on _ _ _ (tag-behind-took 59 (c .before .semicolon .given .1) (c .before .before .before .tag-behind .ensures)) (done _ _ _ _))))))) (let w = named-in (c .before .before .before .before .before .before .before .before .before .before .before .before .keyword-name .ensures) (c .before .before .before .before .before .before .before .before .before .before .named .given .1) in record { small = read-within (c .before .before .before .before .before .before .before .before .before .before .before .before .before .before .before .before .before .before .before .before .before .before .attribute-handling-type .ensures) (c .before .before .before .before .before .before .before .before .before .before .before .before .before .before .before .before .before .before .before .before .held .given .1); named = record { from = omega (arith, w .from, c .before .before .before .before .before .before .before .before .before .before .before .before .before .before .rest-at .ensures .from); up = w .up; inside = omega (arith, w .inside, (read-took (c .before .before .before .before .before .before .before .optional-default .ensures) (c .before .before .before .before .before .optional .given .1) optional-on (c .before .before .before .before .before .before .before .before .rest-at2 .ensures) refl) .up, (tag-behind-took 59 (c .before .semicolon .given .1) (c .before .before .before .tag-behind .ensures)) .up) }; spanned = default-within (c .before .before .before .before .before .optional .given .0 .0) (c .before .before .before .before .before .optional .given .0 .1 .0) (c .before .semicolon .given .0 .0) (read-within (c .before .before .before .before .before .before .before .optional-default .ensures) (c .before .before .before .before .before .optional .given .1)) (omega (arith, (tag-behind-took 59 (c .before .semicolon .given .1) (c .before .before .before .tag-behind .ensures)) .up)) })
 
 pub attribute-instantiation-spec : {M : Type 1} → statement M
 attribute-instantiation-spec =

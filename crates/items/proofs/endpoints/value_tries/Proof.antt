@@ -5,9 +5,8 @@ use native.Mathlib.Omega.{arith}
 use Rattle.lexing.proofs.Slicing.{or-here}
 use Rattle.items.specs.endpoints.{value-tries}
 use mathlib.Core.Path.{refl}
-use Rattle.lexing.proofs.AnswerLaws.{read-is, read-not}
 use Rattle.items.proofs.Choice.{or-past, or-stop}
-use Rattle.items.proofs.endpoints.Laws.{number-try, number-stop, number-not, signed-try, signed-not}
+use Rattle.items.proofs.endpoints.Laws.{value-is, value-not, number-try, number-stop, number-not, signed-try, signed-not}
 
 positive-integer-requires : tie.Need-positive-integer-requires
 positive-integer-requires c κs = search needs
@@ -17,7 +16,7 @@ enum-known-number c = c .match .keys1
 
 returns : tie.Need-returns
 unfolding value-tries
-returns c = read-is refl (or-here _ _ _ _ _ _ _ (number-try _ _ (c .before .before .before .positive-integer .ensures) (c .before .number .given .1))) tt
+returns c = value-is value-tries refl (or-here _ _ _ _ _ _ _ (number-try _ _ (c .before .before .before .positive-integer .ensures) (c .before .number .given .1))) tt
 
 enum-told : tie.Need-enum-told
 enum-told c = c .match .keys2
@@ -30,7 +29,7 @@ enum-known-lost c = c .match2 .keys1
 
 returns-2 : tie.Need-returns-2
 unfolding value-tries
-returns-2 c = read-not _ refl tt (or-stop _ _ _ _ _ _ (number-stop _ _ (c .before .before .before .before .before .before .positive-integer .ensures) (c .before .before .before .number-lost .ensures) (c .before .before .before .before .enum-told .given .1) (c .before .lost .given .1)))
+returns-2 c = value-not value-tries _ (or-stop _ _ _ _ _ _ (number-stop _ _ (c .before .before .before .before .before .before .positive-integer .ensures) (c .before .before .before .number-lost .ensures) (c .before .before .before .before .enum-told .given .1) (c .before .lost .given .1)))
 
 enum-told-2 : tie.Need-enum-told-2
 enum-told-2 c = c .match2 .keys2
@@ -43,7 +42,7 @@ enum-known-signed c = c .match3 .keys1
 
 returns-3 : tie.Need-returns-3
 unfolding value-tries
-returns-3 c = read-is refl (or-past _ _ _ _ _ (number-not _ _ (c .before .before .before .before .before .before .before .before .before .positive-integer .ensures) (c .before .before .before .before .before .before .number-lost .ensures) (c .before .before .before .before .before .before .before .enum-told .given .1) (c .before .before .before .before .enum-told2 .given .1)) tt (or-here _ _ _ _ _ _ _ (signed-try _ _ (c .before .before .before .signed-integer .ensures) (c .before .signed .given .1)))) tt
+returns-3 c = value-is value-tries refl (or-past _ _ _ _ _ (number-not _ _ (c .before .before .before .before .before .before .before .before .before .positive-integer .ensures) (c .before .before .before .before .before .before .number-lost .ensures) (c .before .before .before .before .before .before .before .enum-told .given .1) (c .before .before .before .before .enum-told2 .given .1)) tt (or-here _ _ _ _ _ _ _ (signed-try _ _ (c .before .before .before .signed-integer .ensures) (c .before .signed .given .1)))) tt
 
 enum-told-3 : tie.Need-enum-told-3
 enum-told-3 c = c .match3 .keys2

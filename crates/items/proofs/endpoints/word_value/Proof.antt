@@ -8,9 +8,8 @@ use Rattle.lexing.proofs.Slicing.{or-here}
 use Rattle.items.specs.endpoints.{truth, value-tries}
 use Rattle.items.proofs.Keywords.{keyword-value, keyword-not}
 use mathlib.Core.Path.{refl}
-use Rattle.lexing.proofs.AnswerLaws.{read-is, read-not}
 use Rattle.items.proofs.Choice.{or-past}
-use Rattle.items.proofs.endpoints.Laws.{text-try, text-long, text-not, text-past}
+use Rattle.items.proofs.endpoints.Laws.{value-is, value-not, text-try, text-long, text-not, text-past}
 
 slice-aggregate-keyword : tie.Need-slice-aggregate-keyword
 slice-aggregate-keyword c = search needs
@@ -23,7 +22,7 @@ enum-known-yes c = c .match .keys1
 
 returns : tie.Need-returns
 unfolding value-tries
-returns c = read-is refl (or-past _ _ _ _ _ (c .before .before .before .before .before .before .pre .1 .unsigned) tt (or-past _ _ _ _ _ (c .before .before .before .before .before .before .pre .1 .with-sign) tt (or-here _ _ _ _ _ _ _ (keyword-value (ascii "true") (truth true) _ _ _ (c .before .before .before .keyword .ensures) _ (c .before .yes .given .1))))) tt
+returns c = value-is value-tries refl (or-past _ _ _ _ _ (c .before .before .before .before .before .before .pre .1 .unsigned) tt (or-past _ _ _ _ _ (c .before .before .before .before .before .before .pre .1 .with-sign) tt (or-here _ _ _ _ _ _ _ (keyword-value (ascii "true") (truth true) _ _ _ (c .before .before .before .keyword .ensures) _ (c .before .yes .given .1))))) tt
 
 enum-told : tie.Need-enum-told
 enum-told c = c .match .keys2
@@ -39,7 +38,7 @@ enum-known-no c = c .match2 .keys1
 
 returns-2 : tie.Need-returns-2
 unfolding value-tries
-returns-2 c = read-is refl (or-past _ _ _ _ _ (c .before .before .before .before .before .before .before .before .before .before .pre .1 .unsigned) tt (or-past _ _ _ _ _ (c .before .before .before .before .before .before .before .before .before .before .pre .1 .with-sign) tt (or-past _ _ _ _ _ (keyword-not (ascii "true") (truth true) _ _ _ (c .before .before .before .before .before .before .before .keyword .ensures) _ (c .before .before .before .before .before .enum-told .given .1)) tt (or-here _ _ _ _ _ _ _ (keyword-value (ascii "false") (truth false) _ _ _ (c .before .before .before .keyword2 .ensures) _ (c .before .no .given .1)))))) tt
+returns-2 c = value-is value-tries refl (or-past _ _ _ _ _ (c .before .before .before .before .before .before .before .before .before .before .pre .1 .unsigned) tt (or-past _ _ _ _ _ (c .before .before .before .before .before .before .before .before .before .before .pre .1 .with-sign) tt (or-past _ _ _ _ _ (keyword-not (ascii "true") (truth true) _ _ _ (c .before .before .before .before .before .before .before .keyword .ensures) _ (c .before .before .before .before .before .enum-told .given .1)) tt (or-here _ _ _ _ _ _ _ (keyword-value (ascii "false") (truth false) _ _ _ (c .before .before .before .keyword2 .ensures) _ (c .before .no .given .1)))))) tt
 
 enum-told-2 : tie.Need-enum-told-2
 enum-told-2 c = c .match2 .keys2
@@ -58,7 +57,7 @@ step-lost-requires c κs = tt
 
 returns-3 : tie.Need-returns-3
 unfolding value-tries
-returns-3 c = read-not _ refl tt (or-past _ _ _ _ _ (c .before .before .before .before .before .before .before .before .before .before .before .before .before .pre .1 .unsigned) (text-past _ _ (c .before .before .before .default-string .ensures) (c .step-lost .ensures) (c .before .enum-told3 .given .1)) (or-past _ _ _ _ _ (c .before .before .before .before .before .before .before .before .before .before .before .before .before .pre .1 .with-sign) (text-past _ _ (c .before .before .before .default-string .ensures) (c .step-lost .ensures) (c .before .enum-told3 .given .1)) (or-past _ _ _ _ _ (keyword-not (ascii "true") (truth true) _ _ _ (c .before .before .before .before .before .before .before .before .before .before .keyword .ensures) _ (c .before .before .before .before .before .before .before .before .enum-told .given .1)) (text-past _ _ (c .before .before .before .default-string .ensures) (c .step-lost .ensures) (c .before .enum-told3 .given .1)) (or-past _ _ _ _ _ (keyword-not (ascii "false") (truth false) _ _ _ (c .before .before .before .before .before .before .keyword2 .ensures) _ (c .before .before .before .before .enum-told2 .given .1)) (text-past _ _ (c .before .before .before .default-string .ensures) (c .step-lost .ensures) (c .before .enum-told3 .given .1)) (text-not _ _ (c .before .before .before .default-string .ensures) (c .step-lost .ensures) (c .before .enum-told3 .given .1))))))
+returns-3 c = value-not value-tries _ (or-past _ _ _ _ _ (c .before .before .before .before .before .before .before .before .before .before .before .before .before .pre .1 .unsigned) (text-past _ _ (c .before .before .before .default-string .ensures) (c .step-lost .ensures) (c .before .enum-told3 .given .1)) (or-past _ _ _ _ _ (c .before .before .before .before .before .before .before .before .before .before .before .before .before .pre .1 .with-sign) (text-past _ _ (c .before .before .before .default-string .ensures) (c .step-lost .ensures) (c .before .enum-told3 .given .1)) (or-past _ _ _ _ _ (keyword-not (ascii "true") (truth true) _ _ _ (c .before .before .before .before .before .before .before .before .before .before .keyword .ensures) _ (c .before .before .before .before .before .before .before .before .enum-told .given .1)) (text-past _ _ (c .before .before .before .default-string .ensures) (c .step-lost .ensures) (c .before .enum-told3 .given .1)) (or-past _ _ _ _ _ (keyword-not (ascii "false") (truth false) _ _ _ (c .before .before .before .before .before .before .keyword2 .ensures) _ (c .before .before .before .before .enum-told2 .given .1)) (text-past _ _ (c .before .before .before .default-string .ensures) (c .step-lost .ensures) (c .before .enum-told3 .given .1)) (text-not _ _ (c .before .before .before .default-string .ensures) (c .step-lost .ensures) (c .before .enum-told3 .given .1))))))
 
 add-start : tie.Need-add-start
 add-start c = omega (arith, c .before .before .before .before .before .before .before .before .before .before .before .before .before .pre)
@@ -71,7 +70,7 @@ sub-length-2 c = omega (arith, (text-long _ _ (c .before .before .before .defaul
 
 returns-4 : tie.Need-returns-4
 unfolding value-tries
-returns-4 c = read-is refl (or-past _ _ _ _ _ (c .before .before .before .before .before .before .before .before .before .before .before .before .before .pre .1 .unsigned) tt (or-past _ _ _ _ _ (c .before .before .before .before .before .before .before .before .before .before .before .before .before .pre .1 .with-sign) tt (or-past _ _ _ _ _ (keyword-not (ascii "true") (truth true) _ _ _ (c .before .before .before .before .before .before .before .before .before .before .keyword .ensures) _ (c .before .before .before .before .before .before .before .before .enum-told .given .1)) tt (or-past _ _ _ _ _ (keyword-not (ascii "false") (truth false) _ _ _ (c .before .before .before .before .before .before .keyword2 .ensures) _ (c .before .before .before .before .enum-told2 .given .1)) tt (text-try _ _ (c .before .before .before .default-string .ensures) (c .before .string .given .1)))))) (omega (arith, (text-long _ _ (c .before .before .before .default-string .ensures) (c .before .string .given .1))))
+returns-4 c = value-is value-tries refl (or-past _ _ _ _ _ (c .before .before .before .before .before .before .before .before .before .before .before .before .before .pre .1 .unsigned) tt (or-past _ _ _ _ _ (c .before .before .before .before .before .before .before .before .before .before .before .before .before .pre .1 .with-sign) tt (or-past _ _ _ _ _ (keyword-not (ascii "true") (truth true) _ _ _ (c .before .before .before .before .before .before .before .before .before .before .keyword .ensures) _ (c .before .before .before .before .before .before .before .before .enum-told .given .1)) tt (or-past _ _ _ _ _ (keyword-not (ascii "false") (truth false) _ _ _ (c .before .before .before .before .before .before .keyword2 .ensures) _ (c .before .before .before .before .enum-told2 .given .1)) tt (text-try _ _ (c .before .before .before .default-string .ensures) (c .before .string .given .1)))))) (omega (arith, (text-long _ _ (c .before .before .before .default-string .ensures) (c .before .string .given .1))))
 
 pub word-value-spec : {M : Type 1} → statement M
 word-value-spec =

@@ -1,129 +1,89 @@
-use borrow.Author.Needs.{needs}
 use Rattle.items.proofs.members.access_to.Statement.{statement}
 use Rattle.items.proofs.members.access_to.Tie as tie
+use Rattle.lexing.specs.reply.{_>>_}
+use Rattle.lexing.specs.blanks.{whitespace0}
 use Rattle.items.specs.members.{access-to}
-use Rattle.items.proofs.Locality.{access-privilege-local}
-use Rattle.items.proofs.members.Laws.{level-small, level-took, level-lost}
-use mathlib.Core.Path.{refl}
+use Rattle.items.proofs.members.Laws.{level-small, level-at-none, skip-none, skips-none, four-fall, privilege-none, privilege-is, level-at-took, opening-on, colon-on, four-on}
 use native.Mathlib.Omega.{arith}
-use Rattle.lexing.specs.bytes.{ascii}
-use Rattle.lexing.specs.answers.{wordAt}
-use Rattle.lexing.proofs.Slicing.{walks, rest-self, begin, go, on, lose, fall, done, keyword-took, tag-took, step-lost}
-use Rattle.lexing.proofs.AnswerLaws.{read-is, read-not}
-use Rattle.lexing.proofs.Pairs.{pair-on, pair-fall}
-use Rattle.lexing.proofs.steps.Laws.{blank-at-took, tag-behind-took, keyword-behind-took, skips-lost}
+use Rattle.lexing.proofs.Slicing.{rest-self, begin, done}
+use Rattle.lexing.proofs.Pairs.{pair-on, pair-fall, three-go, three-lose}
+use Rattle.lexing.proofs.steps.Laws.{tag-behind-took, keyword-behind-took}
+use Rattle.lexing.proofs.optional.Laws.{skip-took}
 
-slice-aggregate-keyword : tie.Need-slice-aggregate-keyword
-slice-aggregate-keyword c = search needs
+access-opening-requires : tie.Need-access-opening-requires
+access-opening-requires c κs = c .before .before .pre .0
 
-keyword-requires : tie.Need-keyword-requires
-keyword-requires c κs = search needs
-
-enum-known-access : tie.Need-enum-known-access
-enum-known-access c = c .match .keys1
+enum-known-opening : tie.Need-enum-known-opening
+enum-known-opening c = c .match .keys1
 
 enum-told : tie.Need-enum-told
 enum-told c = c .match .keys2
 
-step-lost-requires : tie.Need-step-lost-requires
-step-lost-requires c κs = tt
-
 returns : tie.Need-returns
 unfolding access-to
-returns c = read-not _ refl tt (begin (access-to (c .before .before .before .before .before .before .before .args .key .now)) _ _ (fall _ _ (c .step-lost .result) (rest-self _ _) (step-lost (wordAt _ _) (c .step-lost .ensures) (c .before .enum-told .given .1) _ _ _ (c .before .before .before .keyword .ensures))))
+returns c = privilege-none (c .before .before .before .before .before .args .key .now) (c .before .before .before .before .before .args .otherwise) (c .enum-told .given .0 .0) (c .before .before .before .before .before .pre .1) (begin (whitespace0 >> access-to (c .before .before .before .before .before .args .key .now)) _ _ (four-fall _ _ _ _ _ (c .enum-told .given .0 .0) (rest-self _ _) (skip-none (c .enum-told .given .1) (c .before .before .access-opening .ensures))))
 
-tag-behind-requires : tie.Need-tag-behind-requires
-tag-behind-requires c κs = let t = keyword-took (rest-self _ _) (c .before .access .given .1) (ascii "access") (c .before .before .before .keyword .ensures) in omega (arith, t .up, t .inside, c .before .before .before .before .before .before .before .pre)
+keyword-behind-requires : tie.Need-keyword-behind-requires
+keyword-behind-requires c κs = let t = skip-took opening-on (rest-self _ _) (c .before .opening .given .1) (c .before .before .before .access-opening .ensures) in omega (arith, t .up, t .inside, c .before .before .before .before .before .before .pre)
 
-enum-known-opening : tie.Need-enum-known-opening
-enum-known-opening c = c .match2 .keys1
+enum-known-operation : tie.Need-enum-known-operation
+enum-known-operation c = c .match2 .keys1
 
 enum-told-2 : tie.Need-enum-told-2
 enum-told-2 c = c .match2 .keys2
 
-step-lost-requires-2 : tie.Need-step-lost-requires-2
-step-lost-requires-2 c κs = tt
-
 returns-2 : tie.Need-returns-2
 unfolding access-to
-returns-2 c = read-not _ refl tt (begin (access-to (c .before .before .before .before .before .before .before .before .before .before .before .args .key .now)) _ _ (on _ (keyword-took (rest-self _ _) (c .before .before .before .before .before .access .given .1) (ascii "access") (c .before .before .before .before .before .before .before .keyword .ensures)) (pair-fall _ _ _ (c .step-lost2 .result) (c .before .before .before .tag-behind .ensures .at) (skips-lost (c .step-lost2 .ensures) (c .before .enum-told2 .given .1) (c .before .before .before .tag-behind .ensures)))))
+returns-2 c = privilege-none (c .before .before .before .before .before .before .before .before .before .args .key .now) (c .before .before .before .before .before .before .before .before .before .args .otherwise) (c .enum-told2 .given .0 .0) (c .before .before .before .before .before .before .before .before .before .pre .1) (begin (whitespace0 >> access-to (c .before .before .before .before .before .before .before .before .before .args .key .now)) _ _ (four-on _ _ _ _ _ (skip-took opening-on (rest-self _ _) (c .before .before .before .before .opening .given .1) (c .before .before .before .before .before .before .access-opening .ensures)) (pair-fall _ _ _ (c .enum-told2 .given .0 .0) (c .before .before .keyword-behind .ensures .at) (skips-none (c .enum-told2 .given .1) (c .before .before .keyword-behind .ensures)))))
 
-keyword-behind-requires : tie.Need-keyword-behind-requires
-keyword-behind-requires c κs = let t = tag-behind-took 40 (c .before .opening .given .1) (c .before .before .before .tag-behind .ensures) in omega (arith, t .up, t .inside, c .before .before .before .tag-behind .ensures .at .from, c .before .before .before .before .before .before .before .before .before .before .before .pre)
+colon-privilege-requires : tie.Need-colon-privilege-requires
+colon-privilege-requires c κs = let t = keyword-behind-took _ (c .before .operation .given .1) (c .before .before .before .keyword-behind .ensures) in omega (arith, t .up, t .inside, c .before .before .before .keyword-behind .ensures .at .from, c .before .before .before .before .before .before .before .before .before .before .pre)
 
-enum-known-operation : tie.Need-enum-known-operation
-enum-known-operation c = c .match3 .keys1
+enum-known-granted : tie.Need-enum-known-granted
+enum-known-granted c = c .match3 .keys1
 
 enum-told-3 : tie.Need-enum-told-3
 enum-told-3 c = c .match3 .keys2
 
-step-lost-requires-3 : tie.Need-step-lost-requires-3
-step-lost-requires-3 c κs = tt
-
 returns-3 : tie.Need-returns-3
 unfolding access-to
-returns-3 c = read-not _ refl tt (begin (access-to (c .before .before .before .before .before .before .before .before .before .before .before .before .before .before .before .args .key .now)) _ _ (on _ (keyword-took (rest-self _ _) (c .before .before .before .before .before .before .before .before .before .access .given .1) (ascii "access") (c .before .before .before .before .before .before .before .before .before .before .before .keyword .ensures)) (pair-on _ _ _ (tag-behind-took 40 (c .before .before .before .before .before .opening .given .1) (c .before .before .before .before .before .before .before .tag-behind .ensures)) (pair-fall _ _ _ (c .step-lost3 .result) (c .before .before .before .keyword-behind .ensures .at) (skips-lost (c .step-lost3 .ensures) (c .before .enum-told3 .given .1) (c .before .before .before .keyword-behind .ensures))))))
+returns-3 c = privilege-none (c .before .before .before .before .before .before .before .before .before .before .before .before .before .args .key .now) (c .before .before .before .before .before .before .before .before .before .before .before .before .before .args .otherwise) (c .enum-told3 .given .0 .0) (c .before .before .before .before .before .before .before .before .before .before .before .before .before .pre .1) (begin (whitespace0 >> access-to (c .before .before .before .before .before .before .before .before .before .before .before .before .before .args .key .now)) _ _ (four-on _ _ _ _ _ (skip-took opening-on (rest-self _ _) (c .before .before .before .before .before .before .before .before .opening .given .1) (c .before .before .before .before .before .before .before .before .before .before .access-opening .ensures)) (pair-on _ _ _ (keyword-behind-took _ (c .before .before .before .before .operation .given .1) (c .before .before .before .before .before .before .keyword-behind .ensures)) (three-lose _ _ _ _ (c .enum-told3 .given .0 .0) (c .before .before .colon-privilege .ensures .at) (level-at-none (c .before .before .colon-privilege .ensures) (c .enum-told3 .given .1))))))
 
-rest-at-requires : tie.Need-rest-at-requires
-rest-at-requires c κs = let t = keyword-behind-took _ (c .before .operation .given .1) (c .before .before .before .keyword-behind .ensures) in omega (arith, t .up, t .inside, c .before .before .before .keyword-behind .ensures .at .from)
+tag-behind-requires : tie.Need-tag-behind-requires
+tag-behind-requires c κs = let t = level-at-took (c .before .before .before .colon-privilege .ensures) colon-on (c .before .granted .given .1) in omega (arith, t .up, t .inside, c .before .before .before .colon-privilege .ensures .at .from, c .before .before .before .before .before .before .before .before .before .before .before .before .before .before .pre)
 
-tag-requires : tie.Need-tag-requires
-tag-requires c κs = omega (arith, c .rest-at .ensures .size, c .before .before .before .before .before .before .before .before .before .before .before .before .before .before .before .before .pre)
-
-enum-known-colon : tie.Need-enum-known-colon
-enum-known-colon c = c .match4 .keys1
+enum-known-closing : tie.Need-enum-known-closing
+enum-known-closing c = c .match4 .keys1
 
 enum-told-4 : tie.Need-enum-told-4
 enum-told-4 c = c .match4 .keys2
 
-step-lost-requires-4 : tie.Need-step-lost-requires-4
-step-lost-requires-4 c κs = tt
-
 returns-4 : tie.Need-returns-4
 unfolding access-to
-returns-4 c = read-not _ refl tt (begin (access-to (c .before .before .before .before .before .before .before .before .before .before .before .before .before .before .before .before .before .before .before .before .args .key .now)) _ _ (on _ (keyword-took (rest-self _ _) (c .before .before .before .before .before .before .before .before .before .before .before .before .before .before .access .given .1) (ascii "access") (c .before .before .before .before .before .before .before .before .before .before .before .before .before .before .before .before .keyword .ensures)) (pair-on _ _ _ (tag-behind-took 40 (c .before .before .before .before .before .before .before .before .before .before .opening .given .1) (c .before .before .before .before .before .before .before .before .before .before .before .before .tag-behind .ensures)) (pair-on _ _ _ (keyword-behind-took _ (c .before .before .before .before .before .before .operation .given .1) (c .before .before .before .before .before .before .before .before .keyword-behind .ensures)) (fall _ _ (c .step-lost4 .result) (c .before .before .before .before .rest-at .ensures) (step-lost (λ c. tt) (c .step-lost4 .ensures) (c .before .enum-told4 .given .1) _ _ _ (c .before .before .before .tag .ensures)))))))
-
-blank-at-requires : tie.Need-blank-at-requires
-blank-at-requires c κs = let t = tag-took (c .before .before .before .before .rest-at .ensures) (c .before .colon .given .1) 58 (c .before .before .before .tag .ensures) in omega (arith, t .up, t .inside, c .before .before .before .before .rest-at .ensures .from, c .before .before .before .before .before .before .before .before .before .before .before .before .before .before .before .before .before .before .before .before .pre)
-
-rest-at-requires-2 : tie.Need-rest-at-requires-2
-rest-at-requires-2 c κs = let t = blank-at-took (c .blank-at .ensures) in omega (arith, t .up, t .inside, c .blank-at .ensures .at .from)
-
-access-privilege-requires : tie.Need-access-privilege-requires
-access-privilege-requires c κs = omega (arith, c .rest-at2 .ensures .size, c .before .before .before .before .before .before .before .before .before .before .before .before .before .before .before .before .before .before .before .before .before .before .pre)
-
-enum-known-granted : tie.Need-enum-known-granted
-enum-known-granted c = c .match5 .keys1
-
-enum-told-5 : tie.Need-enum-told-5
-enum-told-5 c = c .match5 .keys2
-
-level-lost-requires : tie.Need-level-lost-requires
-level-lost-requires c κs = tt
+returns-4 c = privilege-none (c .before .before .before .before .before .before .before .before .before .before .before .before .before .before .before .before .before .args .key .now) (c .before .before .before .before .before .before .before .before .before .before .before .before .before .before .before .before .before .args .otherwise) (c .enum-told4 .given .0 .0) (c .before .before .before .before .before .before .before .before .before .before .before .before .before .before .before .before .before .pre .1) (begin (whitespace0 >> access-to (c .before .before .before .before .before .before .before .before .before .before .before .before .before .before .before .before .before .args .key .now)) _ _ (four-on _ _ _ _ _ (skip-took opening-on (rest-self _ _) (c .before .before .before .before .before .before .before .before .before .before .before .before .opening .given .1) (c .before .before .before .before .before .before .before .before .before .before .before .before .before .before .access-opening .ensures)) (pair-on _ _ _ (keyword-behind-took _ (c .before .before .before .before .before .before .before .before .operation .given .1) (c .before .before .before .before .before .before .before .before .before .before .keyword-behind .ensures)) (three-go _ _ _ _ (level-at-took (c .before .before .before .before .before .before .colon-privilege .ensures) colon-on (c .before .before .before .before .granted .given .1)) (pair-fall _ _ _ (c .enum-told4 .given .0 .0) (c .before .before .tag-behind .ensures .at) (skips-none (c .enum-told4 .given .1) (c .before .before .tag-behind .ensures)))))))
 
 returns-5 : tie.Need-returns-5
 unfolding access-to
-returns-5 c = read-not _ refl tt (begin (access-to (c .before .before .before .before .before .before .before .before .before .before .before .before .before .before .before .before .before .before .before .before .before .before .before .before .before .before .args .key .now)) _ _ (on _ (keyword-took (rest-self _ _) (c .before .before .before .before .before .before .before .before .before .before .before .before .before .before .before .before .before .before .before .before .access .given .1) (ascii "access") (c .before .before .before .before .before .before .before .before .before .before .before .before .before .before .before .before .before .before .before .before .before .before .keyword .ensures)) (pair-on _ _ _ (tag-behind-took 40 (c .before .before .before .before .before .before .before .before .before .before .before .before .before .before .before .before .opening .given .1) (c .before .before .before .before .before .before .before .before .before .before .before .before .before .before .before .before .before .before .tag-behind .ensures)) (pair-on _ _ _ (keyword-behind-took _ (c .before .before .before .before .before .before .before .before .before .before .before .before .operation .given .1) (c .before .before .before .before .before .before .before .before .before .before .before .before .before .before .keyword-behind .ensures)) (on _ (tag-took (c .before .before .before .before .before .before .before .before .before .before .rest-at .ensures) (c .before .before .before .before .before .before .before .colon .given .1) 58 (c .before .before .before .before .before .before .before .before .before .tag .ensures)) (on _ (blank-at-took (c .before .before .before .before .before .blank-at .ensures)) (lose _ _ (c .level-lost .result) (c .before .before .before .before .rest-at2 .ensures) (level-lost (c .before .before .before .access-privilege .ensures) (c .level-lost .ensures) (c .before .enum-told5 .given .1)))))))))
-
-tag-behind-requires-2 : tie.Need-tag-behind-requires-2
-tag-behind-requires-2 c κs = let t = level-took (c .before .before .before .access-privilege .ensures) (walks (access-privilege-local .on-chain)) (c .before .before .before .before .rest-at2 .ensures) (c .before .granted .given .1) in omega (arith, t .up, t .inside, c .before .before .before .before .rest-at2 .ensures .from, c .before .before .before .before .before .before .before .before .before .before .before .before .before .before .before .before .before .before .before .before .before .before .before .before .before .before .pre)
-
-enum-known-closing : tie.Need-enum-known-closing
-enum-known-closing c = c .match6 .keys1
-
-enum-told-6 : tie.Need-enum-told-6
-enum-told-6 c = c .match6 .keys2
-
-step-lost-requires-5 : tie.Need-step-lost-requires-5
-step-lost-requires-5 c κs = tt
-
-returns-6 : tie.Need-returns-6
-unfolding access-to
-returns-6 c = read-not _ refl tt (begin (access-to (c .before .before .before .before .before .before .before .before .before .before .before .before .before .before .before .before .before .before .before .before .before .before .before .before .before .before .before .before .before .before .args .key .now)) _ _ (on _ (keyword-took (rest-self _ _) (c .before .before .before .before .before .before .before .before .before .before .before .before .before .before .before .before .before .before .before .before .before .before .before .before .access .given .1) (ascii "access") (c .before .before .before .before .before .before .before .before .before .before .before .before .before .before .before .before .before .before .before .before .before .before .before .before .before .before .keyword .ensures)) (pair-on _ _ _ (tag-behind-took 40 (c .before .before .before .before .before .before .before .before .before .before .before .before .before .before .before .before .before .before .before .before .opening .given .1) (c .before .before .before .before .before .before .before .before .before .before .before .before .before .before .before .before .before .before .before .before .before .before .tag-behind .ensures)) (pair-on _ _ _ (keyword-behind-took _ (c .before .before .before .before .before .before .before .before .before .before .before .before .before .before .before .before .operation .given .1) (c .before .before .before .before .before .before .before .before .before .before .before .before .before .before .before .before .before .before .keyword-behind .ensures)) (on _ (tag-took (c .before .before .before .before .before .before .before .before .before .before .before .before .before .before .rest-at .ensures) (c .before .before .before .before .before .before .before .before .before .before .before .colon .given .1) 58 (c .before .before .before .before .before .before .before .before .before .before .before .before .before .tag .ensures)) (on _ (blank-at-took (c .before .before .before .before .before .before .before .before .before .blank-at .ensures)) (go _ (level-took (c .before .before .before .before .before .before .before .access-privilege .ensures) (walks (access-privilege-local .on-chain)) (c .before .before .before .before .before .before .before .before .rest-at2 .ensures) (c .before .before .before .before .before .granted .given .1)) (pair-fall _ _ _ (c .step-lost5 .result) (c .before .before .before .tag-behind2 .ensures .at) (skips-lost (c .step-lost5 .ensures) (c .before .enum-told6 .given .1) (c .before .before .before .tag-behind2 .ensures))))))))))
-
-returns-7 : tie.Need-returns-7
-unfolding access-to
-returns-7 c = read-is refl (begin (access-to (c .before .before .before .before .before .before .before .before .before .before .before .before .before .before .before .before .before .before .before .before .before .before .before .before .before .before .before .before .before .before .args .key .now)) _ _ (on _ (keyword-took (rest-self _ _) (c .before .before .before .before .before .before .before .before .before .before .before .before .before .before .before .before .before .before .before .before .before .before .before .before .access .given .1) (ascii "access") (c .before .before .before .before .before .before .before .before .before .before .before .before .before .before .before .before .before .before .before .before .before .before .before .before .before .before .keyword .ensures)) (pair-on _ _ _ (tag-behind-took 40 (c .before .before .before .before .before .before .before .before .before .before .before .before .before .before .before .before .before .before .before .before .opening .given .1) (c .before .before .before .before .before .before .before .before .before .before .before .before .before .before .before .before .before .before .before .before .before .before .tag-behind .ensures)) (pair-on _ _ _ (keyword-behind-took _ (c .before .before .before .before .before .before .before .before .before .before .before .before .before .before .before .before .operation .given .1) (c .before .before .before .before .before .before .before .before .before .before .before .before .before .before .before .before .before .before .keyword-behind .ensures)) (on _ (tag-took (c .before .before .before .before .before .before .before .before .before .before .before .before .before .before .rest-at .ensures) (c .before .before .before .before .before .before .before .before .before .before .before .colon .given .1) 58 (c .before .before .before .before .before .before .before .before .before .before .before .before .before .tag .ensures)) (on _ (blank-at-took (c .before .before .before .before .before .before .before .before .before .blank-at .ensures)) (go _ (level-took (c .before .before .before .before .before .before .before .access-privilege .ensures) (walks (access-privilege-local .on-chain)) (c .before .before .before .before .before .before .before .before .rest-at2 .ensures) (c .before .before .before .before .before .granted .given .1)) (pair-on _ _ _ (tag-behind-took 41 (c .before .closing .given .1) (c .before .before .before .tag-behind2 .ensures)) (done _ _ _ _))))))))) (level-small (c .before .before .before .before .before .before .before .access-privilege .ensures) (c .before .before .before .before .before .granted .given .1))
+returns-5 c = privilege-is (c .before .before .before .before .before .before .before .before .before .before .before .before .before .before .before .before .before .before .args .key .now) (c .before .before .before .before .before .before .before .before .before .before .before .before .before .before .before .before .before .before .args .otherwise) (level-small (c .before .before .before .before .before .before .before .colon-privilege .ensures .to) (c .before .before .before .before .before .granted .given .1)) (begin (whitespace0 >> access-to (c .before .before .before .before .before .before .before .before .before .before .before .before .before .before .before .before .before .before .args .key .now)) _ _ (four-on _ _ _ _ _ (skip-took opening-on (rest-self _ _) (c .before .before .before .before .before .before .before .before .before .before .before .before .before .opening .given .1) (c .before .before .before .before .before .before .before .before .before .before .before .before .before .before .before .access-opening .ensures)) (pair-on _ _ _ (keyword-behind-took _ (c .before .before .before .before .before .before .before .before .before .operation .given .1) (c .before .before .before .before .before .before .before .before .before .before .before .keyword-behind .ensures)) (three-go _ _ _ _ (level-at-took (c .before .before .before .before .before .before .before .colon-privilege .ensures) colon-on (c .before .before .before .before .before .granted .given .1)) (pair-on _ _ _ (tag-behind-took 41 (c .before .closing .given .1) (c .before .before .before .tag-behind .ensures)) (done _ _ _ _))))))
 
 pub access-to-spec : {M : Type 1} → statement M
-access-to-spec = tie.close (tie.spec slice-aggregate-keyword keyword-requires enum-known-access enum-told step-lost-requires returns tag-behind-requires enum-known-opening enum-told-2 step-lost-requires-2 returns-2 keyword-behind-requires enum-known-operation enum-told-3 step-lost-requires-3 returns-3 rest-at-requires tag-requires enum-known-colon enum-told-4 step-lost-requires-4 returns-4 blank-at-requires rest-at-requires-2 access-privilege-requires enum-known-granted enum-told-5 level-lost-requires returns-5 tag-behind-requires-2 enum-known-closing enum-told-6 step-lost-requires-5 returns-6 returns-7)
+access-to-spec =
+    tie.close
+    (tie.spec
+    access-opening-requires
+    enum-known-opening
+    enum-told
+    returns
+    keyword-behind-requires
+    enum-known-operation
+    enum-told-2
+    returns-2
+    colon-privilege-requires
+    enum-known-granted
+    enum-told-3
+    returns-3
+    tag-behind-requires
+    enum-known-closing
+    enum-told-4
+    returns-4
+    returns-5)

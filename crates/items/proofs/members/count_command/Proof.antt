@@ -1,11 +1,7 @@
 use borrow.Author.Needs.{needs}
 use Rattle.items.proofs.members.count_command.Statement.{statement}
 use Rattle.items.proofs.members.count_command.Tie as tie
-use mathlib.Core.Path.{refl}
-use Rattle.items.specs.answers.members.{commandLost}
-use Rattle.lexing.proofs.AnswerLaws.{read-lost}
-use Rattle.items.proofs.counts.Laws.{count-not}
-use Rattle.items.proofs.members.Laws.{command-counted}
+use Rattle.items.proofs.members.Laws.{command-lost, command-counted}
 
 parse-command-after-doc-maturity-requires : tie.Need-parse-command-after-doc-maturity-requires
 parse-command-after-doc-maturity-requires c κs = search needs
@@ -13,17 +9,14 @@ parse-command-after-doc-maturity-requires c κs = search needs
 enum-known-r : tie.Need-enum-known-r
 enum-known-r c = c .match .keys1
 
-enum-told : tie.Need-enum-told
-enum-told c = c .match .keys2
-
-command-lost-requires : tie.Need-command-lost-requires
-command-lost-requires c κs = tt
+enum-known-r-2 : tie.Need-enum-known-r-2
+enum-known-r-2 c = c .match .keys2
 
 returns : tie.Need-returns
-returns c = count-not _ _ _ _ (c .command-lost .result) (read-lost (c .before .before .before .parse-command-after-doc-maturity .ensures) (c .before .enum-told .given .1) commandLost (c .command-lost .ensures) refl)
+returns c = command-counted (c .before .before .before .parse-command-after-doc-maturity .ensures) (c .before .r .given .1)
 
 returns-2 : tie.Need-returns-2
-returns-2 c = command-counted (c .before .before .before .before .before .args .doc) (c .before .before .before .before .before .args .maturity) (c .before .before .before .parse-command-after-doc-maturity .ensures) (c .before .r .given .1)
+returns-2 c = command-lost (c .before .before .before .parse-command-after-doc-maturity .ensures) (c .before .r2 .given .1)
 
 pub count-command-spec : {M : Type 1} → statement M
 count-command-spec =
@@ -31,7 +24,6 @@ count-command-spec =
     (tie.spec
     parse-command-after-doc-maturity-requires
     enum-known-r
-    enum-told
-    command-lost-requires
+    enum-known-r-2
     returns
     returns-2)

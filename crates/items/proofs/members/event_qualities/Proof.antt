@@ -1,18 +1,17 @@
 use borrow.Author.Needs.{needs}
 use Rattle.items.proofs.members.event_qualities.Statement.{statement}
 use Rattle.items.proofs.members.event_qualities.Tie as tie
-use Rattle.items.specs.members.{or-else, event-qualities}
-use Rattle.items.specs.inner.members.{event-access}
-use Rattle.items.proofs.Mapped.{read-as, lost-as}
+use Rattle.items.specs.members.{event-qualities}
 use Rattle.items.proofs.SetSizes.{fits}
-use Rattle.items.proofs.members.Laws.{event-access-on, level-small, event-qualities-is, level-took, level-lost}
+use Rattle.items.proofs.members.Laws.{level-small, event-qualities-is, level-took, level-lost, three-on, three-fall, event-word-on, event-access-took}
 use mathlib.Core.Path.{refl}
 use native.Mathlib.Omega.{arith}
+use Rattle.lexing.specs.bytes.{ascii}
 use Rattle.lexing.proofs.Slicing.{walks, rest-self, begin, go, on, lose, done, set-took}
 use Rattle.lexing.proofs.AnswerLaws.{read-not}
-use Rattle.lexing.proofs.Pairs.{four-go, four-lose}
 use Rattle.items.proofs.Locality.{event-priority-local}
-use Rattle.lexing.proofs.steps.Laws.{blank-at-took}
+use Rattle.lexing.proofs.steps.Laws.{blank-at-took, skips-lost}
+use Rattle.lexing.proofs.optional.Laws.{skip-took}
 
 keywords-set-requires : tie.Need-keywords-set-requires
 keywords-set-requires c κs = search needs
@@ -39,28 +38,34 @@ returns : tie.Need-returns
 unfolding event-qualities
 returns c = read-not _ refl tt (begin (event-qualities) _ _ (go _ (set-took (rest-self _ _) (c .before .before .before .before .before .before .keywords-set .ensures)) (on _ (blank-at-took (c .before .before .before .before .before .blank-at .ensures)) (lose _ _ (c .level-lost .result) (c .before .before .before .before .rest-at .ensures) (level-lost (c .before .before .before .event-priority .ensures) (c .level-lost .ensures) (c .before .enum-told .given .1))))))
 
-rest-at-requires-2 : tie.Need-rest-at-requires-2
-rest-at-requires-2 c κs = let t = level-took (c .before .before .before .event-priority .ensures) (walks (event-priority-local .on-chain)) (c .before .before .before .before .rest-at .ensures) (c .before .priority .given .1) in omega (arith, t .up, t .inside, c .before .before .before .before .rest-at .ensures .from)
+event-word-requires : tie.Need-event-word-requires
+event-word-requires c κs = let t = level-took (c .before .before .before .event-priority .ensures) (walks (event-priority-local .on-chain)) (c .before .before .before .before .rest-at .ensures) (c .before .priority .given .1) in omega (arith, t .up, t .inside, c .before .before .before .before .rest-at .ensures .from, c .before .before .before .before .before .before .before .before .pre)
 
-event-access-requires : tie.Need-event-access-requires
-event-access-requires c κs = omega (arith, c .rest-at2 .ensures .size, c .before .before .before .before .before .before .before .before .before .pre)
-
-enum-known-access : tie.Need-enum-known-access
-enum-known-access c = c .match2 .keys1
+enum-known-event : tie.Need-enum-known-event
+enum-known-event c = c .match2 .keys1
 
 enum-told-2 : tie.Need-enum-told-2
 enum-told-2 c = c .match2 .keys2
 
-level-lost-requires-2 : tie.Need-level-lost-requires-2
-level-lost-requires-2 c κs = tt
+step-lost-requires : tie.Need-step-lost-requires
+step-lost-requires c κs = tt
 
 returns-2 : tie.Need-returns-2
 unfolding event-qualities
-returns-2 c = read-not _ refl tt (begin (event-qualities) _ _ (go _ (set-took (rest-self _ _) (c .before .before .before .before .before .before .before .before .before .before .before .keywords-set .ensures)) (on _ (blank-at-took (c .before .before .before .before .before .before .before .before .before .before .blank-at .ensures)) (go _ (level-took (c .before .before .before .before .before .before .before .before .event-priority .ensures) (walks (event-priority-local .on-chain)) (c .before .before .before .before .before .before .before .before .before .rest-at .ensures) (c .before .before .before .before .before .before .priority .given .1)) (four-lose _ _ _ _ _ (c .level-lost2 .result) (c .before .before .before .before .rest-at2 .ensures) (lost-as (or-else 0) event-access _ _ (c .level-lost2 .result) (level-lost (c .before .before .before .event-access .ensures) (c .level-lost2 .ensures) (c .before .enum-told2 .given .1))))))))
+returns-2 c = read-not _ refl tt (begin (event-qualities) _ _ (go _ (set-took (rest-self _ _) (c .before .before .before .before .before .before .before .before .before .before .keywords-set .ensures)) (on _ (blank-at-took (c .before .before .before .before .before .before .before .before .before .blank-at .ensures)) (go _ (level-took (c .before .before .before .before .before .before .before .event-priority .ensures) (walks (event-priority-local .on-chain)) (c .before .before .before .before .before .before .before .before .rest-at .ensures) (c .before .before .before .before .before .priority .given .1)) (three-fall _ _ _ _ (c .step-lost .result) (c .before .before .before .event-word .ensures .at) (skips-lost (c .step-lost .ensures) (c .before .enum-told2 .given .1) (c .before .before .before .event-word .ensures)))))))
+
+rest-at-requires-2 : tie.Need-rest-at-requires-2
+rest-at-requires-2 c κs = let t = skip-took event-word-on (c .before .before .before .event-word .ensures .at) (c .before .event .given .1) (c .before .before .before .event-word .ensures .skips) in omega (arith, t .up, t .inside, c .before .before .before .event-word .ensures .at .from)
+
+slice-aggregate-access-to : tie.Need-slice-aggregate-access-to
+slice-aggregate-access-to c = search needs
+
+access-to-requires : tie.Need-access-to-requires
+access-to-requires c κs = (omega (arith, c .before .rest-at2 .ensures .size, c .before .before .before .before .before .before .before .before .before .before .before .before .before .before .pre), omega arith)
 
 returns-3 : tie.Need-returns-3
 unfolding event-qualities
-returns-3 c = event-qualities-is _ _ 0 _ ((read-as (c .before .before .before .event-access .ensures) (c .before .access .given .1) event-access-on (c .before .before .before .before .rest-at2 .ensures) refl) .value) _ _ _ (fits 2 (c .before .before .before .before .before .before .before .before .before .before .before .keywords-set .ensures)) (level-small (c .before .before .before .before .before .before .before .before .event-priority .ensures) (c .before .before .before .before .before .before .priority .given .1)) (level-small (c .before .before .before .event-access .ensures) (c .before .access .given .1)) ((read-as (c .before .before .before .event-access .ensures) (c .before .access .given .1) event-access-on (c .before .before .before .before .rest-at2 .ensures) refl) .is) (begin (event-qualities) _ _ (go _ (set-took (rest-self _ _) (c .before .before .before .before .before .before .before .before .before .before .before .keywords-set .ensures)) (on _ (blank-at-took (c .before .before .before .before .before .before .before .before .before .before .blank-at .ensures)) (go _ (level-took (c .before .before .before .before .before .before .before .before .event-priority .ensures) (walks (event-priority-local .on-chain)) (c .before .before .before .before .before .before .before .before .before .rest-at .ensures) (c .before .before .before .before .before .before .priority .given .1)) (four-go _ _ _ _ _ ((read-as (c .before .before .before .event-access .ensures) (c .before .access .given .1) event-access-on (c .before .before .before .before .rest-at2 .ensures) refl) .step) (done _ _ _ _))))))
+returns-3 c = event-qualities-is _ _ 0 _ ((event-access-took (ascii "read") 0 (skip-took event-word-on (c .before .before .before .before .before .before .event-word .ensures .at) (c .before .before .before .before .event .given .1) (c .before .before .before .before .before .before .event-word .ensures .skips)) (c .before .before .rest-at2 .ensures) (c .access-to .ensures)) .value) _ _ _ (fits 2 (c .before .before .before .before .before .before .before .before .before .before .before .before .before .keywords-set .ensures)) (level-small (c .before .before .before .before .before .before .before .before .before .before .event-priority .ensures) (c .before .before .before .before .before .before .before .before .priority .given .1)) (c .access-to .ensures .within) ((event-access-took (ascii "read") 0 (skip-took event-word-on (c .before .before .before .before .before .before .event-word .ensures .at) (c .before .before .before .before .event .given .1) (c .before .before .before .before .before .before .event-word .ensures .skips)) (c .before .before .rest-at2 .ensures) (c .access-to .ensures)) .is) (begin (event-qualities) _ _ (go _ (set-took (rest-self _ _) (c .before .before .before .before .before .before .before .before .before .before .before .before .before .keywords-set .ensures)) (on _ (blank-at-took (c .before .before .before .before .before .before .before .before .before .before .before .before .blank-at .ensures)) (go _ (level-took (c .before .before .before .before .before .before .before .before .before .before .event-priority .ensures) (walks (event-priority-local .on-chain)) (c .before .before .before .before .before .before .before .before .before .before .before .rest-at .ensures) (c .before .before .before .before .before .before .before .before .priority .given .1)) (three-on _ _ _ _ (skip-took event-word-on (c .before .before .before .before .before .before .event-word .ensures .at) (c .before .before .before .before .event .given .1) (c .before .before .before .before .before .before .event-word .ensures .skips)) (go _ ((event-access-took (ascii "read") 0 (skip-took event-word-on (c .before .before .before .before .before .before .event-word .ensures .at) (c .before .before .before .before .event .given .1) (c .before .before .before .before .before .before .event-word .ensures .skips)) (c .before .before .rest-at2 .ensures) (c .access-to .ensures)) .step) (done _ _ _ _)))))))
 
 pub event-qualities-spec : {M : Type 1} → statement M
 event-qualities-spec =
@@ -74,10 +79,12 @@ event-qualities-spec =
     enum-told
     level-lost-requires
     returns
-    rest-at-requires-2
-    event-access-requires
-    enum-known-access
+    event-word-requires
+    enum-known-event
     enum-told-2
-    level-lost-requires-2
+    step-lost-requires
     returns-2
+    rest-at-requires-2
+    slice-aggregate-access-to
+    access-to-requires
     returns-3)

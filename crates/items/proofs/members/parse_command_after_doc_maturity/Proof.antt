@@ -1,13 +1,12 @@
 use borrow.Author.Needs.{needs}
 use Rattle.items.proofs.members.parse_command_after_doc_maturity.Statement.{statement}
 use Rattle.items.proofs.members.parse_command_after_doc_maturity.Tie as tie
-use Rattle.lexing.specs.answers.{docOf}
 use Rattle.items.specs.members.{parse-command-after-doc-maturity}
-use Rattle.items.proofs.members.Laws.{command-head-within, command-types-within, command-is, command-types-took}
+use Rattle.items.proofs.members.Laws.{command-head-within, command-types-within, command-not, command-is, command-types-took}
 use mathlib.Core.Path.{refl}
 use native.Mathlib.Omega.{arith}
 use Rattle.lexing.proofs.Slicing.{walks, rest-self, begin, go, lose, done}
-use Rattle.lexing.proofs.AnswerLaws.{read-not, read-lost, read-took}
+use Rattle.lexing.proofs.AnswerLaws.{read-lost, read-took}
 use Rattle.lexing.proofs.Pairs.{pair-on, pair-fall, four-go, four-lose}
 use Rattle.items.proofs.Locality.{command-head-inside}
 use Rattle.lexing.proofs.steps.Laws.{tag-behind-took, skips-lost}
@@ -18,8 +17,8 @@ use Rattle.items.specs.answers.members.{commandHeadLost, commandTypesLos
 command-head-requires : tie.Need-command-head-requires
 command-head-requires c κs = search needs
 
-enum-known-head : tie.Need-enum-known-head
-enum-known-head c = c .match .keys1
+enum-known-r1 : tie.Need-enum-known-r1
+enum-known-r1 c = c .match .keys1
 
 enum-told : tie.Need-enum-told
 enum-told c = c .match .keys2
@@ -29,16 +28,16 @@ command-head-lost-requires c κs = tt
 
 returns : tie.Need-returns
 unfolding parse-command-after-doc-maturity
-returns c = read-not _ refl tt (begin (parse-command-after-doc-maturity (docOf (c .before .before .before .before .before .args .doc)) (c .before .before .before .before .before .args .maturity)) _ _ (lose _ _ (c .command-head-lost .result) (rest-self _ _) (read-lost (c .before .before .before .command-head .ensures) (c .before .enum-told .given .1) commandHeadLost (c .command-head-lost .ensures) refl)))
+returns c = command-not _ λ d m. (begin (parse-command-after-doc-maturity d m) _ _ (lose _ _ (c .command-head-lost .result) (rest-self _ _) (read-lost (c .before .before .before .command-head .ensures) (c .before .enum-told .given .1) commandHeadLost (c .command-head-lost .ensures) refl)))
 
 rest-at-requires : tie.Need-rest-at-requires
-rest-at-requires c κs = let t = read-took (c .before .before .before .command-head .ensures) (c .before .head .given .1) (walks (chain-inside command-head-inside)) (rest-self _ _) refl in omega (arith, t .up, t .inside)
+rest-at-requires c κs = let t = read-took (c .before .before .before .command-head .ensures) (c .before .r1 .given .1) (walks (chain-inside command-head-inside)) (rest-self _ _) refl in omega (arith, t .up, t .inside)
 
 command-types-requires : tie.Need-command-types-requires
 command-types-requires c κs = omega (arith, c .rest-at .ensures .size, c .before .before .before .before .before .before .pre)
 
-enum-known-types : tie.Need-enum-known-types
-enum-known-types c = c .match2 .keys1
+enum-known-r2 : tie.Need-enum-known-r2
+enum-known-r2 c = c .match2 .keys1
 
 enum-told-2 : tie.Need-enum-told-2
 enum-told-2 c = c .match2 .keys2
@@ -48,10 +47,10 @@ command-types-lost-requires c κs = tt
 
 returns-2 : tie.Need-returns-2
 unfolding parse-command-after-doc-maturity
-returns-2 c = read-not _ refl tt (begin (parse-command-after-doc-maturity (docOf (c .before .before .before .before .before .before .before .before .before .before .args .doc)) (c .before .before .before .before .before .before .before .before .before .before .args .maturity)) _ _ (go _ (read-took (c .before .before .before .before .before .before .before .before .command-head .ensures) (c .before .before .before .before .before .before .head .given .1) (walks (chain-inside command-head-inside)) (rest-self _ _) refl) (lose _ _ (c .command-types-lost .result) (c .before .before .before .before .rest-at .ensures) (read-lost (c .before .before .before .command-types .ensures) (c .before .enum-told2 .given .1) commandTypesLost (c .command-types-lost .ensures) refl))))
+returns-2 c = command-not _ λ d m. (begin (parse-command-after-doc-maturity d m) _ _ (go _ (read-took (c .before .before .before .before .before .before .before .before .command-head .ensures) (c .before .before .before .before .before .before .r1 .given .1) (walks (chain-inside command-head-inside)) (rest-self _ _) refl) (lose _ _ (c .command-types-lost .result) (c .before .before .before .before .rest-at .ensures) (read-lost (c .before .before .before .command-types .ensures) (c .before .enum-told2 .given .1) commandTypesLost (c .command-types-lost .ensures) refl))))
 
 code-behind-requires : tie.Need-code-behind-requires
-code-behind-requires c κs = let t = command-types-took (c .before .before .before .command-types .ensures) (c .before .types .given .1) (c .before .before .before .before .rest-at .ensures) in omega (arith, t .up, t .inside, c .before .before .before .before .rest-at .ensures .from, c .before .before .before .before .before .before .before .before .before .before .pre)
+code-behind-requires c κs = let t = command-types-took (c .before .before .before .command-types .ensures) (c .before .r2 .given .1) (c .before .before .before .before .rest-at .ensures) in omega (arith, t .up, t .inside, c .before .before .before .before .rest-at .ensures .from, c .before .before .before .before .before .before .before .before .before .before .pre)
 
 enum-known-number : tie.Need-enum-known-number
 enum-known-number c = c .match3 .keys1
@@ -64,7 +63,7 @@ number-lost-requires c κs = tt
 
 returns-3 : tie.Need-returns-3
 unfolding parse-command-after-doc-maturity
-returns-3 c = read-not _ refl tt (begin (parse-command-after-doc-maturity (docOf (c .before .before .before .before .before .before .before .before .before .before .before .before .before .before .args .doc)) (c .before .before .before .before .before .before .before .before .before .before .before .before .before .before .args .maturity)) _ _ (go _ (read-took (c .before .before .before .before .before .before .before .before .before .before .before .before .command-head .ensures) (c .before .before .before .before .before .before .before .before .before .before .head .given .1) (walks (chain-inside command-head-inside)) (rest-self _ _) refl) (go _ (command-types-took (c .before .before .before .before .before .before .before .command-types .ensures) (c .before .before .before .before .before .types .given .1) (c .before .before .before .before .before .before .before .before .rest-at .ensures)) (four-lose _ _ _ _ _ (c .number-lost .result) (c .before .before .before .code-behind .ensures .at) (number-at-lost (c .before .before .before .code-behind .ensures) (c .number-lost .ensures) (c .before .enum-told3 .given .1))))))
+returns-3 c = command-not _ λ d m. (begin (parse-command-after-doc-maturity d m) _ _ (go _ (read-took (c .before .before .before .before .before .before .before .before .before .before .before .before .command-head .ensures) (c .before .before .before .before .before .before .before .before .before .before .r1 .given .1) (walks (chain-inside command-head-inside)) (rest-self _ _) refl) (go _ (command-types-took (c .before .before .before .before .before .before .before .command-types .ensures) (c .before .before .before .before .before .r2 .given .1) (c .before .before .before .before .before .before .before .before .rest-at .ensures)) (four-lose _ _ _ _ _ (c .number-lost .result) (c .before .before .before .code-behind .ensures .at) (number-at-lost (c .before .before .before .code-behind .ensures) (c .number-lost .ensures) (c .before .enum-told3 .given .1))))))
 
 tag-behind-requires : tie.Need-tag-behind-requires
 tag-behind-requires c κs = let t = number-at-took (c .before .before .before .code-behind .ensures) code-behind-on (c .before .number .given .1) in omega (arith, t .up, t .inside, c .before .before .before .code-behind .ensures .at .from, c .before .before .before .before .before .before .before .before .before .before .before .before .before .before .pre)
@@ -80,24 +79,24 @@ step-lost-requires c κs = tt
 
 returns-4 : tie.Need-returns-4
 unfolding parse-command-after-doc-maturity
-returns-4 c = read-not _ refl tt (begin (parse-command-after-doc-maturity (docOf (c .before .before .before .before .before .before .before .before .before .before .before .before .before .before .before .before .before .before .args .doc)) (c .before .before .before .before .before .before .before .before .before .before .before .before .before .before .before .before .before .before .args .maturity)) _ _ (go _ (read-took (c .before .before .before .before .before .before .before .before .before .before .before .before .before .before .before .before .command-head .ensures) (c .before .before .before .before .before .before .before .before .before .before .before .before .before .before .head .given .1) (walks (chain-inside command-head-inside)) (rest-self _ _) refl) (go _ (command-types-took (c .before .before .before .before .before .before .before .before .before .before .before .command-types .ensures) (c .before .before .before .before .before .before .before .before .before .types .given .1) (c .before .before .before .before .before .before .before .before .before .before .before .before .rest-at .ensures)) (four-go _ _ _ _ _ (number-at-took (c .before .before .before .before .before .before .before .code-behind .ensures) code-behind-on (c .before .before .before .before .before .number .given .1)) (pair-fall _ _ _ (c .step-lost .result) (c .before .before .before .tag-behind .ensures .at) (skips-lost (c .step-lost .ensures) (c .before .enum-told4 .given .1) (c .before .before .before .tag-behind .ensures)))))))
+returns-4 c = command-not _ λ d m. (begin (parse-command-after-doc-maturity d m) _ _ (go _ (read-took (c .before .before .before .before .before .before .before .before .before .before .before .before .before .before .before .before .command-head .ensures) (c .before .before .before .before .before .before .before .before .before .before .before .before .before .before .r1 .given .1) (walks (chain-inside command-head-inside)) (rest-self _ _) refl) (go _ (command-types-took (c .before .before .before .before .before .before .before .before .before .before .before .command-types .ensures) (c .before .before .before .before .before .before .before .before .before .r2 .given .1) (c .before .before .before .before .before .before .before .before .before .before .before .before .rest-at .ensures)) (four-go _ _ _ _ _ (number-at-took (c .before .before .before .before .before .before .before .code-behind .ensures) code-behind-on (c .before .before .before .before .before .number .given .1)) (pair-fall _ _ _ (c .step-lost .result) (c .before .before .before .tag-behind .ensures .at) (skips-lost (c .step-lost .ensures) (c .before .enum-told4 .given .1) (c .before .before .before .tag-behind .ensures)))))))
 
 returns-5 : tie.Need-returns-5
 unfolding parse-command-after-doc-maturity
-returns-5 c = command-is (c .before .before .before .before .before .before .before .before .before .before .before .before .before .before .before .before .before .before .args .doc) _ _ _ _ _ _ _ _ _ (command-head-within (c .before .before .before .before .before .before .before .before .before .before .before .before .before .before .before .before .command-head .ensures) (c .before .before .before .before .before .before .before .before .before .before .before .before .before .before .head .given .1)) (command-types-within (c .before .before .before .before .before .before .before .before .before .before .before .command-types .ensures) (c .before .before .before .before .before .before .before .before .before .types .given .1)) (omega (arith, (number-at-took (c .before .before .before .before .before .before .before .code-behind .ensures) code-behind-on (c .before .before .before .before .before .number .given .1)) .up, (tag-behind-took 59 (c .before .semicolon .given .1) (c .before .before .before .tag-behind .ensures)) .up)) (begin (parse-command-after-doc-maturity (docOf (c .before .before .before .before .before .before .before .before .before .before .before .before .before .before .before .before .before .before .args .doc)) (c .before .before .before .before .before .before .before .before .before .before .before .before .before .before .before .before .before .before .args .maturity)) _ _ (go _ (read-took (c .before .before .before .before .before .before .before .before .before .before .before .before .before .before .before .before .command-head .ensures) (c .before .before .before .before .before .before .before .before .before .before .before .before .before .before .head .given .1) (walks (chain-inside command-head-inside)) (rest-self _ _) refl) (go _ (command-types-took (c .before .before .before .before .before .before .before .before .before .before .before .command-types .ensures) (c .before .before .before .before .before .before .before .before .before .types .given .1) (c .before .before .before .before .before .before .before .before .before .before .before .before .rest-at .ensures)) (four-go _ _ _ _ _ (number-at-took (c .before .before .before .before .before .before .before .code-behind .ensures) code-behind-on (c .before .before .before .before .before .number .given .1)) (pair-on _ _ _ (tag-behind-took 59 (c .before .semicolon .given .1) (c .before .before .before .tag-behind .ensures)) (done _ _ _ _))))))
+returns-5 c = command-is (command-head-within (c .before .before .before .before .before .before .before .before .before .before .before .before .before .before .before .before .command-head .ensures) (c .before .before .before .before .before .before .before .before .before .before .before .before .before .before .r1 .given .1)) (command-types-within (c .before .before .before .before .before .before .before .before .before .before .before .command-types .ensures) (c .before .before .before .before .before .before .before .before .before .r2 .given .1)) (omega (arith, (number-at-took (c .before .before .before .before .before .before .before .code-behind .ensures) code-behind-on (c .before .before .before .before .before .number .given .1)) .up, (tag-behind-took 59 (c .before .semicolon .given .1) (c .before .before .before .tag-behind .ensures)) .up)) λ d m. (begin (parse-command-after-doc-maturity d m) _ _ (go _ (read-took (c .before .before .before .before .before .before .before .before .before .before .before .before .before .before .before .before .command-head .ensures) (c .before .before .before .before .before .before .before .before .before .before .before .before .before .before .r1 .given .1) (walks (chain-inside command-head-inside)) (rest-self _ _) refl) (go _ (command-types-took (c .before .before .before .before .before .before .before .before .before .before .before .command-types .ensures) (c .before .before .before .before .before .before .before .before .before .r2 .given .1) (c .before .before .before .before .before .before .before .before .before .before .before .before .rest-at .ensures)) (four-go _ _ _ _ _ (number-at-took (c .before .before .before .before .before .before .before .code-behind .ensures) code-behind-on (c .before .before .before .before .before .number .given .1)) (pair-on _ _ _ (tag-behind-took 59 (c .before .semicolon .given .1) (c .before .before .before .tag-behind .ensures)) (done _ _ _ _))))))
 
 pub parse-command-after-doc-maturity-spec : {M : Type 1} → statement M
 parse-command-after-doc-maturity-spec =
     tie.close
     (tie.spec
     command-head-requires
-    enum-known-head
+    enum-known-r1
     enum-told
     command-head-lost-requires
     returns
     rest-at-requires
     command-types-requires
-    enum-known-types
+    enum-known-r2
     enum-told-2
     command-types-lost-requires
     returns-2

@@ -1,0 +1,183 @@
+-- Parsers that never stop: a failure of one is caught by `opt` wherever it is.
+use mathlib.Core.Path.{_≡_, refl}
+use mathlib.Core.Bool.{Bool, true, false, _&&_}
+use mathlib.Core.Option.{none}
+use mathlib.Core.List.{List, [], _∷_}
+use Prim.Native.Nat.{ℕ, zero, suc, _-_}
+use native.Mathlib.Omega.{arith}
+use lib.Dec.{eqb}
+use lib.ListN.{length, drop}
+use Rattle.lexing.specs.bytes.{slash, star, isSpace, inLine}
+use Rattle.lexing.specs.reply.{Reply, ok, fail, stop, Parser, ret, _>>=_, _>>_, catch, opt, further, _or_, prepend, manyWithin, many0, iterWithin, iter, keep}
+use Rattle.lexing.specs.words.{Word, keyword, any-keyword, tag}
+use Rattle.lexing.specs.blanks.{Doc, line-comment, Until, found, never, until-close, closed, block-comment, multispace1, whitespace-group, one-blank, whitespace0}
+use Rattle.lexing.specs.answers.{lostReply}
+use Rattle.lexing.specs.declared.answers.Lost.{Lost}
+use Rattle.lexing.specs.declared.answers.Lost.the-variants.{Fail, Stop}
+use Rattle.lexing.proofs.words.Laws.{keyword-says}
+use Rattle.lexing.proofs.optional.Laws.{opt-fail}
+
+abbrev Runs : {A : Type 0} → Reply A → Type 0
+Runs (ok a c r) = Unit {0}
+Runs (fail p) = Unit {0}
+Runs (stop n p) = ⊥
+
+pub record Calm {A : Type 0} (m : Parser A) : Type 0 where
+  pub runs : (b : ℕ) (u : List ℕ) → Runs (m b u)
+
+-- what is lost is absent
+pub calm-absent : {A : Type 0} {m : Parser A} → Calm m → (l : Lost) {b : ℕ} {u : List ℕ} → lostReply l ≡ m b u → ok none b (drop (b - b) u) ≡ opt m b u
+calm-absent {A} {m} w (Fail p) {b} {u} e = let z : b - b ≡ 0 = omega arith in rw z (opt-fail m b u p e)
+calm-absent {A} {m} w (Stop n p) {b} {u} e = absurd (rw (← e) at (w .runs b u))
+
+module _ {A : Type 0} where
+  pub calm-ret : (a : A) → Calm (ret a)
+  unfolding ret
+  calm-ret a = record { runs = λ b u. tt }
+
+  pub calm-catch : {m : Parser A} {k : ℕ → Parser A} → Calm m → ((p : ℕ) → Calm (k p)) → Calm (catch m k)
+  unfolding catch
+  calm-catch {m} {k} v w = record { runs = λ b u. go b u (m b u) refl (v .runs b u) }
+    where
+      go : (b : ℕ) (u : List ℕ) (x : Reply A) → m b u ≡ x → Runs x → Runs (catch m k b u)
+      go b u (ok a c r) e i = rw (e, catch) tt
+      go b u (fail p) e i = rw (e, catch) (w p .runs b u)
+      go b u (stop n p) e i = absurd i
+
+  runs-further : (p : ℕ) (x : Reply A) → Runs x → Runs (further p x)
+  unfolding further
+  runs-further p (ok a c r) i = tt
+  runs-further p (fail q) i = tt
+  runs-further p (stop n q) i = absurd i
+
+  pub calm-or : {m k : Parser A} → Calm m → Calm k → Calm (m or k)
+  unfolding _or_
+  calm-or {m} {k} v w = record { runs = λ b u. go b u (m b u) refl (v .runs b u) }
+    where
+      go : (b : ℕ) (u : List ℕ) (x : Reply A) → m b u ≡ x → Runs x → Runs ((m or k) b u)
+      go b u (ok a c r) e i = rw (e, _or_) tt
+      go b u (fail p) e i = rw (e, _or_) (runs-further p (k b u) (w .runs b u))
+      go b u (stop n p) e i = absurd i
+
+  runs-prepend : (a : A) (x : Reply (List A)) → Runs x → Runs (prepend a x)
+  unfolding prepend
+  runs-prepend a (ok l c r) i = tt
+  runs-prepend a (fail p) i = tt
+  runs-prepend a (stop n p) i = absurd i
+
+  within-runs : {m : Parser A} → Calm m → (n b : ℕ) (u : List ℕ) → Runs (manyWithin n m b u)
+  unfolding manyWithin
+  within-runs w zero b u = tt
+  within-runs {m} w (suc n) b u = go (m b u) refl (w .runs b u) (within-runs w n)
+    where
+      go : (x : Reply A) → m b u ≡ x → Runs x → ((b : ℕ) (u : List ℕ) → Runs (manyWithin n m b u)) → Runs (manyWithin (suc n) m b u)
+      go (ok a c r) e i ih = rw (e, manyWithin) (runs-prepend a (manyWithin n m c r) (ih c r))
+      go (fail p) e i ih = rw (e, manyWithin) tt
+      go (stop k p) e i ih = absurd i
+
+  pub calm-many0 : {m : Parser A} → Calm m → Calm (many0 m)
+  unfolding many0
+  calm-many0 w = record { runs = λ b u. within-runs w (suc (length u)) b u }
+
+  iter-runs : {f : A → Parser A} (g : ℕ → A → A) → ((x : A) → Calm (f x)) → (n : ℕ) (x : A) (b : ℕ) (u : List ℕ) → Runs (iterWithin n f g x b u)
+  unfolding iterWithin
+  iter-runs g w zero x b u = tt
+  iter-runs {f} g w (suc n) x b u = go (f x b u) refl (w x .runs b u) (iter-runs g w n)
+    where
+      go : (y : Reply A) → f x b u ≡ y → Runs y → ((x : A) (b : ℕ) (u : List ℕ) → Runs (iterWithin n f g x b u)) → Runs (iterWithin (suc n) f g x b u)
+      go (ok a c r) e i ih = rw (e, iterWithin) (ih a c r)
+      go (fail p) e i ih = rw (e, iterWithin) tt
+      go (stop k p) e i ih = absurd i
+
+module _ {A B : Type 0} {m : Parser A} where
+  pub calm-bind : {k : A → Parser B} → Calm m → ((a : A) → Calm (k a)) → Calm (m >>= k)
+  unfolding _>>=_
+  calm-bind {k} v w = record { runs = λ b u. go b u (m b u) refl (v .runs b u) }
+    where
+      go : (b : ℕ) (u : List ℕ) (x : Reply A) → m b u ≡ x → Runs x → Runs ((m >>= k) b u)
+      go b u (ok a c r) e i = rw (e, _>>=_) (w a .runs c r)
+      go b u (fail p) e i = rw (e, _>>=_) tt
+      go b u (stop n p) e i = absurd i
+
+  pub calm-then : {k : Parser B} → Calm m → Calm k → Calm (m >> k)
+  unfolding _>>_
+  calm-then v w = calm-bind v (λ a. w)
+
+-- tokens
+pub calm-tag : (t : ℕ) → Calm (tag t)
+unfolding tag
+calm-tag t = record { runs = go }
+  where
+    by : (b x : ℕ) (u : List ℕ) (y : Bool) → eqb x t ≡ y → Runs (tag t b (x ∷ u))
+    by b x u true e = rw (e, tag) tt
+    by b x u false e = rw (e, tag) tt
+
+    go : (b : ℕ) (u : List ℕ) → Runs (tag t b u)
+    go b [] = tt
+    go b (x ∷ u) = by b x u (eqb x t) refl
+
+pub calm-keyword : (k : List ℕ) → Calm (keyword k)
+calm-keyword k = record { runs = λ b u. go b u (keyword k b u) refl }
+  where
+    go : (b : ℕ) (u : List ℕ) (x : Reply Word) → keyword k b u ≡ x → Runs (keyword k b u)
+    go b u (ok w c r) e = rw e tt
+    go b u (fail p) e = rw e tt
+    go b u (stop n p) e = absurd (rw e at (keyword-says k b u))
+
+pub calm-any : (ks : List (List ℕ)) → Calm (any-keyword ks)
+unfolding any-keyword
+calm-any [] = record { runs = λ b u. tt }
+calm-any (k ∷ ks) = calm-or (calm-keyword k) (calm-any ks)
+
+-- blanks
+calm-line : Calm line-comment
+unfolding line-comment
+calm-line = record { runs = go }
+  where
+    by : (b x y z : ℕ) (u : List ℕ) (t : Bool) → (eqb x slash && (eqb y slash && inLine z)) ≡ t → Runs (line-comment b (x ∷ y ∷ z ∷ u))
+    by b x y z u true e = rw (e, line-comment) tt
+    by b x y z u false e = rw (e, line-comment) tt
+
+    go : (b : ℕ) (u : List ℕ) → Runs (line-comment b u)
+    go b [] = tt
+    go b (x ∷ []) = tt
+    go b (x ∷ y ∷ []) = tt
+    go b (x ∷ y ∷ z ∷ u) = by b x y z u (eqb x slash && (eqb y slash && inLine z)) refl
+
+closed-runs : (b : ℕ) (v : List ℕ) (x : Until) → Runs (closed b v x)
+unfolding closed
+closed-runs b v (found n r) = tt
+closed-runs b v never = tt
+
+calm-block : Calm block-comment
+unfolding block-comment
+calm-block = record { runs = go }
+  where
+    by : (b x y : ℕ) (u : List ℕ) (t : Bool) → (eqb x slash && eqb y star) ≡ t → Runs (block-comment b (x ∷ y ∷ u))
+    by b x y u true e = rw (e, block-comment) (closed-runs b u (until-close u))
+    by b x y u false e = rw (e, block-comment) tt
+
+    go : (b : ℕ) (u : List ℕ) → Runs (block-comment b u)
+    go b [] = tt
+    go b (x ∷ []) = tt
+    go b (x ∷ y ∷ u) = by b x y u (eqb x slash && eqb y star) refl
+
+calm-space : Calm multispace1
+unfolding multispace1
+calm-space = record { runs = go }
+  where
+    by : (b x : ℕ) (u : List ℕ) (t : Bool) → isSpace x ≡ t → Runs (multispace1 b (x ∷ u))
+    by b x u true e = rw (e, multispace1) tt
+    by b x u false e = rw (e, multispace1) tt
+
+    go : (b : ℕ) (u : List ℕ) → Runs (multispace1 b u)
+    go b [] = tt
+    go b (x ∷ u) = by b x u (isSpace x) refl
+
+calm-blank : (d : Doc) → Calm (one-blank d)
+unfolding one-blank whitespace-group
+calm-blank d = calm-bind (calm-catch calm-line λ p. calm-catch calm-block λ q. calm-space) λ g. calm-ret _
+
+pub calm-blanks : Calm whitespace0
+unfolding whitespace0 iter
+calm-blanks = record { runs = λ b u. iter-runs keep calm-blank (suc (length u)) _ b u }
