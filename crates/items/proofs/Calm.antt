@@ -7,9 +7,9 @@ use Prim.Native.Nat.{ℕ, zero, suc, _-_}
 use native.Mathlib.Omega.{arith}
 use lib.Dec.{eqb}
 use lib.ListN.{length, drop}
-use Rattle.lexing.specs.bytes.{slash, star, isSpace, inLine}
+use Rattle.lexing.specs.bytes.{slash, star, isLetter, isSpace, inLine}
 use Rattle.lexing.specs.reply.{Reply, ok, fail, stop, Parser, ret, _>>=_, _>>_, catch, opt, further, _or_, prepend, manyWithin, many0, iterWithin, iter, keep}
-use Rattle.lexing.specs.words.{Word, keyword, any-keyword, tag}
+use Rattle.lexing.specs.words.{Word, parse-id, keyword, any-keyword, tag}
 use Rattle.lexing.specs.blanks.{Doc, line-comment, Until, found, never, until-close, closed, block-comment, multispace1, whitespace-group, one-blank, whitespace0}
 use Rattle.lexing.specs.answers.{lostReply}
 use Rattle.lexing.specs.declared.answers.Lost.{Lost}
@@ -128,6 +128,18 @@ pub calm-any : (ks : List (List ℕ)) → Calm (any-keyword ks)
 unfolding any-keyword
 calm-any [] = record { runs = λ b u. tt }
 calm-any (k ∷ ks) = calm-or (calm-keyword k) (calm-any ks)
+
+pub calm-id : Calm parse-id
+unfolding parse-id
+calm-id = record { runs = go }
+  where
+    by : (b x : ℕ) (u : List ℕ) (y : Bool) → isLetter x ≡ y → Runs (parse-id b (x ∷ u))
+    by b x u true e = rw (e, parse-id) tt
+    by b x u false e = rw (e, parse-id) tt
+
+    go : (b : ℕ) (u : List ℕ) → Runs (parse-id b u)
+    go b [] = tt
+    go b (x ∷ u) = by b x u (isLetter x) refl
 
 -- blanks
 calm-line : Calm line-comment

@@ -4,12 +4,12 @@ use mathlib.Core.List.{List}
 use Prim.Native.Nat.{ℕ, _-_}
 use native.Mathlib.Omega.{arith}
 use lib.ListN.{drop}
-use Rattle.lexing.specs.reply.{Reply, ok, fail, stop, Parser, ret, _>>=_, _>>_}
-use Rattle.lexing.specs.answers.{Answer, got, lost, Rest, lostReply, reply, ReadTo}
+use Rattle.lexing.specs.reply.{Reply, ok, fail, stop, Parser, ret, _>>=_}
+use Rattle.lexing.specs.answers.{Answer, got, Rest, lostReply, reply, ReadTo}
 use Rattle.lexing.specs.declared.answers.Lost.{Lost}
 use Rattle.lexing.specs.declared.answers.Lost.the-variants.{Fail, Stop}
 use Rattle.lexing.proofs.Onward.{Onward}
-use Rattle.lexing.proofs.Slicing.{Took, took, begin, on}
+use Rattle.lexing.proofs.Slicing.{Took, took}
 use Rattle.items.specs.clusters.{mapped}
 use Rattle.lexing.proofs.AnswerLaws.{reads-as}
 
@@ -75,15 +75,6 @@ module _ {A B : Type 0} (f : A → B) (m : Parser A) (b : ℕ) (u : List ℕ) wh
 pub read-as : {T A B : Type 0} {f : ℕ → List ℕ → T → Answer B} {W : ℕ → T → Type 0} {g : A → B} {m : Parser A} {a x : T} {n : ℕ} {r : List ℕ} → ReadTo f W (mapped m g) a n r → a ≡ x
     → Onward m → {b : ℕ} {u : List ℕ} {v : B} {c : ℕ} → Rest b u n r → f n r x ≡ got v c → TookAs g m b u n v c
 read-as {B = B} {n = n} {r = r} h d w q z = took-as w q (sym (ap (λ (y : Answer B). reply y n r) z) ∙ reads-as h d)
-
--- an answer that is passed on behind another step
-pub mapped-after : {A B C : Type 0} {m : Parser A} {k : Parser B} (g : B → C) → Onward k → (a : Answer C) {x : A} {b n : ℕ} {u r : List ℕ} → Took m b u b x n → Rest b u n r
-    → reply a n r ≡ mapped k g n r → reply a b u ≡ mapped (m >> k) g b u
-mapped-after {m = m} {k = k} g w (got v c) {b = b} {u = u} t q h =
-    let s : TookAs g k b u _ v c = took-as w q h in
-    mapped-ok g (m >> k) b u (s .value) c (drop (c - b) u) (s .is) (begin (m >> k) b u (on k t (sym (s .step .goes))))
-mapped-after {m = m} {k = k} g w (lost l) {b = b} {n = n} {u = u} {r = r} t q h =
-    mapped-not g (m >> k) b u l (begin (m >> k) b u (on k t (lost-as g k n r l h ∙ ap (k n) (q .same))))
 
 -- two changes are one
 through-twice : {A B C : Type 0} (f : A → B) (g : B → C) (x : Reply A) → through g (through f x) ≡ through (λ a. g (f a)) x

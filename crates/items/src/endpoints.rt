@@ -11,11 +11,12 @@ ghost use Rattle.lexing.specs.answers.{numberReply, NameIn};
 ghost use Rattle.items.specs.layout.{text-limit, layout-20, further-word, catalogue-bytes};
 ghost use Rattle.lexing.specs.buffers.{put, each};
 ghost use Rattle.items.specs.records.{twos-complement, default-number, default-word, instance-record, part-records, endpoint-records};
+ghost use Rattle.items.specs.clusters.{mapped};
 ghost use Rattle.lexing.specs.names.{named-after, NamedTo};
-ghost use Rattle.items.specs.endpoints.{device-version, device-type, value-tries, default-attribute-value, attribute-handling-type, deep-braces, instance-tries, device, binding, instantiation, instantiation-head, cluster-instantiation, part-tries, endpoint-head, endpoint};
+ghost use Rattle.items.specs.endpoints.{device-version, device-type, value-tries, default-attribute-value, attribute-handling-type, deep-braces, command-instance, event-instance, instance-tries, device, binding, instantiation, instantiation-head, cluster-instantiation, part-tries, endpoint-head, endpoint};
 ghost use Rattle.items.specs.answers.{CountTo, Room, Written};
 ghost use Rattle.items.specs.answers.members.{LevelTo};
-ghost use Rattle.items.specs.answers.endpoints.{DeviceTypeTo, ValueTo, optionalValue, DefaultTo, DefaultIn, defaultOf, defaultLost, InstanceIn, AttributeInstanceTo, namedInstance, InstanceTo, TriedTo};
+ghost use Rattle.items.specs.answers.endpoints.{DeviceTypeTo, ValueTo, optionalValue, DefaultTo, DefaultIn, defaultOf, defaultLost, InstanceIn, AttributeInstanceTo, namedInstance, InstanceAs, InstanceTo, TriedTo};
 ghost use Rattle.items.specs.inner.endpoints.{NoNumberAt, furtherLost, deep-rest, plainWord, name-parts, device-parts, instance-parts, endpoint-first};
 use crate::counts::Count;
 use crate::members::Level;
@@ -304,16 +305,34 @@ fn named_instance(kind: u8, r: Named) -> InstanceRead
     }
 }
 
-// The one try for an instance that its first letter leaves; the others fail at their start.
+fn command_instance(part: &[u8], base: usize) -> InstanceRead
+    requires { ⌜ base + length (now part) ≤ text-limit ⌝ }
+    ensures { λ r. ⌜ InstanceAs (mapped (named-after (ascii "handle") (ascii "command")) command-instance) r base (now (part .entry)) ⌝ }
+{
+    named_instance(15, named_after(part, base, b"handle", b"command"))
+}
+
+fn event_instance(part: &[u8], base: usize) -> InstanceRead
+    requires { ⌜ base + length (now part) ≤ text-limit ⌝ }
+    ensures { λ r. ⌜ InstanceAs (mapped (named-after (ascii "emits") (ascii "event")) event-instance) r base (now (part .entry)) ⌝ }
+{
+    named_instance(16, named_after(part, base, b"emits", b"event"))
+}
+
+// An instance, most often that of an attribute. Where it is none, its first letter leaves one try, and the others fail at their start.
 fn instance(part: &[u8], base: usize) -> InstanceRead
     requires { ⌜ base + length (now part) ≤ text-limit ⌝ }
     ensures { λ r. ⌜ InstanceTo r base (now (part .entry)) ⌝ }
 {
+    let attribute = attribute_instantiation(part, base);
+    if let InstanceRead::AttributeInstance(_, _) = attribute {
+        return attribute;
+    }
     let x = lower_of(peek(part, 0));
     match x {
-        b'h' => named_instance(15, named_after(part, base, b"handle", b"command")),
-        b'e' => named_instance(16, named_after(part, base, b"emits", b"event")),
-        _ => attribute_instantiation(part, base),
+        b'h' => command_instance(part, base),
+        b'e' => event_instance(part, base),
+        _ => attribute,
     }
 }
 

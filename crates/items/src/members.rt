@@ -12,7 +12,7 @@ ghost use Rattle.items.specs.members.{access-privilege, event-priority, 
 ghost use Rattle.items.specs.answers.{FrontFits, Room, Written};
 ghost use Rattle.items.specs.answers.members.{levelLost, LevelTo, LevelAt, access-opening, colon-privilege, PrivilegeTo, eventQualitiesLost, EventQualitiesTo, eventHeadLost, EventHeadTo, EventCountTo, commandHeadLost, CommandHeadTo, commandTypesLost, CommandTypesTo, EventHeadBetween, CommandBetween, CommandTo, CommandCountTo, command-records};
 ghost use Rattle.items.specs.answers.members.{numbered};
-ghost use Rattle.items.specs.inner.members.{event-word, extentIf, command-parts, event-first};
+ghost use Rattle.items.specs.inner.members.{event-word, OptionalIdTo, extentIf, command-parts, event-first};
 use crate::counts::Count;
 use crate::structs::struct_fields;
 use crate::structs::write_struct_fields;
@@ -36,7 +36,6 @@ use lexing::names::Named;
 use lexing::names::code_behind;
 use lexing::names::named_lost;
 use lexing::names::type_behind;
-use lexing::optional::optional;
 use lexing::parts::peek;
 use lexing::parts::rest_at;
 use lexing::steps::blank_at;
@@ -373,6 +372,18 @@ pub fn command_head_lost(r: CommandHeadRead) -> Lost
     }
 }
 
+// The offset behind a name that may be absent.
+fn optional_id(part: &[u8], base: usize) -> usize
+    requires { ⌜ base + length (now part) ≤ text-limit ⌝ }
+    ensures { λ r. ⌜ OptionalIdTo r base (now (part .entry)) ⌝ }
+{
+    let id = parse_id(part, base);
+    let Step::Next(end) = id else {
+        return base;
+    };
+    end
+}
+
 // `(input) : output`
 pub fn command_types(part: &[u8], base: usize) -> CommandTypesRead
     requires { ⌜ base + length (now part) ≤ text-limit ⌝ }
@@ -383,10 +394,7 @@ pub fn command_types(part: &[u8], base: usize) -> CommandTypesRead
         return CommandTypesRead::NoCommandTypes(step_lost(opening));
     };
     let input = blank_at(part, base, c1);
-    let from = optional(parse_id(rest_at(part, base, input), input), input);
-    let Step::Next(input_end) = from else {
-        return CommandTypesRead::NoCommandTypes(step_lost(from));
-    };
+    let input_end = optional_id(rest_at(part, base, input), input);
     let closing = tag_behind(part, base, input_end, b')');
     let Step::Next(c2) = closing else {
         return CommandTypesRead::NoCommandTypes(step_lost(closing));

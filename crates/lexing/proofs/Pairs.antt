@@ -67,6 +67,25 @@ module _ {A B C D E : Type 0} (m : Parser A) (p : Parser B) (q : Parser C) (s : 
     pub four-lose : {r : List ℕ} (l : Lost) → Rest b u n r → lostReply l ≡ (m >> (p >> (q >> s))) n r → lostReply l ≡ (m >> (p >> (q >> (s >>= k)))) n (drop (n - b) u)
     four-lose l w e = lose (m >> (p >> (q >> s))) k l w e ∙ four-assoc n (drop (n - b) u)
 
+-- the same where the value is dropped
+module _ {A B C D : Type 0} (m : Parser A) (p : Parser B) (q : Parser C) (k : Parser D) {b n : ℕ} {u : List ℕ} where
+  pub three-on : {X : Reply D} {a : C} {c : ℕ} → Took (m >> (p >> q)) b u n a c → X ≡ k c (drop (c - b) u) → X ≡ (m >> (p >> (q >> k))) n (drop (n - b) u)
+  unfolding _>>_
+  three-on t e = three-go m p q (λ a. k) t e
+
+  pub three-fall : {r : List ℕ} (l : Lost) → Rest b u n r → lostReply l ≡ (m >> (p >> q)) n r → lostReply l ≡ (m >> (p >> (q >> k))) n (drop (n - b) u)
+  unfolding _>>_
+  three-fall l w e = three-lose m p q (λ a. k) l w e
+
+module _ {A B C D E : Type 0} (m : Parser A) (p : Parser B) (q : Parser C) (s : Parser D) (k : Parser E) {b n : ℕ} {u : List ℕ} where
+  pub four-on : {X : Reply E} {a : D} {c : ℕ} → Took (m >> (p >> (q >> s))) b u n a c → X ≡ k c (drop (c - b) u) → X ≡ (m >> (p >> (q >> (s >> k)))) n (drop (n - b) u)
+  unfolding _>>_
+  four-on t e = four-go m p q s (λ a. k) t e
+
+  pub four-fall : {r : List ℕ} (l : Lost) → Rest b u n r → lostReply l ≡ (m >> (p >> (q >> s))) n r → lostReply l ≡ (m >> (p >> (q >> (s >> k)))) n (drop (n - b) u)
+  unfolding _>>_
+  four-fall l w e = four-lose m p q s (λ a. k) l w e
+
 -- a step and what closes it
 bind-at : {A B C : Type 0} (g : A → Parser B) (k : B → Parser C) (x : Reply A) (n : ℕ) (v : List ℕ) → (((λ b u. x) >>= g) >>= k) n v ≡ ((λ b u. x) >>= (λ a. g a >>= k)) n v
 unfolding _>>=_

@@ -1,35 +1,30 @@
 -- What a reader's answer gives its caller: the rest of the part to go on with, and one law for each step of a sequence of parsers.
 use mathlib.Core.Path.{_≡_, refl, sym, ap, _∙_, subst}
 use mathlib.Core.List.{List}
-use mathlib.Core.Bool.{Bool}
 use Prim.Native.Nat.{ℕ, suc, _+_, _-_, _≤_}
 use native.Mathlib.Omega.{arith}
 use lib.ListN.{length, drop, take, length-drop}
 use lib.Seq.{take-all, drop-drop}
 use Rattle.lexing.specs.reply.{Reply, ok, fail, stop, Parser, ret, _>>=_, _>>_, _or_, further}
 use Rattle.lexing.specs.words.{parse-id, keyword, tag}
-use Rattle.lexing.specs.integers.{Signed, signed, positive-integer, signed-integer}
-use Rattle.lexing.specs.blanks.{Doc, whitespace0, whitespace1}
+use Rattle.lexing.specs.integers.{positive-integer}
+use Rattle.lexing.specs.blanks.{whitespace0}
 use Rattle.lexing.specs.strings.{Escape, string-with}
 use Rattle.lexing.specs.word_sets.{set-flags}
-use Rattle.lexing.specs.answers.{lostReply, reply, stepAnswer, Rest, docOf, lostOf, numberLost, signedLost, gapLost, wordAt, spanTo, tagReply, wordReply, numberReply, signedReply, gapReply, stringReply, BlankTo, WordSetTo}
+use Rattle.lexing.specs.answers.{lostReply, reply, stepAnswer, Rest, docOf, lostOf, numberLost, wordAt, spanTo, tagReply, wordReply, numberReply, stringReply, BlankTo, WordSetTo}
 use Rattle.lexing.specs.declared.answers.Lost.{Lost}
 use Rattle.lexing.specs.declared.answers.Lost.the-variants.{Fail, Stop}
 use Rattle.lexing.specs.declared.answers.Step.{Step}
 use Rattle.lexing.specs.declared.answers.Step.the-variants.{Next, Not}
 use Rattle.lexing.specs.declared.blanks.Blank.{Blank}
-use Rattle.lexing.specs.declared.blanks.Gap.{Gap}
-use Rattle.lexing.specs.declared.blanks.Gap.the-variants.{Passed, NoGap}
 use Rattle.lexing.specs.declared.integers.Number.{Number}
 use Rattle.lexing.specs.declared.integers.Number.the-variants.{Value, NoNumber}
-use Rattle.lexing.specs.declared.integers.SignedNumber.{SignedNumber}
-use Rattle.lexing.specs.declared.integers.SignedNumber.the-variants.{Sized, NoSigned}
 use Rattle.lexing.specs.declared.word_sets.WordSet.{WordSet}
 use Rattle.lexing.proofs.Runs.{Suf, same, skip, suf-length}
-use Rattle.lexing.proofs.Onward.{Ends, Onward, advances-onward, parse-id-advances, tag-advances, integer-advances, signed-advances, string-advances}
+use Rattle.lexing.proofs.Onward.{Ends, Onward, advances-onward, parse-id-advances, tag-advances, integer-advances, string-advances}
 use Rattle.lexing.proofs.Chain.{Moves, to-suf}
 use Rattle.lexing.proofs.Locality.{OnChain}
-use Rattle.lexing.proofs.TokenLocality.{whitespace0-chain, whitespace1-chain, keyword-chain, set-flags-chain}
+use Rattle.lexing.proofs.TokenLocality.{whitespace0-chain, keyword-chain, set-flags-chain}
 
 -- parts
 pub rest-all : (n : ℕ) (u : List ℕ) → take (length u - n) (drop n u) ≡ drop n u
@@ -123,9 +118,6 @@ module _ {b n : ℕ} {u r : List ℕ} (q : Rest b u n r) where
   pub blank-took : {t : Blank} → BlankTo t n r → Took whitespace0 b u n (docOf (t .doc)) (t .next)
   blank-took h = took (walks whitespace0-chain) q (h .reads)
 
-  pub gap-took : {a : Gap} {t : Blank} → a ≡ Passed t → gapReply a n r ≡ whitespace1 n r → Took whitespace1 b u n (docOf (t .doc)) (t .next)
-  gap-took {a} {t} e h = took (walks whitespace1-chain) q (subst (λ (x : Gap). gapReply x n r ≡ whitespace1 n r) e h)
-
   pub set-took : {k : ℕ} {t : WordSet} → WordSetTo t k n r → Took (set-flags k) b u n (t .flags) (t .next)
   set-took {k} h = took (walks (set-flags-chain k)) q (h .reads)
 
@@ -149,9 +141,6 @@ module _ {b n : ℕ} {u r : List ℕ} (q : Rest b u n r) where
   pub integer-took : {a : Number} {v c : ℕ} → a ≡ Value v c → numberReply a n r ≡ positive-integer n r → Took positive-integer b u n v c
   integer-took {a} {v} {c} e h = took (advances-onward integer-advances) q (subst (λ (x : Number). numberReply x n r ≡ positive-integer n r) e h)
 
-  pub signed-took : {a : SignedNumber} {m : Bool} {v c : ℕ} → a ≡ Sized m v c → signedReply a n r ≡ signed-integer n r → Took signed-integer b u n (signed m v) c
-  signed-took {a} {m} {v} {c} e h = took (advances-onward signed-advances) q (subst (λ (x : SignedNumber). signedReply x n r ≡ signed-integer n r) e h)
-
 -- and lost: whatever the value would have been
 pub step-lost : {A : Type 0} (f : ℕ → A) {a : Step} {l l' : Lost} → l' ≡ lostOf a → a ≡ Not l → (n : ℕ) (r : List ℕ) (X : Reply A) → reply (stepAnswer f a) n r ≡ X → lostReply l' ≡ X
 step-lost f {a} {l} {l'} e d n r X h =
@@ -162,16 +151,6 @@ pub integer-lost : {a : Number} {l l' : Lost} → l' ≡ numberLost a → a ≡ 
 integer-lost {a} {l} {l'} e d n r X h =
     let z : l' ≡ l = e ∙ ap numberLost d in
     ap (λ (x : Lost). lostReply x) z ∙ subst (λ (x : Number). numberReply x n r ≡ X) d h
-
-pub signed-lost : {a : SignedNumber} {l l' : Lost} → l' ≡ signedLost a → a ≡ NoSigned l → (n : ℕ) (r : List ℕ) (X : Reply Signed) → signedReply a n r ≡ X → lostReply l' ≡ X
-signed-lost {a} {l} {l'} e d n r X h =
-    let z : l' ≡ l = e ∙ ap signedLost d in
-    ap (λ (x : Lost). lostReply x) z ∙ subst (λ (x : SignedNumber). signedReply x n r ≡ X) d h
-
-pub gap-lost : {a : Gap} {l l' : Lost} → l' ≡ gapLost a → a ≡ NoGap l → (n : ℕ) (r : List ℕ) (X : Reply Doc) → gapReply a n r ≡ X → lostReply l' ≡ X
-gap-lost {a} {l} {l'} e d n r X h =
-    let z : l' ≡ l = e ∙ ap gapLost d in
-    ap (λ (x : Lost). lostReply x) z ∙ subst (λ (x : Gap). gapReply x n r ≡ X) d h
 
 -- the end of a sequence
 pub done : {A : Type 0} (a : A) (b c : ℕ) (u : List ℕ) → ok a c (drop (c - b) u) ≡ ret a c (drop (c - b) u)

@@ -23,7 +23,7 @@ use Rattle.items.specs.answers.{counted, countLost, countEnd, CountTo, R
 use Rattle.items.specs.inner.counts.{EndsIn, closedCount, ClosedTo}
 use Rattle.items.specs.declared.counts.Count.{Count}
 use Rattle.items.specs.declared.counts.Count.the-variants.{Words, NoCount}
-use Rattle.lexing.proofs.AnswerLaws.{reads-as, read-on}
+use Rattle.lexing.proofs.AnswerLaws.{reads-as}
 use Rattle.items.proofs.Mapped.{mapped-twice, value-as, TookAs, took-as, lost-as, mapped-ok, mapped-not}
 use Rattle.items.proofs.RecordWords.{Elementwise, word-count-none, word-count-more}
 
@@ -124,9 +124,6 @@ count-value f m b u n c h = let s = value-as (λ x. word-count (f x)) m b u n c 
 -- what is counted has room where its words fit, and ends behind its start
 pub count-room : {A : Type 0} {f : A → List Record} {m : Parser A} {b n c at k : ℕ} {u : List ℕ} → CountTo f m (Words n c) b u → at + 8 * n ≤ k → Room f m b u at k
 count-room {f = f} {m = m} {b = b} {n = n} {c = c} {u = u} h l = let s = count-value f m b u n c h in record { value = s .value; next = c; is = s .is; fits = omega (arith, s .words, l) }
-
-pub count-next : {A : Type 0} {f : A → List Record} {m : Parser A} → Onward m → Consumes m → {b n c : ℕ} {u : List ℕ} → CountTo f m (Words n c) b u → (b < c) × (c ≤ b + length u)
-count-next {f = f} {m = m} w v {b} {n} {c} {u} h = read-on w v (count-value f m b u n c h .is)
 
 -- a count that ends a sequence
 pub count-behind : {A : Type 0} (f : A → List Record) (m k : Parser A) → Onward k → (r : Count) {b n : ℕ} {u v : List ℕ} → Rest b u n v → k n (drop (n - b) u) ≡ m b u → CountTo f k r n v → CountTo f m r b u

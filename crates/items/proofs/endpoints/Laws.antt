@@ -12,7 +12,7 @@ use Rattle.lexing.specs.words.{Word, keyword}
 use Rattle.lexing.specs.integers.{signed, positive-integer, signed-integer}
 use Rattle.lexing.specs.blanks.{no-doc, whitespace0, whitespace1}
 use Rattle.lexing.specs.strings.{Span, span, default-escape, default-string}
-use Rattle.lexing.specs.answers.{Answer, got, reply, lostReply, Rest, lostOf, numberLost, numberReply, signedReply, spanTo, stringReply, ReadTo, NameIn, wordBetween}
+use Rattle.lexing.specs.answers.{Answer, got, reply, lostReply, Rest, lostOf, numberLost, numberReply, signedReply, spanTo, stringReply, NameIn, wordBetween}
 use Rattle.lexing.specs.declared.answers.Lost.{Lost}
 use Rattle.lexing.specs.declared.answers.Lost.the-variants.{Fail, Stop}
 use Rattle.lexing.specs.declared.answers.Step.{Step}
@@ -32,7 +32,7 @@ use Rattle.items.specs.records.{Bits, absent, at, bits, value, word-exte
 use Rattle.lexing.specs.buffers.{each, big-endian, words-bytes, put}
 use Rattle.items.specs.inner.endpoints.{plainWord, name-parts, device-parts, instance-parts, endpoint-first}
 use Rattle.items.specs.layout.{packed, width, from-top, offset, size, layout-20, further-word, record-words, catalogue-words, catalogue-bytes, word-count, text-limit}
-use Rattle.items.specs.answers.endpoints.{deviceTypeAt, InstanceIn, attributeInstanceAt, ValueTo, DefaultIn, optionalValue, defaultOf, OptionalTo, instanceOf, instanceAnswer, InstanceReadIn, AttributeInstanceTo, namedInstance, triedAnswer, InstanceTo, TriedTo}
+use Rattle.items.specs.answers.endpoints.{deviceTypeAt, InstanceIn, attributeInstanceAt, ValueTo, DefaultIn, optionalValue, defaultOf, OptionalTo, instanceOf, instanceAnswer, InstanceAs, AttributeInstanceTo, namedInstance, triedAnswer, InstanceTo, TriedTo}
 use Rattle.items.specs.declared.endpoints.DeviceTypeParts.{DeviceTypeParts}
 use Rattle.items.specs.declared.endpoints.AttributeInstanceParts.{AttributeInstanceParts}
 use Rattle.items.specs.declared.endpoints.SpanParts.{SpanParts}
@@ -42,7 +42,7 @@ use Rattle.items.specs.declared.endpoints.DefaultRead.{DefaultRead}
 use Rattle.items.specs.declared.endpoints.DefaultRead.the-variants.{Read, NoDefault}
 use Rattle.items.proofs.Locality.{device-version-local, value-tries-local, default-attribute-value-local, attribute-handling-type-local, instance-tries-inside, instance-tries-consumes, deep-run-inside, instances-local, instantiation-head-local, device-type-inside, part-tries-inside, part-tries-consumes, parts-local, endpoint-head-local}
 use Rattle.items.proofs.Mapped.{value-as, TookAs, took-as, lost-as, mapped-ok, mapped-not, mapped-same}
-use Rattle.lexing.proofs.AnswerLaws.{reads-as, read-on, last-lost}
+use Rattle.lexing.proofs.AnswerLaws.{reads-as, read-within, read-on, last-lost}
 use Rattle.items.proofs.WordBetween.{extent-between}
 use Rattle.lexing.proofs.optional.Laws.{opt-ok, opt-fail, opt-stop}
 use Rattle.items.proofs.Headed.{Headed}
@@ -62,7 +62,7 @@ use Rattle.items.specs.declared.endpoints.InstanceRead.{InstanceRead}
 use Rattle.items.specs.declared.endpoints.InstanceRead.the-variants.{AttributeInstance, NoInstance}
 use Rattle.items.proofs.Letters.{NoneOf, all-out, outs-free, initials-free}
 use Rattle.items.proofs.Shift.{shiftInstance, shiftPart, shift-mapped, shift-device-type, shift-attribute-instantiation, shift-named-after, shift-cluster-instantiation}
-use Rattle.items.proofs.endpoints.Deep.{none-found, first-alone, second-alone, third-alone, Nearer, nearer, tried-is, Unclosing}
+use Rattle.items.proofs.endpoints.Deep.{intercept-found, none-found, first-alone, second-alone, third-alone, Nearer, nearer, tried-is, Unclosing}
 
 pub device-version-on : Onward device-version
 device-version-on = walks (device-version-local .on-chain)
@@ -253,6 +253,12 @@ module _ (b : ℕ) (u : List ℕ) where
       third-alone _ _ _ (sym (mapped-fail _ attribute-instance (attribute-elsewhere f))) (sym (mapped-fail _ command-instance (named-elsewhere _ _ (g .0))))
       (moving-past {f = shiftInstance} (λ d. shift-mapped d event-instance event-instance (λ n. refl) (shift-named-after d (ascii "emits") (ascii "event"))) b u)
 
+  pub attribute-found : {r : InstanceRead} {a : AttributeInstanceParts} {c : ℕ} → AttributeInstanceTo r b u → r ≡ AttributeInstance a c → InstanceTo r b u
+  unfolding instance-tries
+  attribute-found {r} {a} {c} h d =
+      let e : InstanceTo (AttributeInstance a c) b u = record { reads = intercept-found b _ _ b u (attribute-instance (attributeInstanceAt b u a)) c (drop (c - b) u) (reads-as h d); within = read-within h d } in
+      subst (λ (x : InstanceRead). InstanceTo x b u) (sym d) e
+
   pub attribute-alone : (x : ℕ) → NoneOf (101 ∷ 104 ∷ []) x → lower (getD u 0 0) ≡ x → (y : Answer InstanceOf) → reply y b u ≡ mapped attribute-instantiation attribute-instance b u → reply (triedAnswer b y) b u ≡ instance-tries b b u
   unfolding instance-tries shiftInstance
   attribute-alone x n h =
@@ -288,15 +294,15 @@ module _ (b : ℕ) (u : List ℕ) where
         (moving-past {f = shiftPart} (λ d. shift-mapped d device device (λ t. refl) (shift-device-type d)) b u)
 
   -- an answer of the one that is left
-  pub instance-by : {m : Parser InstanceOf} → ((x : Answer InstanceOf) → reply x b u ≡ m b u → reply (triedAnswer b x) b u ≡ instance-tries b b u) → {r : InstanceRead} → ReadTo instanceAnswer InstanceReadIn m r b u → InstanceTo r b u
+  pub instance-by : {m : Parser InstanceOf} → ((x : Answer InstanceOf) → reply x b u ≡ m b u → reply (triedAnswer b x) b u ≡ instance-tries b b u) → {r : InstanceRead} → InstanceAs m r b u → InstanceTo r b u
   instance-by f {r} h = record { reads = f (instanceAnswer b u r) (h .reads); within = h .within }
 
-  named-to : (k : ℕ) → (15 ≤ k) × (k ≤ 16) → (m : Parser Word) (n : Named) → NamedTo m n b u → ReadTo instanceAnswer InstanceReadIn (mapped m (instanceOf k)) (namedInstance k n) b u
+  named-to : (k : ℕ) → (15 ≤ k) × (k ≤ 16) → (m : Parser Word) (n : Named) → NamedTo m n b u → InstanceAs (mapped m (instanceOf k)) (namedInstance k n) b u
   named-to k i m (Name o e c) h = record { reads = mapped-ok (instanceOf k) m b u (wordBetween b u o e) c (drop (c - b) u) refl (h .reads); within = (i, h .within .0) }
   named-to k i m (NoName l) h = record { reads = mapped-not (instanceOf k) m b u l (h .reads); within = tt }
 
-  pub named-is : (k : ℕ) → (15 ≤ k) × (k ≤ 16) → (m : Parser Word) (n : Named) {r : InstanceRead} → NamedTo m n b u → r ≡ namedInstance k n → ReadTo instanceAnswer InstanceReadIn (mapped m (instanceOf k)) r b u
-  named-is k i m n h e = subst (λ (x : InstanceRead). ReadTo instanceAnswer InstanceReadIn (mapped m (instanceOf k)) x b u) (sym e) (named-to k i m n h)
+  pub named-is : (k : ℕ) → (15 ≤ k) × (k ≤ 16) → (m : Parser Word) (n : Named) {r : InstanceRead} → NamedTo m n b u → r ≡ namedInstance k n → InstanceAs (mapped m (instanceOf k)) r b u
+  named-is k i m n h e = subst (λ (x : InstanceRead). InstanceAs (mapped m (instanceOf k)) x b u) (sym e) (named-to k i m n h)
 
   -- its words, and what it takes
   module _ {r x : InstanceRead} (h : InstanceTo r b u) (d : r ≡ x) where

@@ -22,7 +22,7 @@ use Rattle.lexing.proofs.FirstWord.{blank-clear}
 use Rattle.lexing.proofs.Onward.{Onward, advances-onward, parse-id-advances, tag-advances}
 use Rattle.lexing.proofs.Locality.{chain-then, chain-opt, chain-inside}
 use Rattle.lexing.proofs.TokenLocality.{parse-id-chain, keyword-chain, whitespace0-chain, whitespace1-chain}
-use Rattle.lexing.proofs.Slicing.{Took, took, walks, begin, on, fall, rebase}
+use Rattle.lexing.proofs.Slicing.{Took, took, walks, rest-self, told-not, begin, on, fall, rebase}
 use Rattle.items.specs.structs.{struct-fields, StructField as StructFieldOf}
 use Rattle.items.specs.members.{or-else, access-privilege, access-to, event-qualities, event-head, parse-event-after-doc-maturity, command-head, CommandTypes as CommandTypesOf, command-types, Command as CommandOf, parse-command-after-doc-maturity}
 use Rattle.items.specs.records.{bits, value, word-extent, documented, field-record, command-record, event-records, at, spanned, flag, optional-extent}
@@ -51,8 +51,8 @@ use Rattle.items.specs.declared.members.CommandRead.{CommandRead}
 use Rattle.items.specs.declared.members.CommandRead.the-variants.{Command, NoCommand}
 use Rattle.lexing.proofs.AnswerLaws.{reads-as, read-within, read-took, read-lost, last-lost}
 use Rattle.items.proofs.Mapped.{TookAs, mapped-ok, read-as}
-use Rattle.lexing.proofs.Pairs.{pair-on, pair-fall, three-go, three-lose, four-go, four-lose}
-use Rattle.items.proofs.Calm.{Calm, calm-absent, calm-ret, calm-or, calm-bind, calm-then, calm-tag, calm-keyword, calm-blanks}
+use Rattle.lexing.proofs.Pairs.{pair-on, pair-fall}
+use Rattle.items.proofs.Calm.{Calm, calm-absent, calm-ret, calm-or, calm-bind, calm-then, calm-tag, calm-keyword, calm-id, calm-blanks}
 use Rattle.items.proofs.Tries.{then-ok, opt-some, opt-none}
 use Rattle.lexing.proofs.steps.Laws.{tag-behind-took, keyword-behind-took}
 use Rattle.lexing.proofs.Composed.{onward-then}
@@ -63,29 +63,10 @@ use Rattle.items.proofs.writing.Laws.{documented-bytes, documented-put}
 use Rattle.items.proofs.structs.Laws.{present-is}
 use Rattle.lexing.proofs.optional.Laws.{opt-ok, opt-fail, opt-stop, skip-took, skip-lost}
 use Rattle.items.proofs.Locality.{access-privilege-local, access-to-inside, command-types-inside, event-head-inside, parse-command-consumes}
-use Rattle.items.specs.inner.members.{event-word, event-first, extentIf, command-parts}
+use Rattle.items.specs.inner.members.{event-word, OptionalIdTo, event-first, extentIf, command-parts}
 use Rattle.items.specs.declared.writing.FrontParts.{FrontParts}
 use Rattle.items.proofs.Headed.{Headed}
 use Rattle.items.proofs.counts.Laws.{count-not, read-counted}
-
--- three and four steps that the code takes as one and whose value is dropped
-module _ {A B C D : Type 0} (m : Parser A) (p : Parser B) (q : Parser C) (k : Parser D) {b n : ℕ} {u : List ℕ} where
-  pub three-on : {X : Reply D} {a : C} {c : ℕ} → Took (m >> (p >> q)) b u n a c → X ≡ k c (drop (c - b) u) → X ≡ (m >> (p >> (q >> k))) n (drop (n - b) u)
-  unfolding _>>_
-  three-on t e = three-go m p q (λ a. k) t e
-
-  pub three-fall : {r : List ℕ} (l : Lost) → Rest b u n r → lostReply l ≡ (m >> (p >> q)) n r → lostReply l ≡ (m >> (p >> (q >> k))) n (drop (n - b) u)
-  unfolding _>>_
-  three-fall l w e = three-lose m p q (λ a. k) l w e
-
-module _ {A B C D E : Type 0} (m : Parser A) (p : Parser B) (q : Parser C) (s : Parser D) (k : Parser E) {b n : ℕ} {u : List ℕ} where
-  pub four-on : {X : Reply E} {a : D} {c : ℕ} → Took (m >> (p >> (q >> s))) b u n a c → X ≡ k c (drop (c - b) u) → X ≡ (m >> (p >> (q >> (s >> k)))) n (drop (n - b) u)
-  unfolding _>>_
-  four-on t e = four-go m p q s (λ a. k) t e
-
-  pub four-fall : {r : List ℕ} (l : Lost) → Rest b u n r → lostReply l ≡ (m >> (p >> (q >> s))) n r → lostReply l ≡ (m >> (p >> (q >> (s >> k)))) n (drop (n - b) u)
-  unfolding _>>_
-  four-fall l w e = four-lose m p q s (λ a. k) l w e
 
 -- a step that is not there, where its answer is passed on or dropped
 pub skip-none : {A : Type 0} {m : Parser A} {a : Step} {l : Lost} {n : ℕ} {r : List ℕ} → a ≡ Not l → Skips m a n r → lostReply l ≡ m n r
@@ -286,19 +267,20 @@ optional-word-at (Not (Fail p)) b n u r c q h d =
     rw (← y, z, t) (opt-fail parse-id n r p h)
 optional-word-at (Not (Stop i p)) b n u r c q h d = let t : _≡_ {A = ℕ} 0 1 = cc in absurd (omega arith)
 
-optional-word-not : (a : Step) (n : ℕ) (r : List ℕ) (l : Lost) → wordReply a n r ≡ parse-id n r → optionalStep a n ≡ Not l → lostReply l ≡ opt parse-id n r
-optional-word-not (Next e) n r l h d = let t : _≡_ {A = ℕ} 0 1 = cc in absurd (omega arith)
-optional-word-not (Not (Fail p)) n r l h d = let t : _≡_ {A = ℕ} 0 1 = cc in absurd (omega arith)
-optional-word-not (Not (Stop i p)) n r l h d = let x : Stop i p ≡ l = cc in subst (λ (y : Lost). lostReply y ≡ opt parse-id n r) x (opt-stop parse-id n r i p h)
+module _ (b : ℕ) (u : List ℕ) {a : Step} (h : wordReply a b u ≡ parse-id b u) where
+  pub id-there : {c : ℕ} → a ≡ Next c → OptionalIdTo c b u
+  id-there {c} e = optional-word-at a b b u u c (rest-self b u) h (ap (λ (x : Step). optionalStep x b) e)
 
-module _ (a : Step) {t : Step} (n : ℕ) (r : List ℕ) (h : wordReply a n r ≡ parse-id n r) (d : t ≡ optionalStep a n) where
-  pub optional-word-took : {b c : ℕ} {u : List ℕ} → Rest b u n r → t ≡ Next c → Took (opt parse-id) b u n (optionalBetween b u n c) c
-  optional-word-took {b} {c} {u} q e = took (walks (chain-opt parse-id-chain)) q (optional-word-at a b n u r c q h (sym d ∙ e))
+  pub id-absent : {l : Lost} → a ≡ Not l → OptionalIdTo b b u
+  id-absent {l} e = go l e
+    where
+      go : (l : Lost) → a ≡ Not l → OptionalIdTo b b u
+      go (Fail p) e = optional-word-at a b b u u b (rest-self b u) h (ap (λ (x : Step). optionalStep x b) e)
+      go (Stop n p) e = absurd (rw (← told-not (wordAt b u) a (Stop n p) b u (parse-id b u) e h) at (calm-id .runs b u))
 
-  pub optional-word-lost : {l l' : Lost} → l' ≡ lostOf t → t ≡ Not l → lostReply l' ≡ opt parse-id n r
-  optional-word-lost {l} {l'} e f =
-      let x : l' ≡ l = e ∙ ap lostOf f in
-      ap (λ (y : Lost). lostReply y) x ∙ optional-word-not a n r l h (sym d ∙ f)
+pub optional-id-took : {b n c : ℕ} {u r : List ℕ} → Rest b u n r → OptionalIdTo c n r → Took (opt parse-id) b u n (optionalBetween b u n c) c
+optional-id-took {b} {n} {c} {u} {r} q h =
+    subst (λ (x : Option Word). Took (opt parse-id) b u n x c) (ap (optionOf (ltb n c)) (word-moved b n u r n c q (omega arith))) (took (walks (chain-opt parse-id-chain)) q h)
 
 -- a command's types
 types-moved : {b n : ℕ} {u r : List ℕ} {c : ℕ} → Rest b u n r → (t : CommandTypesParts) → CommandTypesBetween n t c → commandTypesAt n r t ≡ commandTypesAt b u t

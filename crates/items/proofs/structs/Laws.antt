@@ -9,7 +9,7 @@ use lib.Dec.{eqb}
 use lib.ListN.{length, take, drop}
 use lib.Seq.{length-take-le}
 use Rattle.lexing.specs.bytes.{ascii, within, lower}
-use Rattle.lexing.specs.reply.{ok, fail, stop, Parser, ret, opt, pick, many0}
+use Rattle.lexing.specs.reply.{ok, fail, Parser, ret, opt, pick, many0}
 use Rattle.lexing.specs.words.{Word, bytesOf, isKeyword, isLower, keyword, any-keyword, tag}
 use Rattle.lexing.specs.word_sets.{same-bytes, bit}
 use Rattle.lexing.specs.answers.{Rest, lostReply, wordAt, wordReply, numberReply, numberLost, BlankAt, wordBetween}
@@ -58,6 +58,7 @@ use Rattle.lexing.proofs.WordBetween.{word-moved}
 use Rattle.items.proofs.WordBetween.{extent-between}
 use Rattle.items.proofs.writing.Laws.{plain-bytes, documented-put, Writing, writing-fits, writing-more, writing-ends}
 use Rattle.items.proofs.counts.Laws.{Counting, counting-more}
+use Rattle.items.proofs.Calm.{calm-tag}
 use Rattle.items.proofs.Choice.{or-lost}
 use Rattle.items.proofs.Tries.{shared-any}
 use Rattle.lexing.proofs.optional.Laws.{opt-ok, opt-fail, opt-stop}
@@ -95,20 +96,10 @@ module _ (n : ℕ) (r : List ℕ) (a : Number) {x : MaxLength} (h : numberReply 
       let z : l' ≡ l = e ∙ ap lengthLost f in
       ap (λ (y : Lost). lostReply y) z ∙ subst (λ (y : MaxLength). lengthReply y n r ≡ opt max-length n r) f length-reads
 
--- a tag never stops
-tag-calm : (t b : ℕ) (u : List ℕ) (n p : ℕ) → stop n p ≡ tag t b u → ⊥
-unfolding tag
-tag-calm t b [] n p e = let z : _≡_ {A = ℕ} 0 1 = cc in omega arith
-tag-calm t b (x ∷ u) n p e = go (eqb x t) refl
-  where
-    go : (y : Bool) → eqb x t ≡ y → ⊥
-    go true q = let k = rw (q, tag) at e in let z : _≡_ {A = ℕ} 0 1 = cc in omega arith
-    go false q = let k = rw (q, tag) at e in let z : _≡_ {A = ℕ} 0 1 = cc in omega arith
-
 -- the two ways of a list's marker
 pub marker-none : (t n : ℕ) (r : List ℕ) (l : Lost) (b : ℕ) (u : List ℕ) → lostReply l ≡ tag t n r → lostReply l ≡ list-marker b u → MarkerTo (record { list = false; next = b }) b u
 marker-none t n r (Fail p) b u h e = let z : b - b ≡ 0 = omega arith in record { reads = rw z (opt-fail list-marker b u p e); up = omega arith; inside = omega arith }
-marker-none t n r (Stop i p) b u h e = absurd (tag-calm t n r i p h)
+marker-none t n r (Stop i p) b u h e = absurd (rw (← h) at (calm-tag t .runs n r))
 
 pub marker-is : (b c : ℕ) (u : List ℕ) → ok tt c (drop (c - b) u) ≡ list-marker b u → MarkerTo (record { list = true; next = c }) b u
 marker-is b c u e =

@@ -26,7 +26,6 @@ use Rattle.items.specs.layout.{packed, from-top, offset, size, layout-20
 use Rattle.items.specs.answers.{Room, Written, first-of, Fits, docWord, docBit, DocFits, FrontFits}
 use Rattle.items.specs.declared.writing.FrontParts.{FrontParts}
 use Rattle.items.specs.declared.writing.Wrote.{Wrote}
-use Rattle.lexing.proofs.AnswerLaws.{read-on}
 use Rattle.items.proofs.RecordWords.{catalogue-bytes-none, catalogue-bytes-length, word-count-none, Elementwise, word-count-more, catalogue-bytes-more, word-count-grows}
 
 pub bit-small : (b : Bool) → bit b < 2
@@ -113,9 +112,6 @@ no-room h (Stop i p) e = let z = h .is ∙ sym e in let y : _≡_ {A = ℕ} 0 1 
 -- a declaration that was written, as a step of a sequence
 pub written-took : {A : Type 0} {records : A → List Record} {m : Parser A} (v : Onward m) {b n : ℕ} {u r : List ℕ} {at : ℕ} {w : Wrote} {old new : List ℕ} → Rest b u n r → (h : Written records m n r at w old new) → Took m b u n (h .value) (w .next)
 written-took v q h = took v q (h .is)
-
-pub written-next : {A : Type 0} {records : A → List Record} {m : Parser A} → Onward m → Consumes m → {b : ℕ} {u : List ℕ} {at : ℕ} {w : Wrote} {old new : List ℕ} → Written records m b u at w old new → (b < w .next) × (w .next ≤ b + length u)
-written-next v c h = read-on v c (h .is)
 
 -- a declaration of k words that was read: there is room for them, and it is written once its records are
 module _ {A : Type 0} {records : A → List Record} {m : Parser A} {b : ℕ} {u : List ℕ} {a : A} {c k : ℕ} (e : ok a c (drop (c - b) u) ≡ m b u) (z : word-count (records a) ≡ k) {at : ℕ} where

@@ -114,8 +114,11 @@ InstanceReadIn b (AttributeInstance a c) = InstanceIn b a c
 InstanceReadIn b (NamedInstance k o e c) = ((15 ≤ k) × (k ≤ 16)) × NameIn b o e c
 InstanceReadIn b (NoInstance l) = Unit {0}
 
+abbrev pub InstanceAs : Parser InstanceOf → InstanceRead → ℕ → List ℕ → Type 0
+InstanceAs m r b u = ReadTo instanceAnswer InstanceReadIn m r b u
+
 abbrev pub AttributeInstanceTo : InstanceRead → ℕ → List ℕ → Type 0
-AttributeInstanceTo r b u = ReadTo instanceAnswer InstanceReadIn (mapped attribute-instantiation attribute-instance) r b u
+AttributeInstanceTo r b u = InstanceAs (mapped attribute-instantiation attribute-instance) r b u
 
 abbrev pub namedInstance : ℕ → Named → InstanceRead
 namedInstance k (Name o e c) = NamedInstance k o e c

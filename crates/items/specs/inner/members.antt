@@ -1,14 +1,16 @@
 -- What the private functions of the readers and writers of events and commands promise.
 use Prim.Native.Nat.{ℕ, _-_}
 use mathlib.Core.Bool.{Bool, true, false}
-use mathlib.Core.List.{[], _∷_}
+use mathlib.Core.Path.{_≡_}
+use mathlib.Core.List.{List, [], _∷_}
 use lib.Dec.{ltb}
 use Rattle.lexing.specs.bytes.{ascii}
-use Rattle.lexing.specs.reply.{Parser, _>>_}
-use Rattle.lexing.specs.words.{keyword}
+use Rattle.lexing.specs.reply.{Parser, _>>_, opt}
+use Rattle.lexing.specs.words.{parse-id, keyword}
 use Rattle.lexing.specs.blanks.{Doc, whitespace1}
-use Rattle.lexing.specs.answers.{docOf}
+use Rattle.lexing.specs.answers.{got, reply, docOf}
 use Rattle.items.specs.records.{Extent, absent, at, Record, bits, value, spanned, flag, documented}
+use Rattle.items.specs.answers.members.{optionalBetween}
 use Rattle.items.specs.declared.members.EventHeadParts.{EventHeadParts}
 use Rattle.items.specs.declared.members.CommandHeadParts.{CommandHeadParts}
 use Rattle.items.specs.declared.members.CommandTypesParts.{CommandTypesParts}
@@ -21,6 +23,10 @@ event-word = do
   whitespace1
   keyword (ascii "event")
   whitespace1
+
+-- a name that may be absent ends at r
+abbrev pub OptionalIdTo : ℕ → ℕ → List ℕ → Type 0
+OptionalIdTo r b u = reply (got (optionalBetween b u b r) r) b u ≡ opt parse-id b u
 
 -- the first record of an event, by offsets
 abbrev pub event-first : FrontParts → EventHeadParts → Record

@@ -1,12 +1,12 @@
 use Rattle.items.proofs.attributes.attribute_access.Statement.{statement}
 use Rattle.items.proofs.attributes.attribute_access.Tie as tie
 use Rattle.items.specs.members.{access-list}
-use Rattle.items.proofs.members.Laws.{skip-none, skips-none, four-fall, opening-on, four-on}
+use Rattle.items.proofs.members.Laws.{skip-none, skips-none, opening-on}
+use Rattle.lexing.proofs.Pairs.{four-fall, four-on, pair-on, pair-fall}
 use Rattle.items.proofs.attributes.Laws.{access-absent, access-grants, access-refused, entries-onward}
 use mathlib.Core.Path.{refl}
 use native.Mathlib.Omega.{arith}
 use Rattle.lexing.proofs.Slicing.{rest-self, begin, go, on, done}
-use Rattle.lexing.proofs.Pairs.{pair-on, pair-fall}
 use Rattle.lexing.proofs.steps.Laws.{blank-at-took, tag-behind-took}
 use Rattle.items.proofs.Mapped.{read-as}
 use Rattle.lexing.proofs.optional.Laws.{skip-took}

@@ -3,10 +3,10 @@ use Rattle.items.proofs.members.access_to.Tie as tie
 use Rattle.lexing.specs.reply.{_>>_}
 use Rattle.lexing.specs.blanks.{whitespace0}
 use Rattle.items.specs.members.{access-to}
-use Rattle.items.proofs.members.Laws.{level-small, level-at-none, skip-none, skips-none, four-fall, privilege-none, privilege-is, level-at-took, opening-on, colon-on, four-on}
+use Rattle.items.proofs.members.Laws.{level-small, level-at-none, skip-none, skips-none, privilege-none, privilege-is, level-at-took, opening-on, colon-on}
+use Rattle.lexing.proofs.Pairs.{four-fall, four-on, pair-on, pair-fall, three-go, three-lose}
 use native.Mathlib.Omega.{arith}
 use Rattle.lexing.proofs.Slicing.{rest-self, begin, done}
-use Rattle.lexing.proofs.Pairs.{pair-on, pair-fall, three-go, three-lose}
 use Rattle.lexing.proofs.steps.Laws.{tag-behind-took, keyword-behind-took}
 use Rattle.lexing.proofs.optional.Laws.{skip-took}
 

@@ -4,10 +4,10 @@ use Rattle.items.specs.members.{command-types}
 use Rattle.lexing.proofs.names.Laws.{named-in, named-took, type-behind-on}
 use mathlib.Core.Path.{refl}
 use native.Mathlib.Omega.{arith}
-use Rattle.lexing.proofs.Slicing.{begin, go, on, lose, done}
+use Rattle.lexing.proofs.Slicing.{begin, go, on, done}
 use Rattle.lexing.proofs.AnswerLaws.{read-is, read-not, read-lost}
 use Rattle.lexing.proofs.Pairs.{pair-on, pair-fall, four-go, four-lose}
-use Rattle.items.proofs.members.Laws.{optional-word-took, optional-word-lost}
+use Rattle.items.proofs.members.Laws.{optional-id-took}
 use Rattle.lexing.proofs.steps.Laws.{blank-at-took, tag-behind-took, skips-lost}
 use Rattle.lexing.specs.names.{namedLost}
 
@@ -33,14 +33,14 @@ blank-at-requires c κs = let t = tag-behind-took 40 (c .before .opening .given 
 rest-at-requires : tie.Need-rest-at-requires
 rest-at-requires c κs = let t = blank-at-took (c .blank-at .ensures) in omega (arith, t .up, t .inside, c .blank-at .ensures .at .from)
 
-parse-id-requires : tie.Need-parse-id-requires
-parse-id-requires c κs = omega (arith, c .rest-at .ensures .size, c .before .before .before .before .before .before .before .pre)
+optional-id-requires : tie.Need-optional-id-requires
+optional-id-requires c κs = omega (arith, c .rest-at .ensures .size, c .before .before .before .before .before .before .before .pre)
 
-optional-requires : tie.Need-optional-requires
-optional-requires c κs = tt
+tag-behind-requires-2 : tie.Need-tag-behind-requires-2
+tag-behind-requires-2 c κs = let t = optional-id-took (c .before .rest-at .ensures) (c .optional-id .ensures) in omega (arith, t .up, t .inside, c .before .rest-at .ensures .from, c .before .before .before .before .before .before .before .before .pre)
 
-enum-known-from : tie.Need-enum-known-from
-enum-known-from c = c .match2 .keys1
+enum-known-closing : tie.Need-enum-known-closing
+enum-known-closing c = c .match2 .keys1
 
 enum-told-2 : tie.Need-enum-told-2
 enum-told-2 c = c .match2 .keys2
@@ -50,46 +50,30 @@ step-lost-requires-2 c κs = tt
 
 returns-2 : tie.Need-returns-2
 unfolding command-types
-returns-2 c = read-not _ refl tt (begin (command-types) _ _ (pair-on _ _ _ (tag-behind-took 40 (c .before .before .before .before .before .before .before .before .opening .given .1) (c .before .before .before .before .before .before .before .before .before .before .tag-behind .ensures)) (on _ (blank-at-took (c .before .before .before .before .before .before .blank-at .ensures)) (lose _ _ (c .step-lost2 .result) (c .before .before .before .before .before .rest-at .ensures) (optional-word-lost (c .before .before .before .before .parse-id .result) _ _ (c .before .before .before .before .parse-id .ensures) (c .before .before .before .optional .ensures) (c .step-lost2 .ensures) (c .before .enum-told2 .given .1))))))
-
-tag-behind-requires-2 : tie.Need-tag-behind-requires-2
-tag-behind-requires-2 c κs = let t = optional-word-took (c .before .before .before .before .parse-id .result) _ _ (c .before .before .before .before .parse-id .ensures) (c .before .before .before .optional .ensures) (c .before .before .before .before .before .rest-at .ensures) (c .before .from .given .1) in omega (arith, t .up, t .inside, c .before .before .before .before .before .rest-at .ensures .from, c .before .before .before .before .before .before .before .before .before .before .before .before .pre)
-
-enum-known-closing : tie.Need-enum-known-closing
-enum-known-closing c = c .match3 .keys1
-
-enum-told-3 : tie.Need-enum-told-3
-enum-told-3 c = c .match3 .keys2
-
-step-lost-requires-3 : tie.Need-step-lost-requires-3
-step-lost-requires-3 c κs = tt
-
-returns-3 : tie.Need-returns-3
-unfolding command-types
-returns-3 c = read-not _ refl tt (begin (command-types) _ _ (pair-on _ _ _ (tag-behind-took 40 (c .before .before .before .before .before .before .before .before .before .before .before .before .opening .given .1) (c .before .before .before .before .before .before .before .before .before .before .before .before .before .before .tag-behind .ensures)) (on _ (blank-at-took (c .before .before .before .before .before .before .before .before .before .before .blank-at .ensures)) (go _ (optional-word-took (c .before .before .before .before .before .before .before .before .parse-id .result) _ _ (c .before .before .before .before .before .before .before .before .parse-id .ensures) (c .before .before .before .before .before .before .before .optional .ensures) (c .before .before .before .before .before .before .before .before .before .rest-at .ensures) (c .before .before .before .before .before .from .given .1)) (pair-fall _ _ _ (c .step-lost3 .result) (c .before .before .before .tag-behind2 .ensures .at) (skips-lost (c .step-lost3 .ensures) (c .before .enum-told3 .given .1) (c .before .before .before .tag-behind2 .ensures)))))))
+returns-2 c = read-not _ refl tt (begin (command-types) _ _ (pair-on _ _ _ (tag-behind-took 40 (c .before .before .before .before .before .before .before .before .opening .given .1) (c .before .before .before .before .before .before .before .before .before .before .tag-behind .ensures)) (on _ (blank-at-took (c .before .before .before .before .before .before .blank-at .ensures)) (go _ (optional-id-took (c .before .before .before .before .before .rest-at .ensures) (c .before .before .before .before .optional-id .ensures)) (pair-fall _ _ _ (c .step-lost2 .result) (c .before .before .before .tag-behind2 .ensures .at) (skips-lost (c .step-lost2 .ensures) (c .before .enum-told2 .given .1) (c .before .before .before .tag-behind2 .ensures)))))))
 
 rest-at-requires-2 : tie.Need-rest-at-requires-2
 rest-at-requires-2 c κs = let t = tag-behind-took 41 (c .before .closing .given .1) (c .before .before .before .tag-behind2 .ensures) in omega (arith, t .up, t .inside, c .before .before .before .tag-behind2 .ensures .at .from)
 
 type-behind-requires : tie.Need-type-behind-requires
-type-behind-requires c κs = omega (arith, c .rest-at2 .ensures .size, c .before .before .before .before .before .before .before .before .before .before .before .before .before .before .before .before .before .pre)
+type-behind-requires c κs = omega (arith, c .rest-at2 .ensures .size, c .before .before .before .before .before .before .before .before .before .before .before .before .before .pre)
 
 enum-known-to : tie.Need-enum-known-to
-enum-known-to c = c .match4 .keys1
+enum-known-to c = c .match3 .keys1
 
-enum-told-4 : tie.Need-enum-told-4
-enum-told-4 c = c .match4 .keys2
+enum-told-3 : tie.Need-enum-told-3
+enum-told-3 c = c .match3 .keys2
 
 named-lost-requires : tie.Need-named-lost-requires
 named-lost-requires c κs = tt
 
+returns-3 : tie.Need-returns-3
+unfolding command-types
+returns-3 c = read-not _ refl tt (begin (command-types) _ _ (pair-on _ _ _ (tag-behind-took 40 (c .before .before .before .before .before .before .before .before .before .before .before .before .before .opening .given .1) (c .before .before .before .before .before .before .before .before .before .before .before .before .before .before .before .tag-behind .ensures)) (on _ (blank-at-took (c .before .before .before .before .before .before .before .before .before .before .before .blank-at .ensures)) (go _ (optional-id-took (c .before .before .before .before .before .before .before .before .before .before .rest-at .ensures) (c .before .before .before .before .before .before .before .before .before .optional-id .ensures)) (pair-on _ _ _ (tag-behind-took 41 (c .before .before .before .before .before .before .closing .given .1) (c .before .before .before .before .before .before .before .before .tag-behind2 .ensures)) (four-lose _ _ _ _ _ (c .named-lost .result) (c .before .before .before .before .rest-at2 .ensures) (read-lost (c .before .before .before .type-behind .ensures) (c .before .enum-told3 .given .1) namedLost (c .named-lost .ensures) refl)))))))
+
 returns-4 : tie.Need-returns-4
 unfolding command-types
-returns-4 c = read-not _ refl tt (begin (command-types) _ _ (pair-on _ _ _ (tag-behind-took 40 (c .before .before .before .before .before .before .before .before .before .before .before .before .before .before .before .before .before .opening .given .1) (c .before .before .before .before .before .before .before .before .before .before .before .before .before .before .before .before .before .before .before .tag-behind .ensures)) (on _ (blank-at-took (c .before .before .before .before .before .before .before .before .before .before .before .before .before .before .before .blank-at .ensures)) (go _ (optional-word-took (c .before .before .before .before .before .before .before .before .before .before .before .before .before .parse-id .result) _ _ (c .before .before .before .before .before .before .before .before .before .before .before .before .before .parse-id .ensures) (c .before .before .before .before .before .before .before .before .before .before .before .before .optional .ensures) (c .before .before .before .before .before .before .before .before .before .before .before .before .before .before .rest-at .ensures) (c .before .before .before .before .before .before .before .before .before .before .from .given .1)) (pair-on _ _ _ (tag-behind-took 41 (c .before .before .before .before .before .before .closing .given .1) (c .before .before .before .before .before .before .before .before .tag-behind2 .ensures)) (four-lose _ _ _ _ _ (c .named-lost .result) (c .before .before .before .before .rest-at2 .ensures) (read-lost (c .before .before .before .type-behind .ensures) (c .before .enum-told4 .given .1) namedLost (c .named-lost .ensures) refl)))))))
-
-returns-5 : tie.Need-returns-5
-unfolding command-types
-returns-5 c = read-is refl (begin (command-types) _ _ (pair-on _ _ _ (tag-behind-took 40 (c .before .before .before .before .before .before .before .before .before .before .before .before .before .before .before .before .before .opening .given .1) (c .before .before .before .before .before .before .before .before .before .before .before .before .before .before .before .before .before .before .before .tag-behind .ensures)) (on _ (blank-at-took (c .before .before .before .before .before .before .before .before .before .before .before .before .before .before .before .blank-at .ensures)) (go _ (optional-word-took (c .before .before .before .before .before .before .before .before .before .before .before .before .before .parse-id .result) _ _ (c .before .before .before .before .before .before .before .before .before .before .before .before .before .parse-id .ensures) (c .before .before .before .before .before .before .before .before .before .before .before .before .optional .ensures) (c .before .before .before .before .before .before .before .before .before .before .before .before .before .before .rest-at .ensures) (c .before .before .before .before .before .before .before .before .before .before .from .given .1)) (pair-on _ _ _ (tag-behind-took 41 (c .before .before .before .before .before .before .closing .given .1) (c .before .before .before .before .before .before .before .before .tag-behind2 .ensures)) (four-go _ _ _ _ _ (named-took (c .before .before .before .type-behind .ensures) (c .before .to .given .1) type-behind-on (c .before .before .before .before .rest-at2 .ensures)) (done _ _ _ _))))))) (let w = named-in (c .before .before .before .type-behind .ensures) (c .before .to .given .1) in record { input-from = omega (arith, (blank-at-took (c .before .before .before .before .before .before .before .before .before .before .before .before .before .before .before .blank-at .ensures)) .up, c .before .before .before .before .before .before .before .before .before .before .before .before .before .before .before .blank-at .ensures .at .from); input-to = (optional-word-took (c .before .before .before .before .before .before .before .before .before .before .before .before .before .parse-id .result) _ _ (c .before .before .before .before .before .before .before .before .before .before .before .before .before .parse-id .ensures) (c .before .before .before .before .before .before .before .before .before .before .before .before .optional .ensures) (c .before .before .before .before .before .before .before .before .before .before .before .before .before .before .rest-at .ensures) (c .before .before .before .before .before .before .before .before .before .before .from .given .1)) .up; output-from = omega (arith, (tag-behind-took 41 (c .before .before .before .before .before .before .closing .given .1) (c .before .before .before .before .before .before .before .before .tag-behind2 .ensures)) .up, w .from); output-to = w .up; before = w .inside })
+returns-4 c = read-is refl (begin (command-types) _ _ (pair-on _ _ _ (tag-behind-took 40 (c .before .before .before .before .before .before .before .before .before .before .before .before .before .opening .given .1) (c .before .before .before .before .before .before .before .before .before .before .before .before .before .before .before .tag-behind .ensures)) (on _ (blank-at-took (c .before .before .before .before .before .before .before .before .before .before .before .blank-at .ensures)) (go _ (optional-id-took (c .before .before .before .before .before .before .before .before .before .before .rest-at .ensures) (c .before .before .before .before .before .before .before .before .before .optional-id .ensures)) (pair-on _ _ _ (tag-behind-took 41 (c .before .before .before .before .before .before .closing .given .1) (c .before .before .before .before .before .before .before .before .tag-behind2 .ensures)) (four-go _ _ _ _ _ (named-took (c .before .before .before .type-behind .ensures) (c .before .to .given .1) type-behind-on (c .before .before .before .before .rest-at2 .ensures)) (done _ _ _ _))))))) (let w = named-in (c .before .before .before .type-behind .ensures) (c .before .to .given .1) in record { input-from = omega (arith, (blank-at-took (c .before .before .before .before .before .before .before .before .before .before .before .blank-at .ensures)) .up, c .before .before .before .before .before .before .before .before .before .before .before .blank-at .ensures .at .from); input-to = (optional-id-took (c .before .before .before .before .before .before .before .before .before .before .rest-at .ensures) (c .before .before .before .before .before .before .before .before .before .optional-id .ensures)) .up; output-from = omega (arith, (tag-behind-took 41 (c .before .before .before .before .before .before .closing .given .1) (c .before .before .before .before .before .before .before .before .tag-behind2 .ensures)) .up, w .from); output-to = w .up; before = w .inside })
 
 pub command-types-spec : {M : Type 1} → statement M
 command-types-spec =
@@ -102,21 +86,16 @@ command-types-spec =
     returns
     blank-at-requires
     rest-at-requires
-    parse-id-requires
-    optional-requires
-    enum-known-from
+    optional-id-requires
+    tag-behind-requires-2
+    enum-known-closing
     enum-told-2
     step-lost-requires-2
     returns-2
-    tag-behind-requires-2
-    enum-known-closing
-    enum-told-3
-    step-lost-requires-3
-    returns-3
     rest-at-requires-2
     type-behind-requires
     enum-known-to
-    enum-told-4
+    enum-told-3
     named-lost-requires
-    returns-4
-    returns-5)
+    returns-3
+    returns-4)

@@ -3,7 +3,8 @@ use Rattle.items.proofs.members.event_qualities.Statement.{statement}
 use Rattle.items.proofs.members.event_qualities.Tie as tie
 use Rattle.items.specs.members.{event-qualities}
 use Rattle.items.proofs.SetSizes.{fits}
-use Rattle.items.proofs.members.Laws.{level-small, event-qualities-is, level-took, level-lost, three-on, three-fall, event-word-on, event-access-took}
+use Rattle.items.proofs.members.Laws.{level-small, event-qualities-is, level-took, level-lost, event-word-on, event-access-took}
+use Rattle.lexing.proofs.Pairs.{three-on, three-fall}
 use mathlib.Core.Path.{refl}
 use native.Mathlib.Omega.{arith}
 use Rattle.lexing.specs.bytes.{ascii}
