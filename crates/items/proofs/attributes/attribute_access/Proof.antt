@@ -2,7 +2,7 @@ use Rattle.items.proofs.attributes.attribute_access.Statement.{statemen
 use Rattle.items.proofs.attributes.attribute_access.Tie as tie
 use Rattle.items.specs.members.{access-list}
 use Rattle.items.proofs.members.Laws.{skip-none, skips-none, opening-on}
-use Rattle.lexing.proofs.Pairs.{four-fall, four-on, pair-on, pair-fall}
+use Rattle.lexing.proofs.Pairs.{four-fall, pair-on, pair-fall, four-on}
 use Rattle.items.proofs.attributes.Laws.{access-absent, access-grants, access-refused, entries-onward}
 use mathlib.Core.Path.{refl}
 use native.Mathlib.Omega.{arith}

@@ -4,7 +4,7 @@ use Rattle.lexing.specs.reply.{_>>_}
 use Rattle.lexing.specs.blanks.{whitespace0}
 use Rattle.items.specs.members.{access-to}
 use Rattle.items.proofs.members.Laws.{level-small, level-at-none, skip-none, skips-none, privilege-none, privilege-is, level-at-took, opening-on, colon-on}
-use Rattle.lexing.proofs.Pairs.{four-fall, four-on, pair-on, pair-fall, three-go, three-lose}
+use Rattle.lexing.proofs.Pairs.{four-fall, pair-on, pair-fall, three-go, three-lose, four-on}
 use native.Mathlib.Omega.{arith}
 use Rattle.lexing.proofs.Slicing.{rest-self, begin, done}
 use Rattle.lexing.proofs.steps.Laws.{tag-behind-took, keyword-behind-took}

@@ -4,12 +4,12 @@ use Rattle.items.proofs.members.event_qualities.Tie as tie
 use Rattle.items.specs.members.{event-qualities}
 use Rattle.items.proofs.SetSizes.{fits}
 use Rattle.items.proofs.members.Laws.{level-small, event-qualities-is, level-took, level-lost, event-word-on, event-access-took}
-use Rattle.lexing.proofs.Pairs.{three-on, three-fall}
 use mathlib.Core.Path.{refl}
 use native.Mathlib.Omega.{arith}
 use Rattle.lexing.specs.bytes.{ascii}
 use Rattle.lexing.proofs.Slicing.{walks, rest-self, begin, go, on, lose, done, set-took}
 use Rattle.lexing.proofs.AnswerLaws.{read-not}
+use Rattle.lexing.proofs.Pairs.{three-on, three-fall}
 use Rattle.items.proofs.Locality.{event-priority-local}
 use Rattle.lexing.proofs.steps.Laws.{blank-at-took, skips-lost}
 use Rattle.lexing.proofs.optional.Laws.{skip-took}
