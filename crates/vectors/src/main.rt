@@ -103,7 +103,7 @@ fn is_accepted(result: u64, catalogue: &[u8], wanted: &[u8]) -> bool {
 // Whether a text was refused with the wanted result, and nothing is written.
 fn is_refused(result: u64, catalogue: &[u8], wanted: &[u8]) -> bool {
     let mut word = [0u8; 8];
-    items::writing::put_word(&mut word, 0, result);
+    lexing::buffers::put_word(&mut word, 0, result);
     if same(&word, wanted) {
         return is_untouched(catalogue);
     }
