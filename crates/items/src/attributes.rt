@@ -28,10 +28,11 @@ use crate::writing::put_documented;
 use lexing::answers::Lost;
 use lexing::answers::Step;
 use lexing::answers::step_lost;
+use lexing::bytes::lower_of;
+use lexing::parts::peek;
 use lexing::parts::rest_at;
 use lexing::steps::blank_at;
 use lexing::steps::gap_at;
-use lexing::steps::keyword_behind;
 use lexing::steps::tag_behind;
 use lexing::word_sets::is_lower;
 use lexing::word_sets::keywords_set;
@@ -168,11 +169,18 @@ fn access_entries(part: &[u8], base: usize) -> Entries
 }
 
 // `access(..)`. A list that is not there whole is none; one that is there and has a word that is not in lower case stops at that word.
+// Most attributes have none, which the first byte tells.
 pub fn attribute_access(part: &[u8], base: usize) -> PrivilegesRead
     requires { ⌜ base + length (now part) ≤ text-limit ⌝ }
     ensures { λ r. ⌜ PrivilegesTo r base (now (part .entry)) ⌝ }
 {
     let absent = PrivilegesRead::Privileges(0, 1, base);
+    let x = peek(part, 0);
+    if b'/' < x {
+        if lower_of(x) != b'a' {
+            return absent;
+        }
+    }
     let opening = access_opening(part, base);
     let Step::Next(c1) = opening else {
         return absent;
@@ -204,8 +212,8 @@ pub fn parse_attribute_after_doc_maturity(part: &[u8], base: usize) -> Attribute
     ensures { λ r. ⌜ AttributeTo r base (now (part .entry)) ⌝ }
 {
     let q = keywords_set(part, base, 4);
-    let c1 = q.next;
-    let attribute = keyword_behind(part, base, c1, b"attribute");
+    let c1 = blank_at(part, base, q.next);
+    let attribute = keyword(rest_at(part, base, c1), c1, b"attribute");
     let Step::Next(c2) = attribute else {
         return AttributeRead::NoAttribute(step_lost(attribute));
     };

@@ -6,8 +6,8 @@ use mathlib.Core.Option.{Option, none, some}
 use mathlib.Core.List.{List, [], _∷_, _++_, append-assoc, append-nil}
 use Prim.Native.Nat.{ℕ, zero, suc, _+_, _-_, _*_, _≤_, _<_}
 use native.Mathlib.Omega.{arith}
-use lib.ListN.{length, take, drop}
-use Rattle.lexing.specs.bytes.{ascii, within, lower}
+use lib.ListN.{length, take, drop, getD}
+use Rattle.lexing.specs.bytes.{ascii, slash, within, lower}
 use Rattle.lexing.specs.reply.{Reply, ok, fail, stop, Parser, ret, _>>=_, _>>_, catch, opt, prepend, manyWithin, many0, stopAt, pick}
 use Rattle.lexing.specs.words.{Word, bytesOf, offsetOf, isKeyword, isLower, keyword, any-keyword, tag}
 use Rattle.lexing.specs.blanks.{Doc, whitespace0}
@@ -21,9 +21,10 @@ use Rattle.lexing.proofs.Onward.{Onward}
 use Rattle.lexing.proofs.FirstWord.{blank-clear}
 use Rattle.lexing.proofs.Locality.{Consumes, chain-inside, consumes-then-right, chain-opt}
 use Rattle.lexing.proofs.TokenLocality.{any-keyword-chain}
-use Rattle.lexing.proofs.Slicing.{Took, took, walks, told-next, rest-self, begin, go, lose, done, or-here, or-next}
+use Rattle.lexing.proofs.Slicing.{Took, took, walks, told-next, rest-self, blank-took, begin, go, on, lose, fall, done, or-here, or-next}
 use Rattle.lexing.proofs.Repetition.{before, many0-more, many0-fail}
-use Rattle.lexing.proofs.words.Laws.{keyword-says}
+use Rattle.lexing.proofs.blanks.Laws.{blanks-none}
+use Rattle.lexing.proofs.words.Laws.{keyword-says, key-differs}
 use Rattle.items.specs.members.{Access as AccessOf, access-privilege, access-entry, comma, separated-list0, access-list, Privileges as PrivilegesOf, granted-by, default-privileges, listed, attribute-access, Attribute as AttributeOf, parse-attribute-after-doc-maturity}
 use Rattle.lexing.specs.buffers.{each, words-bytes, put}
 use Rattle.items.specs.records.{plain, documented, field-record, attribute-records, absent, bits}
@@ -395,6 +396,13 @@ list-on = walks (chain-opt (chain-inside access-list-inside))
 pub access-absent : (l : Lost) {b : ℕ} {u : List ℕ} → lostReply l ≡ access-list b u → PrivilegesTo (Privileges 0 1 b) b u
 unfolding attribute-access default-privileges listed granted-by
 access-absent l {b} {u} e = record { reads = begin attribute-access b u (go _ (took list-on (rest-self b u) (calm-absent list-calm l e)) (done _ _ _ _)); within = first-small }
+
+-- no list begins with this byte
+pub access-elsewhere : {b : ℕ} {u : List ℕ} {x y : ℕ} → x ≡ getD u 0 0 → y ≡ lower x → slash < x → (y ≡ 0x61 → ⊥) → PrivilegesTo (Privileges 0 1 b) b u
+unfolding access-list
+access-elsewhere {b} {u} {x} {y} p q h n =
+    let missing = key-differs (ascii "access") b u 0 (omega arith) (λ o w. n (q ∙ ap lower p ∙ o)) in
+    access-absent (Fail b) (begin access-list b u (on _ (blank-took (rest-self b u) (blanks-none b u x p h)) (fall _ _ (Fail b) (rest-self b u) missing)))
 
 -- the definition's fold over the list
 abbrev granted : Grants → Parser PrivilegesOf

@@ -9,20 +9,27 @@ use Rattle.items.proofs.structs.Laws.{closed-field-on, struct-field-bet
 use mathlib.Core.Path.{refl}
 use native.Mathlib.Omega.{arith}
 use Rattle.lexing.specs.bytes.{ascii}
-use Rattle.lexing.proofs.Slicing.{rest-self, begin, go, on, lose, fall, done, set-took}
+use Rattle.lexing.specs.answers.{wordAt}
+use Rattle.lexing.proofs.Slicing.{rest-self, begin, go, on, lose, fall, done, set-took, keyword-took, step-lost}
 use Rattle.lexing.proofs.AnswerLaws.{read-lost, read-took}
-use Rattle.lexing.proofs.Pairs.{pair-on, pair-fall, closed-go, closed-lose}
-use Rattle.lexing.proofs.steps.Laws.{gap-at-took, keyword-behind-took, skips-lost}
+use Rattle.lexing.proofs.Pairs.{closed-go, closed-lose}
+use Rattle.lexing.proofs.steps.Laws.{blank-at-took, gap-at-took, skips-lost}
 use Rattle.items.specs.answers.attributes.{privilegesLost}
 
 keywords-set-requires : tie.Need-keywords-set-requires
 keywords-set-requires c κs = search needs
 
-slice-aggregate-keyword-behind : tie.Need-slice-aggregate-keyword-behind
-slice-aggregate-keyword-behind c = search needs
+blank-at-requires : tie.Need-blank-at-requires
+blank-at-requires c κs = let t = set-took (rest-self _ _) (c .keywords-set .ensures) in omega (arith, t .up, t .inside, c .before .before .pre)
 
-keyword-behind-requires : tie.Need-keyword-behind-requires
-keyword-behind-requires c κs = let t = set-took (rest-self _ _) (c .before .keywords-set .ensures) in omega (arith, t .up, t .inside, c .before .before .before .pre)
+rest-at-requires : tie.Need-rest-at-requires
+rest-at-requires c κs = let t = blank-at-took (c .blank-at .ensures) in omega (arith, t .up, t .inside, c .blank-at .ensures .at .from)
+
+slice-aggregate-keyword : tie.Need-slice-aggregate-keyword
+slice-aggregate-keyword c = search needs
+
+keyword-requires : tie.Need-keyword-requires
+keyword-requires c κs = omega (arith, c .before .rest-at .ensures .size, c .before .before .before .before .before .pre)
 
 enum-known-attribute : tie.Need-enum-known-attribute
 enum-known-attribute c = c .match .keys1
@@ -35,10 +42,10 @@ step-lost-requires c κs = tt
 
 returns : tie.Need-returns
 unfolding parse-attribute-after-doc-maturity closed-field
-returns c = attribute-not _ λ d m. (begin (parse-attribute-after-doc-maturity d m) _ _ (go _ (set-took (rest-self _ _) (c .before .before .before .before .before .keywords-set .ensures)) (pair-fall _ _ _ (c .step-lost .result) (c .before .before .before .keyword-behind .ensures .at) (skips-lost (c .step-lost .ensures) (c .before .enum-told .given .1) (c .before .before .before .keyword-behind .ensures)))))
+returns c = attribute-not _ λ d m. (begin (parse-attribute-after-doc-maturity d m) _ _ (go _ (set-took (rest-self _ _) (c .before .before .before .before .before .before .before .keywords-set .ensures)) (on _ (blank-at-took (c .before .before .before .before .before .before .blank-at .ensures)) (fall _ _ (c .step-lost .result) (c .before .before .before .before .before .rest-at .ensures) (step-lost (wordAt _ _) (c .step-lost .ensures) (c .before .enum-told .given .1) _ _ _ (c .before .before .before .keyword .ensures))))))
 
 gap-at-requires : tie.Need-gap-at-requires
-gap-at-requires c κs = let t = keyword-behind-took (ascii "attribute") (c .before .attribute .given .1) (c .before .before .before .keyword-behind .ensures) in omega (arith, t .up, t .inside, c .before .before .before .keyword-behind .ensures .at .from, c .before .before .before .before .before .before .before .pre)
+gap-at-requires c κs = let t = keyword-took (c .before .before .before .before .before .rest-at .ensures) (c .before .attribute .given .1) (ascii "attribute") (c .before .before .before .keyword .ensures) in omega (arith, t .up, t .inside, c .before .before .before .before .before .rest-at .ensures .from, c .before .before .before .before .before .before .before .before .before .pre)
 
 enum-known-gap : tie.Need-enum-known-gap
 enum-known-gap c = c .match2 .keys1
@@ -51,13 +58,13 @@ step-lost-requires-2 c κs = tt
 
 returns-2 : tie.Need-returns-2
 unfolding parse-attribute-after-doc-maturity closed-field
-returns-2 c = attribute-not _ λ d m. (begin (parse-attribute-after-doc-maturity d m) _ _ (go _ (set-took (rest-self _ _) (c .before .before .before .before .before .before .before .before .before .keywords-set .ensures)) (pair-on _ _ _ (keyword-behind-took (ascii "attribute") (c .before .before .before .before .before .attribute .given .1) (c .before .before .before .before .before .before .before .keyword-behind .ensures)) (fall _ _ (c .step-lost2 .result) (c .before .before .before .gap-at .ensures .at) (skips-lost (c .step-lost2 .ensures) (c .before .enum-told2 .given .1) (c .before .before .before .gap-at .ensures))))))
+returns-2 c = attribute-not _ λ d m. (begin (parse-attribute-after-doc-maturity d m) _ _ (go _ (set-took (rest-self _ _) (c .before .before .before .before .before .before .before .before .before .before .before .keywords-set .ensures)) (on _ (blank-at-took (c .before .before .before .before .before .before .before .before .before .before .blank-at .ensures)) (on _ (keyword-took (c .before .before .before .before .before .before .before .before .before .rest-at .ensures) (c .before .before .before .before .before .attribute .given .1) (ascii "attribute") (c .before .before .before .before .before .before .before .keyword .ensures)) (fall _ _ (c .step-lost2 .result) (c .before .before .before .gap-at .ensures .at) (skips-lost (c .step-lost2 .ensures) (c .before .enum-told2 .given .1) (c .before .before .before .gap-at .ensures)))))))
 
-rest-at-requires : tie.Need-rest-at-requires
-rest-at-requires c κs = let t = gap-at-took (c .before .gap .given .1) (c .before .before .before .gap-at .ensures) in omega (arith, t .up, t .inside, c .before .before .before .gap-at .ensures .at .from)
+rest-at-requires-2 : tie.Need-rest-at-requires-2
+rest-at-requires-2 c κs = let t = gap-at-took (c .before .gap .given .1) (c .before .before .before .gap-at .ensures) in omega (arith, t .up, t .inside, c .before .before .before .gap-at .ensures .at .from)
 
 attribute-access-requires : tie.Need-attribute-access-requires
-attribute-access-requires c κs = omega (arith, c .rest-at .ensures .size, c .before .before .before .before .before .before .before .before .before .before .before .before .pre)
+attribute-access-requires c κs = omega (arith, c .rest-at2 .ensures .size, c .before .before .before .before .before .before .before .before .before .before .before .before .before .before .pre)
 
 enum-known-access : tie.Need-enum-known-access
 enum-known-access c = c .match3 .keys1
@@ -70,13 +77,13 @@ privileges-lost-requires c κs = tt
 
 returns-3 : tie.Need-returns-3
 unfolding parse-attribute-after-doc-maturity closed-field
-returns-3 c = attribute-not _ λ d m. (begin (parse-attribute-after-doc-maturity d m) _ _ (go _ (set-took (rest-self _ _) (c .before .before .before .before .before .before .before .before .before .before .before .before .before .before .keywords-set .ensures)) (pair-on _ _ _ (keyword-behind-took (ascii "attribute") (c .before .before .before .before .before .before .before .before .before .before .attribute .given .1) (c .before .before .before .before .before .before .before .before .before .before .before .before .keyword-behind .ensures)) (on _ (gap-at-took (c .before .before .before .before .before .before .gap .given .1) (c .before .before .before .before .before .before .before .before .gap-at .ensures)) (lose _ _ (c .privileges-lost .result) (c .before .before .before .before .rest-at .ensures) (read-lost (c .before .before .before .attribute-access .ensures) (c .before .enum-told3 .given .1) privilegesLost (c .privileges-lost .ensures) refl))))))
+returns-3 c = attribute-not _ λ d m. (begin (parse-attribute-after-doc-maturity d m) _ _ (go _ (set-took (rest-self _ _) (c .before .before .before .before .before .before .before .before .before .before .before .before .before .before .before .before .keywords-set .ensures)) (on _ (blank-at-took (c .before .before .before .before .before .before .before .before .before .before .before .before .before .before .before .blank-at .ensures)) (on _ (keyword-took (c .before .before .before .before .before .before .before .before .before .before .before .before .before .before .rest-at .ensures) (c .before .before .before .before .before .before .before .before .before .before .attribute .given .1) (ascii "attribute") (c .before .before .before .before .before .before .before .before .before .before .before .before .keyword .ensures)) (on _ (gap-at-took (c .before .before .before .before .before .before .gap .given .1) (c .before .before .before .before .before .before .before .before .gap-at .ensures)) (lose _ _ (c .privileges-lost .result) (c .before .before .before .before .rest-at2 .ensures) (read-lost (c .before .before .before .attribute-access .ensures) (c .before .enum-told3 .given .1) privilegesLost (c .privileges-lost .ensures) refl)))))))
 
-rest-at-requires-2 : tie.Need-rest-at-requires-2
-rest-at-requires-2 c κs = let t = read-took (c .before .before .before .attribute-access .ensures) (c .before .access .given .1) attribute-access-onward (c .before .before .before .before .rest-at .ensures) refl in omega (arith, t .up, t .inside, c .before .before .before .before .rest-at .ensures .from)
+rest-at-requires-3 : tie.Need-rest-at-requires-3
+rest-at-requires-3 c κs = let t = read-took (c .before .before .before .attribute-access .ensures) (c .before .access .given .1) attribute-access-onward (c .before .before .before .before .rest-at2 .ensures) refl in omega (arith, t .up, t .inside, c .before .before .before .before .rest-at2 .ensures .from)
 
 closed-field-requires : tie.Need-closed-field-requires
-closed-field-requires c κs = omega (arith, c .rest-at2 .ensures .size, c .before .before .before .before .before .before .before .before .before .before .before .before .before .before .before .before .before .pre)
+closed-field-requires c κs = omega (arith, c .rest-at3 .ensures .size, c .before .before .before .before .before .before .before .before .before .before .before .before .before .before .before .before .before .before .before .pre)
 
 enum-known-r : tie.Need-enum-known-r
 enum-known-r c = c .match4 .keys1
@@ -89,19 +96,21 @@ struct-field-lost-requires c κs = tt
 
 returns-4 : tie.Need-returns-4
 unfolding parse-attribute-after-doc-maturity closed-field
-returns-4 c = attribute-not _ λ d m. (begin (parse-attribute-after-doc-maturity d m) _ _ (go _ (set-took (rest-self _ _) (c .before .before .before .before .before .before .before .before .before .before .before .before .before .before .before .before .before .before .before .keywords-set .ensures)) (pair-on _ _ _ (keyword-behind-took (ascii "attribute") (c .before .before .before .before .before .before .before .before .before .before .before .before .before .before .before .attribute .given .1) (c .before .before .before .before .before .before .before .before .before .before .before .before .before .before .before .before .before .keyword-behind .ensures)) (on _ (gap-at-took (c .before .before .before .before .before .before .before .before .before .before .before .gap .given .1) (c .before .before .before .before .before .before .before .before .before .before .before .before .before .gap-at .ensures)) (go _ (read-took (c .before .before .before .before .before .before .before .before .attribute-access .ensures) (c .before .before .before .before .before .before .access .given .1) attribute-access-onward (c .before .before .before .before .before .before .before .before .before .rest-at .ensures) refl) (closed-lose _ _ _ _ _ (c .struct-field-lost .result) (c .before .before .before .before .rest-at2 .ensures) (struct-field-none closed-field-on (c .before .before .before .before .rest-at2 .ensures) (c .before .before .before .closed-field .ensures) (c .struct-field-lost .ensures) (c .before .enum-told4 .given .1))))))))
+returns-4 c = attribute-not _ λ d m. (begin (parse-attribute-after-doc-maturity d m) _ _ (go _ (set-took (rest-self _ _) (c .before .before .before .before .before .before .before .before .before .before .before .before .before .before .before .before .before .before .before .before .before .keywords-set .ensures)) (on _ (blank-at-took (c .before .before .before .before .before .before .before .before .before .before .before .before .before .before .before .before .before .before .before .before .blank-at .ensures)) (on _ (keyword-took (c .before .before .before .before .before .before .before .before .before .before .before .before .before .before .before .before .before .before .before .rest-at .ensures) (c .before .before .before .before .before .before .before .before .before .before .before .before .before .before .before .attribute .given .1) (ascii "attribute") (c .before .before .before .before .before .before .before .before .before .before .before .before .before .before .before .before .before .keyword .ensures)) (on _ (gap-at-took (c .before .before .before .before .before .before .before .before .before .before .before .gap .given .1) (c .before .before .before .before .before .before .before .before .before .before .before .before .before .gap-at .ensures)) (go _ (read-took (c .before .before .before .before .before .before .before .before .attribute-access .ensures) (c .before .before .before .before .before .before .access .given .1) attribute-access-onward (c .before .before .before .before .before .before .before .before .before .rest-at2 .ensures) refl) (closed-lose _ _ _ _ _ (c .struct-field-lost .result) (c .before .before .before .before .rest-at3 .ensures) (struct-field-none closed-field-on (c .before .before .before .before .rest-at3 .ensures) (c .before .before .before .closed-field .ensures) (c .struct-field-lost .ensures) (c .before .enum-told4 .given .1)))))))))
 
 returns-5 : tie.Need-returns-5
 unfolding parse-attribute-after-doc-maturity closed-field
-returns-5 c = attribute-is (let w = struct-field-between closed-field-on (c .before .before .before .before .rest-at2 .ensures) (c .before .before .before .closed-field .ensures) (c .before .r .given .1) in record { flags = fits 4 (c .before .before .before .before .before .before .before .before .before .before .before .before .before .before .before .before .before .before .before .keywords-set .ensures); privileges = privileges-small (c .before .before .before .before .before .before .before .before .attribute-access .ensures) (c .before .before .before .before .before .before .access .given .1); field = record { between = between-wider (c .before .before .before .before .rest-at2 .ensures .from) (omega arith) (w .between); few-maturities = w .few-maturities; few-flags = w .few-flags } }) λ d m. (begin (parse-attribute-after-doc-maturity d m) _ _ (go _ (set-took (rest-self _ _) (c .before .before .before .before .before .before .before .before .before .before .before .before .before .before .before .before .before .before .before .keywords-set .ensures)) (pair-on _ _ _ (keyword-behind-took (ascii "attribute") (c .before .before .before .before .before .before .before .before .before .before .before .before .before .before .before .attribute .given .1) (c .before .before .before .before .before .before .before .before .before .before .before .before .before .before .before .before .before .keyword-behind .ensures)) (on _ (gap-at-took (c .before .before .before .before .before .before .before .before .before .before .before .gap .given .1) (c .before .before .before .before .before .before .before .before .before .before .before .before .before .gap-at .ensures)) (go _ (read-took (c .before .before .before .before .before .before .before .before .attribute-access .ensures) (c .before .before .before .before .before .before .access .given .1) attribute-access-onward (c .before .before .before .before .before .before .before .before .before .rest-at .ensures) refl) (closed-go _ _ _ _ _ (struct-field-took closed-field-on (c .before .before .before .before .rest-at2 .ensures) (c .before .before .before .closed-field .ensures) (c .before .r .given .1)) (done _ _ _ _)))))))
+returns-5 c = attribute-is (let w = struct-field-between closed-field-on (c .before .before .before .before .rest-at3 .ensures) (c .before .before .before .closed-field .ensures) (c .before .r .given .1) in record { flags = fits 4 (c .before .before .before .before .before .before .before .before .before .before .before .before .before .before .before .before .before .before .before .before .before .keywords-set .ensures); privileges = privileges-small (c .before .before .before .before .before .before .before .before .attribute-access .ensures) (c .before .before .before .before .before .before .access .given .1); field = record { between = between-wider (c .before .before .before .before .rest-at3 .ensures .from) (omega arith) (w .between); few-maturities = w .few-maturities; few-flags = w .few-flags } }) λ d m. (begin (parse-attribute-after-doc-maturity d m) _ _ (go _ (set-took (rest-self _ _) (c .before .before .before .before .before .before .before .before .before .before .before .before .before .before .before .before .before .before .before .before .before .keywords-set .ensures)) (on _ (blank-at-took (c .before .before .before .before .before .before .before .before .before .before .before .before .before .before .before .before .before .before .before .before .blank-at .ensures)) (on _ (keyword-took (c .before .before .before .before .before .before .before .before .before .before .before .before .before .before .before .before .before .before .before .rest-at .ensures) (c .before .before .before .before .before .before .before .before .before .before .before .before .before .before .before .attribute .given .1) (ascii "attribute") (c .before .before .before .before .before .before .before .before .before .before .before .before .before .before .before .before .before .keyword .ensures)) (on _ (gap-at-took (c .before .before .before .before .before .before .before .before .before .before .before .gap .given .1) (c .before .before .before .before .before .before .before .before .before .before .before .before .before .gap-at .ensures)) (go _ (read-took (c .before .before .before .before .before .before .before .before .attribute-access .ensures) (c .before .before .before .before .before .before .access .given .1) attribute-access-onward (c .before .before .before .before .before .before .before .before .before .rest-at2 .ensures) refl) (closed-go _ _ _ _ _ (struct-field-took closed-field-on (c .before .before .before .before .rest-at3 .ensures) (c .before .before .before .closed-field .ensures) (c .before .r .given .1)) (done _ _ _ _))))))))
 
 pub parse-attribute-after-doc-maturity-spec : {M : Type 1} → statement M
 parse-attribute-after-doc-maturity-spec =
     tie.close
     (tie.spec
     keywords-set-requires
-    slice-aggregate-keyword-behind
-    keyword-behind-requires
+    blank-at-requires
+    rest-at-requires
+    slice-aggregate-keyword
+    keyword-requires
     enum-known-attribute
     enum-told
     step-lost-requires
@@ -111,13 +120,13 @@ parse-attribute-after-doc-maturity-spec =
     enum-told-2
     step-lost-requires-2
     returns-2
-    rest-at-requires
+    rest-at-requires-2
     attribute-access-requires
     enum-known-access
     enum-told-3
     privileges-lost-requires
     returns-3
-    rest-at-requires-2
+    rest-at-requires-3
     closed-field-requires
     enum-known-r
     enum-told-4
