@@ -6,7 +6,7 @@ ghost use Rattle.lexing.specs.word_sets.{same-bytes};
 ghost use Rattle.lexing.specs.buffers.{from-big-endian};
 ghost use Rattle.items.specs.layout.{words-of-kind, text-limit};
 ghost use Rattle.matter_idl.specs.inner.bits.{bits-size};
-ghost use Rattle.matter_idl.specs.inner.hoisting.{NameIn, word-hits, word-hash, is-unmarked, Catalogue, HeldTo, KnownTo, Marking, MarkedTo, Unhoisted, HoistedTo};
+ghost use Rattle.matter_idl.specs.inner.hoisting.{NameIn, word-hits, word-hash, is-unmarked, Catalogue, HeldTo, KnownTo, Marking, MarkedTo, MayMark, Unhoisted, HoistedTo};
 use crate::filter::add;
 use crate::filter::hash_of;
 use crate::filter::may_hold;
@@ -174,6 +174,41 @@ fn mark_record(text: &[u8], out: &mut [u8], filter: &mut [u8], start: usize, at:
     put_word(out, at, w + 0x40_0000_0000_0000);
 }
 
+// Whether a record whose first two bytes are these can be a type's or has a mark: no other record gets a mark or joins the filter.
+fn may_mark(kind: u8, second: u8) -> bool
+    ensures { λ r. ⌜ MayMark r kind second ⌝ }
+{
+    if 64 <= second {
+        return true;
+    }
+    if kind == 5 {
+        return true;
+    }
+    if kind == 2 {
+        return true;
+    }
+    if kind == 3 {
+        return true;
+    }
+    false
+}
+
+// Marks the record at an offset, and gives its kind. Most records are none of a type, which their first two bytes tell.
+fn mark_at(text: &[u8], out: &mut [u8], filter: &mut [u8], start: usize, at: usize) -> u8
+    requires { ⌜ length (now text) ≤ text-limit ⌝ }
+    requires { ⌜ Marking (now text) (now out) (now filter) start at (from-big-endian (take 8 (drop at (now out)))) ⌝ }
+    ensures { λ _. ⌜ MarkedTo (now (out .exit)) (now (filter .exit)) (now (text .entry)) (now (out .entry)) (now (filter .entry)) start at (from-big-endian (take 8 (drop at (now (out .entry))))) ⌝ }
+    ensures { λ r. ⌜ r ≡ from-big-endian (take 8 (drop at (now (out .entry)))) / 2 ^ 56 ⌝ }
+{
+    let kind = out[at];
+    if !may_mark(kind, out[at + 1]) {
+        return kind;
+    }
+    let w = word_at(out, at);
+    mark_record(text, out, filter, start, at, w);
+    kind
+}
+
 // Marks the types of an item whose records stand from start to end, behind those of the items before.
 pub fn mark_item(text: &[u8], out: &mut [u8], filter: &mut [u8], start: usize, end: usize)
     requires { ⌜ length (now text) ≤ text-limit ⌝ }
@@ -182,8 +217,7 @@ pub fn mark_item(text: &[u8], out: &mut [u8], filter: &mut [u8], start: usize, e
 {
     let mut at = start;
     while at < end {
-        let w = word_at(out, at);
-        mark_record(text, out, filter, start, at, w);
-        at += 8 * words_of((w / 0x100_0000_0000_0000) as u8);
+        let kind = mark_at(text, out, filter, start, at);
+        at += 8 * words_of(kind);
     }
 }

@@ -1,6 +1,6 @@
 -- Laws of the functions of hoisting.
 use Prim.Native.Nat.{ℕ, zero, suc, _+_, _-_, _*_, _^_, _/_, _%_, _≤_, _<_}
-use mathlib.Core.Path.{_≡_, refl, sym, _∙_, ap}
+use mathlib.Core.Path.{_≡_, refl, sym, _∙_, ap, subst}
 use mathlib.Core.Bool.{Bool, true, false, _&&_, _||_}
 use mathlib.Core.List.{List, [], _∷_}
 use native.Mathlib.Omega.{arith}
@@ -14,7 +14,7 @@ use Rattle.lexing.specs.word_sets.{same-bytes}
 use Rattle.items.specs.records.{at, Record, further-of-kind}
 use Rattle.items.specs.layout.{offset, size, words-of-kind, text-limit}
 use Rattle.lexing.specs.buffers.{from-big-endian}
-use Rattle.matter_idl.specs.inner.hoisting.{NameIn, word-hits, Catalogue, flags-shared, is-unmarked}
+use Rattle.matter_idl.specs.inner.hoisting.{NameIn, word-hits, Catalogue, flags-shared, is-unmarked, MayMark}
 use Rattle.matter_idl.specs.hoisting.{bytes-at, hits, found}
 use Rattle.matter_idl.proofs.hoisting.Walk.{Walk, FirstOf, kind-of, place-of, offset-of, size-of, walk-first, walk-next, Standing, stands-room, stands-inside, walk-stands, walk-over}
 use Rattle.matter_idl.proofs.hoisting.Search.{and-nil}
@@ -152,6 +152,17 @@ module _ (k p f : ℕ) where
   pub unmarked-place : is-unmarked k p f ≡ true → p ≡ 0
   unfolding is-unmarked
   unmarked-place h = eqb-true p 0 (both (eqb p 0) (flags-shared k f) h .0)
+
+-- a record that can be none of a type, by its first two bytes
+module _ (l : List ℕ) (bytes : (i : ℕ) → getD l i 0 < 256) (i : ℕ) (room : i + 8 ≤ length l) (r : Bool) (h : MayMark r (getD l i 0) (getD l (i + 1) 0)) (e : r ≡ false) where
+  none-of : MayMark false (getD l i 0) (getD l (i + 1) 0)
+  none-of = subst (λ (b : Bool). MayMark b (getD l i 0) (getD l (i + 1) 0)) e h
+
+  pub other-placed : from-big-endian (take 8 (drop i l)) / 2 ^ 54 % 2 ^ 2 ≡ 0
+  other-placed = omega (arith, none-of .0, word-at-is l i room, bytes (i + 7), bytes (i + 6), bytes (i + 5), bytes (i + 4), bytes (i + 3), bytes (i + 2), bytes (i + 1))
+
+  pub other-unmarked : (f : ℕ) → false ≡ is-unmarked (from-big-endian (take 8 (drop i l)) / 2 ^ 56) (from-big-endian (take 8 (drop i l)) / 2 ^ 54 % 2 ^ 2) f
+  other-unmarked f = let k = kind-byte l bytes i room in unmarked-other _ _ f other-placed (λ q. none-of .1 .0 (k ∙ q)) (λ q. none-of .1 .1 .0 (k ∙ q)) (λ q. none-of .1 .1 .1 (k ∙ q))
 
 -- the search: no record before p hits
 module _ (t : List ℕ) (k : ℕ) (i : List ℕ) {out : List ℕ} {end : ℕ} where

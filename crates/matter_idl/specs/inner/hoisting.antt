@@ -1,5 +1,5 @@
 -- Hoisting by a search of the records before: what it finds, and what it does to a record.
-use Prim.Native.Nat.{ℕ, _+_, _*_, _^_, _/_, _%_, _≤_}
+use Prim.Native.Nat.{ℕ, _+_, _*_, _^_, _/_, _%_, _≤_, _<_}
 use mathlib.Core.Path.{_≡_}
 use mathlib.Core.Bool.{Bool, true, false, _&&_, _||_}
 use mathlib.Core.List.{List, [], _∷_, _++_}
@@ -85,6 +85,11 @@ pub record Marked {t out f : List ℕ} {start p w : ℕ} (m : Marking t out f st
 
 abbrev pub MarkedTo : (new filter t out f : List ℕ) → (start p w : ℕ) → Type 0
 MarkedTo new filter t out f start p w = (m : Marking t out f start p w) → Marked m new filter
+
+-- by its first two bytes, its kind and one with its place in the two highest bits, a record is of no type and has no mark
+abbrev pub MayMark : Bool → ℕ → ℕ → Type 0
+MayMark true k s = Unit {0}
+MayMark false k s = (s < 2 ^ 6) × ((k ≡ 5 → ⊥) × ((k ≡ 2 → ⊥) × (k ≡ 3 → ⊥)))
 
 -- an item's records as they were written, from start to end, behind the hoisted ones of the items before, whose ids the filter f has
 pub record Unhoisted (t out f : List ℕ) (start end : ℕ) : Type 0 where
