@@ -5,7 +5,7 @@ use mathlib.Core.Bool.{Bool, true, false}
 use Prim.Native.Nat.{ℕ, zero, suc, _+_, _≤_, _<_, zero-le}
 use native.Mathlib.Omega.{arith}
 use native.Mathlib.Numerals.{add-one}
-use native.Mathlib.Nat.{add-zero}
+use native.Mathlib.Nat.{zero-add, add-zero}
 use lib.ListN.{length, drop, take, getD, drop-of-length-le}
 use lib.Seq.{drop-cons, getD-drop, getD-take}
 use Rattle.lexing.specs.bytes.{takeWhile, dropWhile}
@@ -89,6 +89,9 @@ module _ (f : ℕ → Bool) (u : List ℕ) (i : ℕ) (h : RunAt f u i) where
       let e : length (takeWhile f (drop i u)) ≡ suc (length (takeWhile f (drop (i + 1) u))) = rw (add-one, drop-cons u i 0) (ap length (run-cons f (getD u i 0) (drop (suc i) u) t)) in
       record { inside = omega arith; left = omega (arith, e, h .left) }
 
+  pub runs-le : i ≤ length (takeWhile f u)
+  runs-le = omega (arith, h .left)
+
   pub runs-stop : i < length u → f (getD u i 0) ≡ false → i ≡ length (takeWhile f u)
   runs-stop lt t =
       let e : length (takeWhile f (drop i u)) ≡ 0 = rw (drop-cons u i 0) (ap length (run-none f (getD u i 0) (drop (suc i) u) t)) in
@@ -98,3 +101,14 @@ module _ (f : ℕ → Bool) (u : List ℕ) (i : ℕ) (h : RunAt f u i) where
   runs-out le =
       let e : length (takeWhile f (drop i u)) ≡ 0 = rw (drop-of-length-le u le) (ap length (run-nil f)) in
       omega (arith, e, h .left)
+
+-- n bytes that pass, at once
+pub runs-on : (f : ℕ → Bool) (u : List ℕ) (i : ℕ) → RunAt f u i → (n : ℕ) → i + n ≤ length u → ((j : ℕ) → j < n → f (getD u (i + j) 0) ≡ true) → RunAt f u (i + n)
+runs-on f u i h zero le t = let z : i + 0 ≡ i = omega arith in rw z h
+runs-on f u i h (suc n) le t =
+    let z : i + n + 1 ≡ i + suc n = omega arith in
+    rw z at (runs-more f u (i + n) (runs-on f u i h n (omega arith) (λ j q. t j (omega arith))) (omega arith) (t n (omega arith)))
+
+-- a scan may start inside the run
+pub runs-from : (f : ℕ → Bool) (u : List ℕ) (n : ℕ) → n ≤ length (takeWhile f u) → RunAt f u n
+runs-from f u n h = rw zero-add at (runs-on f u 0 (runs-start f u) n (omega (arith, run-le f u)) (λ j q. rw zero-add (run-passes f u j (omega arith))))

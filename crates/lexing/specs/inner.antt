@@ -1,5 +1,6 @@
 -- What private functions promise. No public contract rests on it.
 pub mod blanks
+pub mod eights
 pub mod integers
 pub mod strings
 pub mod unescaping

@@ -4,6 +4,7 @@ pub mod answers;
 pub mod blanks;
 pub mod buffers;
 pub mod bytes;
+mod eights;
 pub mod integers;
 pub mod names;
 pub mod optional;

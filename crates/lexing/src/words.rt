@@ -11,15 +11,32 @@ use crate::answers::Lost;
 use crate::answers::Step;
 use crate::bytes::is_between;
 use crate::bytes::is_digit;
-use crate::bytes::is_letter;
 use crate::bytes::is_word;
+use crate::eights::eight_at;
+use crate::eights::non_letters;
 use crate::parts::peek;
 
-// How many bytes of a word stand at the front.
-fn word_length(part: &[u8]) -> usize
-    ensures { λ r. ⌜ r ≡ length (takeWhile isWord (now (part .entry))) ⌝ }
+// How many letters stand at the front, counted eight at a time; bytes of a word may follow.
+fn letters(part: &[u8]) -> usize
+    ensures { λ r. ⌜ r ≤ length (takeWhile isWord (now (part .entry))) ⌝ }
 {
     let mut i = 0;
+    while 8 <= part.len() - i {
+        let m = non_letters(eight_at(part, i));
+        if m != 0 {
+            return i + (u64::trailing_zeros(m) / 8) as usize;
+        }
+        i += 8;
+    }
+    i
+}
+
+// How many bytes of a word stand at the front, where the first n are such bytes.
+fn word_tail(part: &[u8], n: usize) -> usize
+    requires { ⌜ n ≤ length (takeWhile isWord (now part)) ⌝ }
+    ensures { λ r. ⌜ r ≡ length (takeWhile isWord (now (part .entry))) ⌝ }
+{
+    let mut i = n;
     while i < part.len() {
         if !is_word(part[i]) {
             return i;
@@ -29,15 +46,25 @@ fn word_length(part: &[u8]) -> usize
     i
 }
 
+// How many bytes of a word stand at the front.
+fn word_length(part: &[u8]) -> usize
+    ensures { λ r. ⌜ r ≡ length (takeWhile isWord (now (part .entry))) ⌝ }
+{
+    word_tail(part, letters(part))
+}
+
 pub fn parse_id(part: &[u8], base: usize) -> Step
     requires { ⌜ base + length (now part) ≤ u64-max ⌝ }
     ensures { λ r. ⌜ wordReply r base (now (part .entry)) ≡ parse-id base (now (part .entry)) ⌝ }
 {
-    if is_letter(peek(part, 0)) {
-        let n = word_length(part);
-        return Step::Next(base + n);
+    let size = word_length(part);
+    if size == 0 {
+        return Step::Not(Lost::Fail(base));
     }
-    Step::Not(Lost::Fail(base))
+    if is_digit(part[0]) {
+        return Step::Not(Lost::Fail(base));
+    }
+    Step::Next(base + size)
 }
 
 // Where the first n bytes are those of a word: the offset behind them, if the word ends there.

@@ -3,8 +3,9 @@ use mathlib.Core.Path.{_≡_, refl, sym, ap, _∙_}
 use mathlib.Core.List.{List, [], _∷_}
 use mathlib.Core.Bool.{Bool, true, false, false≢true}
 use mathlib.Core.Logic.{_⊎_, inl, inr}
-use Prim.Native.Nat.{ℕ, zero, suc, _+_, _-_, _≤_, _<_, zero-le}
+use Prim.Native.Nat.{ℕ, zero, suc, _+_, _-_, _/_, _≤_, _<_, zero-le}
 use native.Mathlib.Omega.{arith}
+use lib.Count.{trailingZeros, trailing-le, trailing-of-zero}
 use lib.Dec.{eqb, ltb}
 use lib.ListN.{length, drop, getD}
 use borrow.Author.Count.{below-none, below-more}
@@ -13,8 +14,10 @@ use Rattle.lexing.specs.bytes.{within, isLetter, isDigit, isWord, lower,
 use Rattle.lexing.specs.reply.{Reply, ok, fail, stop, ret, _>>=_, position, failAt, pick}
 use Rattle.lexing.specs.words.{Word, word, bytesOf, parse-id, isKeyword, keyword, tag}
 use Rattle.lexing.specs.answers.{wordAt}
+use Rattle.lexing.specs.inner.eights.{pack, byteAt, bytesFrom, noLetter}
 use Rattle.lexing.specs.inner.words.{isKeyByte, Agree, KeyAt, HasKey, word-of}
-use Rattle.lexing.proofs.Scans.{take-run, drop-run, run-cons, run-le, run-byte, run-stops, run-passes}
+use Rattle.lexing.proofs.Scans.{take-run, drop-run, run-cons, run-le, run-byte, run-stops, run-passes, RunAt, runs-on, runs-le}
+use Rattle.lexing.proofs.eights.Laws.{Bytes, letters-pass}
 use Rattle.lexing.proofs.Tests.{eq-of, and-left, and-right, false-if, within-of, digit-no-letter}
 
 letter-word : (x : ℕ) → isLetter x ≡ true → isWord x ≡ true
@@ -24,6 +27,17 @@ letter-word x e = rw e
 pub no-letter : isLetter 0 ≡ false
 unfolding isLetter within
 no-letter = refl
+
+-- the letters at the front of eight bytes, told by the number of the bytes
+module _ (u : List ℕ) (i w m : ℕ) (b : Bytes (λ j. getD u j 0)) (e : w ≡ pack 8 (bytesFrom u i)) (d : m ≡ pack 8 (λ j. noLetter (byteAt w j))) (le : i + 8 ≤ length u) (r : RunAt isWord u i) where
+  letters-at : RunAt isWord u (i + trailingZeros 64 m / 8)
+  letters-at = runs-on isWord u i r (trailingZeros 64 m / 8) (omega (arith, trailing-le 64 m)) (letters-pass u i w m b e d)
+
+  pub letters-some : i + trailingZeros 64 m / 8 ≤ length (takeWhile isWord u)
+  letters-some = runs-le isWord u (i + trailingZeros 64 m / 8) letters-at
+
+  pub letters-all : m ≡ 0 → RunAt isWord u (i + 8)
+  letters-all z = let n : trailingZeros 64 m / 8 ≡ 8 = omega (arith, ap (trailingZeros 64) z ∙ trailing-of-zero 64) in rw n at letters-at
 
 -- words
 parse-id-run : (b : ℕ) (u : List ℕ) → isLetter (getD u 0 0) ≡ true → parse-id b u ≡ ok (word b (takeWhile isWord u)) (b + length (takeWhile isWord u)) (dropWhile isWord u)
@@ -35,10 +49,10 @@ parse-id-run b (x ∷ u) e = rw (e, parse-id) (rw (run-cons isWord x u (letter-w
 run-answer : (b n : ℕ) (u : List ℕ) → n ≡ length (takeWhile isWord u) → ok (wordAt b u (b + n)) (b + n) (drop (b + n - b) u) ≡ ok (word b (takeWhile isWord u)) (b + length (takeWhile isWord u)) (dropWhile isWord u)
 run-answer b n u e = let z : b + n - b ≡ n = omega arith in rw (z, e) (rw (take-run isWord u, drop-run isWord u))
 
-pub parse-id-yes : (b : ℕ) (u : List ℕ) (n : ℕ) → isLetter (getD u 0 0) ≡ true → n ≡ length (takeWhile isWord u) → ok (wordAt b u (b + n)) (b + n) (drop (b + n - b) u) ≡ parse-id b u
+parse-id-yes : (b : ℕ) (u : List ℕ) (n : ℕ) → isLetter (getD u 0 0) ≡ true → n ≡ length (takeWhile isWord u) → ok (wordAt b u (b + n)) (b + n) (drop (b + n - b) u) ≡ parse-id b u
 parse-id-yes b u n e h = run-answer b n u h ∙ sym (parse-id-run b u e)
 
-pub parse-id-no : (b : ℕ) (u : List ℕ) → isLetter (getD u 0 0) ≡ false → fail b ≡ parse-id b u
+parse-id-no : (b : ℕ) (u : List ℕ) → isLetter (getD u 0 0) ≡ false → fail b ≡ parse-id b u
 unfolding parse-id
 parse-id-no b [] e = refl
 parse-id-no b (x ∷ u) e = rw (e, parse-id)
@@ -240,6 +254,16 @@ run-shorter u n e = go (ltb n (length (takeWhile isWord u))) refl
     go : (t : Bool) → ltb n (length (takeWhile isWord u)) ≡ t → length (takeWhile isWord u) ≤ n
     go true q = absurd (false≢true (sym e ∙ run-passes isWord u n (ltb-true _ _ q)))
     go false q = ltb-false _ _ q
+
+-- a word by the length of the run
+pub parse-id-empty : (b n : ℕ) (u : List ℕ) → n ≡ length (takeWhile isWord u) → n ≡ 0 → fail b ≡ parse-id b u
+parse-id-empty b n u h z = parse-id-no b u (false-if _ (λ e. omega (arith, run-longer u 0 zero-le (letter-word _ e))))
+
+pub parse-id-digit : (b : ℕ) (u : List ℕ) → isDigit (getD u 0 0) ≡ true → fail b ≡ parse-id b u
+parse-id-digit b u d = parse-id-no b u (digit-no-letter _ d)
+
+pub parse-id-some : (b n : ℕ) (u : List ℕ) → n ≡ length (takeWhile isWord u) → (n ≡ 0 → ⊥) → isDigit (getD u 0 0) ≡ false → ok (wordAt b u (b + n)) (b + n) (drop (b + n - b) u) ≡ parse-id b u
+parse-id-some b n u h some d = parse-id-yes b u n (word-letter _ (run-passes isWord u 0 (omega arith)) d) h
 
 -- the comparison
 pub key-start : (k u : List ℕ) → length k ≤ length u → KeyAt k u 0

@@ -1,21 +1,21 @@
 use borrow.Author.Needs.{needs}
-use Rattle.lexing.proofs.words.word_length.Statement.{statement}
-use Rattle.lexing.proofs.words.word_length.Tie as tie
+use Rattle.lexing.proofs.words.word_tail.Statement.{statement}
+use Rattle.lexing.proofs.words.word_tail.Tie as tie
 use borrow.Author.Tests.{not-true, not-false}
 use mathlib.Core.Path.{sym, _∙_}
 use Prim.Native.Nat.{_-_}
 use lib.ListN.{length}
 use Rattle.lexing.specs.bytes.{isWord}
-use Rattle.lexing.proofs.Scans.{RunAt, runs-start, runs-more, runs-stop, runs-out}
+use Rattle.lexing.proofs.Scans.{RunAt, runs-from, runs-more, runs-stop, runs-out}
 
 abbrev Inv-loop : tie.InvT-loop
-Inv-loop part i₀ i = RunAt isWord part i
+Inv-loop part n i₀ i = RunAt isWord part i
 
 abbrev μ-loop : tie.MeasureT-loop
-μ-loop part i₀ i = length part - i
+μ-loop part n i₀ i = length part - i
 
 loop-holds : tie.Need-loop-holds Inv-loop μ-loop
-loop-holds c = runs-start _ _
+loop-holds c = runs-from _ _ _ (c .before .pre)
 
 shared-slice-read-is-word : tie.Need-shared-slice-read-is-word Inv-loop μ-loop
 shared-slice-read-is-word c = search needs
@@ -38,8 +38,8 @@ loop-again c = runs-more _ _ _ (c .before .before .before .before .loop .inv) (c
 returns-2 : tie.Need-returns-2 Inv-loop μ-loop
 returns-2 c = runs-out _ _ _ (c .before .loop .inv) (c .loop-test .left)
 
-pub word-length-spec : {M : Type 1} → statement M
-word-length-spec =
+pub word-tail-spec : {M : Type 1} → statement M
+word-tail-spec =
     tie.close
     (tie.spec
     Inv-loop

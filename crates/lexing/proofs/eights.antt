@@ -1,0 +1,2 @@
+-- Laws of numbers by their bytes.
+pub mod Laws
