@@ -270,9 +270,9 @@ fn more_blanks(part: &[u8], base: usize, from: usize) -> Blank
     }
 }
 
-// Any number of blanks, with a comment or white space at the front. It is called at two places, so that it stays a function of its own and what is left of
-// `whitespace0` is short.
-fn blank_run(part: &[u8], base: usize) -> Blank
+// Any number of blanks, without a test for the common cases first. It is called at several places, so that it stays a function of its own and what is left
+// of its callers, `whitespace0` and the steps behind blanks, is short.
+pub fn blank_run(part: &[u8], base: usize) -> Blank
     requires { ⌜ base + length (now part) ≤ u64-max ⌝ }
     ensures { λ r. ⌜ BlankTo r base (now (part .entry)) ⌝ }
 {

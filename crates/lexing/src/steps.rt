@@ -8,19 +8,29 @@ ghost use Rattle.lexing.specs.declared.answers.Step.the-variants.{Next};
 ghost use Rattle.lexing.specs.answers.{Skips, BlankAt, SkipsAt, NumberAt, behind-blanks};
 use crate::answers::Lost;
 use crate::answers::Step;
-use crate::blanks::whitespace0;
+use crate::blanks::blank_run;
 use crate::integers::Number;
 use crate::integers::positive_integer;
+use crate::parts::peek;
 use crate::parts::rest_at;
 use crate::words::keyword;
 use crate::words::tag;
 
-// The offset behind the blanks at the front.
+// The offset behind the blanks at the front. It is `whitespace0` without the doc comment: most calls need no more than the offset, and so no struct.
 fn blank_end(part: &[u8], base: usize) -> usize
     requires { ⌜ base + length (now part) ≤ u64-max ⌝ }
     ensures { λ r. ⌜ Skips whitespace0 (Next r) base (now (part .entry)) ⌝ }
 {
-    let w = whitespace0(part, base);
+    let x = peek(part, 0);
+    if b'/' < x {
+        return base;
+    }
+    if x == b' ' {
+        if b'/' < peek(part, 1) {
+            return base + 1;
+        }
+    }
+    let w = blank_run(part, base);
     w.next
 }
 

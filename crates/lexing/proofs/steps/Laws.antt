@@ -29,6 +29,10 @@ blank-on = walks whitespace0-chain
 pub blank-bounds : {n b : ℕ} {u : List ℕ} → Skips whitespace0 (Next n) b u → (b ≤ n) × (n ≤ b + length u)
 blank-bounds {n} {b} {u} h = let t = skip-took blank-on (rest-self b u) refl h in (t .up, t .inside)
 
+-- a run of blanks, for its offset
+pub blank-skips : {t : Blank} {b : ℕ} {u : List ℕ} → BlankTo t b u → Skips whitespace0 (Next (t .next)) b u
+blank-skips {t} h = record { value = docOf (t .doc); reads = h .reads }
+
 module _ {b c : ℕ} {u r : List ℕ} (q : Rest b u c r) where
   rest-here : Rest b u c (drop (c - b) u)
   rest-here = record { from = q .from; same = refl; size = ap (λ v. c + length v) (sym (q .same)) ∙ q .size }
@@ -40,7 +44,7 @@ module _ {b c : ℕ} {u r : List ℕ} (q : Rest b u c r) where
   blank-skipped h = skips-at h
 
   pub blank-is : {t : Blank} → BlankTo t c r → BlankAt (t .next) b u c
-  blank-is {t} h = skips-at (record { value = docOf (t .doc); reads = h .reads })
+  blank-is h = skips-at (blank-skips h)
 
   module _ {n : ℕ} (h : Skips whitespace0 (Next n) c r) where
     pub gap-is : (n ≡ c → ⊥) → SkipsAt whitespace1 (Next n) b u c
