@@ -181,7 +181,11 @@ pub fn code_at(part: &[u8], base: usize, c: usize) -> Number
     let Step::Next(c1) = equals else {
         return Number::NoNumber(step_lost(equals));
     };
-    integer_behind(part, base, c1)
+    let number = integer_behind(part, base, c1);
+    let Number::Value(v, c2) = number else {
+        return Number::NoNumber(number_lost(number));
+    };
+    Number::Value(v, c2)
 }
 
 // The same behind blanks.

@@ -3,9 +3,8 @@ ghost use Prim.Native.Nat.{_+_, _≤_};
 ghost use lib.ListN.{length};
 ghost use Rattle.lexing.specs.integers.{u64-max, positive-integer};
 ghost use Rattle.lexing.specs.words.{tag, keyword};
-ghost use Rattle.lexing.specs.blanks.{whitespace0, whitespace1};
-ghost use Rattle.lexing.specs.declared.answers.Step.the-variants.{Next};
-ghost use Rattle.lexing.specs.answers.{Skips, BlankAt, SkipsAt, NumberAt, behind-blanks};
+ghost use Rattle.lexing.specs.blanks.{whitespace1};
+ghost use Rattle.lexing.specs.answers.{BlankAt, SkipsAt, NumberAt, behind-blanks};
 use crate::answers::Lost;
 use crate::answers::Step;
 use crate::blanks::blank_run;
@@ -16,30 +15,32 @@ use crate::parts::rest_at;
 use crate::words::keyword;
 use crate::words::tag;
 
-// The offset behind the blanks at the front. It is `whitespace0` without the doc comment: most calls need no more than the offset, and so no struct.
-fn blank_end(part: &[u8], base: usize) -> usize
-    requires { ⌜ base + length (now part) ≤ u64-max ⌝ }
-    ensures { λ r. ⌜ Skips whitespace0 (Next r) base (now (part .entry)) ⌝ }
+// The offset behind blanks of any kind.
+fn blank_end(part: &[u8], base: usize, c: usize) -> usize
+    requires { ⌜ ((base ≤ c) × (c ≤ base + length (now part))) × (base + length (now part) ≤ u64-max) ⌝ }
+    ensures { λ r. ⌜ BlankAt r base (now (part .entry)) c ⌝ }
 {
-    let x = peek(part, 0);
-    if b'/' < x {
-        return base;
-    }
-    if x == b' ' {
-        if b'/' < peek(part, 1) {
-            return base + 1;
-        }
-    }
-    let w = blank_run(part, base);
+    let w = blank_run(rest_at(part, base, c), c);
     w.next
 }
 
-// The offset behind blanks.
+// The offset behind blanks. It is `whitespace0` without the doc comment, so that no struct is needed; and a slice of the rest is made only
+// where a byte or two do not tell the offset.
 pub fn blank_at(part: &[u8], base: usize, c: usize) -> usize
     requires { ⌜ ((base ≤ c) × (c ≤ base + length (now part))) × (base + length (now part) ≤ u64-max) ⌝ }
     ensures { λ r. ⌜ BlankAt r base (now (part .entry)) c ⌝ }
 {
-    blank_end(rest_at(part, base, c), c)
+    let i = c - base;
+    let x = peek(part, i);
+    if b'/' < x {
+        return c;
+    }
+    if x == b' ' {
+        if b'/' < peek(part, i + 1) {
+            return c + 1;
+        }
+    }
+    blank_end(part, base, c)
 }
 
 // At least one blank.
@@ -47,7 +48,7 @@ pub fn gap_at(part: &[u8], base: usize, c: usize) -> Step
     requires { ⌜ ((base ≤ c) × (c ≤ base + length (now part))) × (base + length (now part) ≤ u64-max) ⌝ }
     ensures { λ r. ⌜ SkipsAt whitespace1 r base (now (part .entry)) c ⌝ }
 {
-    let n = blank_end(rest_at(part, base, c), c);
+    let n = blank_at(part, base, c);
     if n == c {
         return Step::Not(Lost::Fail(c));
     }
@@ -59,9 +60,8 @@ pub fn tag_behind(part: &[u8], base: usize, c: usize, t: u8) -> Step
     requires { ⌜ ((base ≤ c) × (c ≤ base + length (now part))) × (base + length (now part) ≤ u64-max) ⌝ }
     ensures { λ r. ⌜ SkipsAt (behind-blanks (tag t)) r base (now (part .entry)) c ⌝ }
 {
-    let rest = rest_at(part, base, c);
-    let n = blank_end(rest, c);
-    tag(rest_at(rest, c, n), n, t)
+    let n = blank_at(part, base, c);
+    tag(rest_at(part, base, n), n, t)
 }
 
 // Blanks and a keyword.
@@ -69,9 +69,8 @@ pub fn keyword_behind(part: &[u8], base: usize, c: usize, key: &[u8]) -> Step
     requires { ⌜ ((base ≤ c) × (c ≤ base + length (now part))) × (base + length (now part) ≤ u64-max) ⌝ }
     ensures { λ r. ⌜ SkipsAt (behind-blanks (keyword (now (key .entry)))) r base (now (part .entry)) c ⌝ }
 {
-    let rest = rest_at(part, base, c);
-    let n = blank_end(rest, c);
-    keyword(rest_at(rest, c, n), n, key)
+    let n = blank_at(part, base, c);
+    keyword(rest_at(part, base, n), n, key)
 }
 
 // Blanks and an integer.
@@ -79,7 +78,6 @@ pub fn integer_behind(part: &[u8], base: usize, c: usize) -> Number
     requires { ⌜ ((base ≤ c) × (c ≤ base + length (now part))) × (base + length (now part) ≤ u64-max) ⌝ }
     ensures { λ r. ⌜ NumberAt (behind-blanks positive-integer) r base (now (part .entry)) c ⌝ }
 {
-    let rest = rest_at(part, base, c);
-    let n = blank_end(rest, c);
-    positive_integer(rest_at(rest, c, n), n)
+    let n = blank_at(part, base, c);
+    positive_integer(rest_at(part, base, n), n)
 }

@@ -94,6 +94,13 @@ module _ {b n : ℕ} {u : List ℕ} {m : Parser ℕ} where
     pub number-at-lost : {l l' : Lost} → l' ≡ numberLost a → a ≡ NoNumber l → lostReply l' ≡ m n (drop (n - b) u)
     number-at-lost e d = integer-lost e d n (drop (n - b) u) (m n (drop (n - b) u)) (h .reads)
 
+    -- the same answer, taken apart and put together again
+    pub number-at-is : {v c : ℕ} → a ≡ Value v c → NumberAt m (Value v c) b u n
+    number-at-is e = subst (λ (x : Number). NumberAt m x b u n) e h
+
+    pub number-at-not : {l l' : Lost} → l' ≡ numberLost a → a ≡ NoNumber l → NumberAt m (NoNumber l') b u n
+    number-at-not e d = record { at = h .at; reads = number-at-lost e d }
+
 -- a name from an offset of a part: read there, taken and lost
 module _ {b n : ℕ} {u : List ℕ} {m : Parser Word} {a : Named} where
   pub named-at : {r : List ℕ} → Rest b u n r → NamedTo m a n r → NamedAt m a b u n

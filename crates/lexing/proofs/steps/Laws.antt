@@ -1,9 +1,13 @@
 -- Steps from an offset of a part: what they answer, and what they give the sequence that takes them.
 use mathlib.Core.Path.{_≡_, refl, sym, ap, _∙_, subst}
 use mathlib.Core.List.{List}
-use Prim.Native.Nat.{ℕ, _+_, _-_, _≤_}
+use Prim.Native.Nat.{ℕ, _+_, _-_, _≤_, _<_}
+use native.Mathlib.Omega.{arith}
+use native.Mathlib.Nat.{add-zero}
 use borrow.Author.Tests.{eq-eqb, ne-eqb}
-use lib.ListN.{length, drop}
+use lib.ListN.{length, drop, getD}
+use lib.Seq.{getD-drop}
+use Rattle.lexing.specs.bytes.{slash, space}
 use Rattle.lexing.specs.reply.{Parser, ret, _>>=_, _>>_, position, failAt, pick}
 use Rattle.lexing.specs.words.{keyword, tag}
 use Rattle.lexing.specs.integers.{positive-integer}
@@ -14,12 +18,14 @@ use Rattle.lexing.specs.declared.answers.Lost.the-variants.{Fail}
 use Rattle.lexing.specs.declared.answers.Step.{Step}
 use Rattle.lexing.specs.declared.answers.Step.the-variants.{Next, Not}
 use Rattle.lexing.specs.declared.blanks.Blank.{Blank}
+use Rattle.lexing.specs.declared.blanks.DocSpan.the-variants.{Absent}
 use Rattle.lexing.specs.declared.integers.Number.{Number}
 use Rattle.lexing.specs.declared.integers.Number.the-variants.{Value, NoNumber}
 use Rattle.lexing.proofs.Onward.{Onward, advances-onward, tag-advances, integer-advances}
-use Rattle.lexing.proofs.Slicing.{Took, took, walks, rest-self, integer-lost}
+use Rattle.lexing.proofs.Slicing.{Took, took, walks, rebase, rest-from, rest-self, integer-lost}
 use Rattle.lexing.proofs.TokenLocality.{keyword-chain, whitespace0-chain, whitespace1-chain}
 use Rattle.lexing.proofs.Dropping.{behind, skip-behind, tag-skips, keyword-skips}
+use Rattle.lexing.proofs.blanks.Laws.{blanks-none, blanks-one}
 use Rattle.lexing.proofs.Composed.{onward-then}
 use Rattle.lexing.proofs.optional.Laws.{skip-took, skip-lost}
 
@@ -40,9 +46,6 @@ module _ {b c : ℕ} {u r : List ℕ} (q : Rest b u c r) where
   skips-at : {A : Type 0} {m : Parser A} {a : Step} → Skips m a c r → SkipsAt m a b u c
   skips-at {A} {m} {a} h = record { at = rest-here; skips = subst (λ v. Skips m a c v) (q .same) h }
 
-  pub blank-skipped : {n : ℕ} → Skips whitespace0 (Next n) c r → BlankAt n b u c
-  blank-skipped h = skips-at h
-
   pub blank-is : {t : Blank} → BlankTo t c r → BlankAt (t .next) b u c
   blank-is h = skips-at (blank-skips h)
 
@@ -56,7 +59,10 @@ module _ {b c : ℕ} {u r : List ℕ} (q : Rest b u c r) where
     gap-not e = skips-at (record { value = no-doc; reads = rw (sym (h .reads), whitespace1, _>>=_) (rw (eq-eqb c n (sym e), pick)) })
 
   -- a token behind blanks
-  module _ {n : ℕ} (h : Skips whitespace0 (Next n) c r) {v : List ℕ} (p : Rest c r n v) where
+  module _ {n : ℕ} (h : Skips whitespace0 (Next n) c r) {v : List ℕ} (z : Rest b u n v) where
+    p : Rest c r n v
+    p = let k = blank-bounds h in record { from = k .0; same = z .same ∙ (sym (rebase b c n u (q .from) (k .0)) ∙ ap (drop (n - c)) (sym (q .same))); size = z .size ∙ sym (q .size) }
+
     blanks : Took whitespace0 c r c (h .value) n
     blanks = skip-took blank-on (rest-self c r) refl h
 
@@ -70,6 +76,30 @@ module _ {b c : ℕ} {u r : List ℕ} (q : Rest b u c r) where
     integer-behind-is a e =
         let x = behind (advances-onward integer-advances) (numberAnswer a) p blanks e in
         record { at = rest-here; reads = subst (λ w. numberReply a c w ≡ (whitespace0 >> positive-integer) c w) (q .same) x }
+
+-- blanks that the bytes at an offset tell
+module _ (b c : ℕ) (u : List ℕ) (at : (b ≤ c) × (c ≤ b + length u)) {x : ℕ} (p : x ≡ getD u (c - b) 0) where
+  rest : Rest b u c (drop (c - b) u)
+  rest = rest-from b c u (at .0) (at .1)
+
+  ahead : (i : ℕ) → getD u (c - b + i) 0 ≡ getD (drop (c - b) u) i 0
+  ahead i = sym (getD-drop (c - b) u i 0)
+
+  first : x ≡ getD (drop (c - b) u) 0 0
+  first = p ∙ (ap (λ (k : ℕ). getD u k 0) (sym (add-zero (c - b))) ∙ ahead 0)
+
+  pub blank-none : slash < x → BlankAt c b u c
+  blank-none h = blank-is rest (blanks-none c (drop (c - b) u) x first h)
+
+  module _ {y : ℕ} (q : y ≡ getD u (c - b + 1) 0) (h : x ≡ space) (k : slash < y) where
+    single : BlankTo (record { next = c + 1; doc = Absent }) c (drop (c - b) u)
+    single = blanks-one c (drop (c - b) u) x y first (q ∙ ahead 1) h k
+
+    pub blank-one : BlankAt (c + 1) b u c
+    blank-one = blank-is rest single
+
+    pub blank-one-in : c + 1 ≤ b + length u
+    blank-one-in = omega (arith, single .inside, rest .size)
 
 -- as steps of a sequence
 module _ {b n : ℕ} {u : List ℕ} where

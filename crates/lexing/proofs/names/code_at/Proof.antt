@@ -2,7 +2,8 @@ use Rattle.lexing.proofs.names.code_at.Statement.{statement}
 use Rattle.lexing.proofs.names.code_at.Tie as tie
 use native.Mathlib.Omega.{arith}
 use Rattle.lexing.proofs.Slicing.{fall, rest-from, tag-took, step-lost}
-use Rattle.lexing.proofs.names.Laws.{integer-on, number-after}
+use Rattle.lexing.specs.declared.integers.Number.the-variants.{Value, NoNumber}
+use Rattle.lexing.proofs.names.Laws.{integer-on, number-after, number-at-is, number-at-not}
 
 rest-at-requires : tie.Need-rest-at-requires
 rest-at-requires c κs = c .before .pre .0
@@ -25,8 +26,20 @@ returns c = record { at = (rest-from _ _ _ (c .before .before .before .before .b
 integer-behind-requires : tie.Need-integer-behind-requires
 integer-behind-requires c κs = let t = (tag-took (c .before .before .before .before .rest-at .ensures) (c .before .equals .given .1) 61 (c .before .before .before .tag .ensures)) in omega (arith, t .up, t .inside, c .before .before .before .before .before .before .pre)
 
+enum-known-number : tie.Need-enum-known-number
+enum-known-number c = c .match2 .keys1
+
+enum-told-2 : tie.Need-enum-told-2
+enum-told-2 c = c .match2 .keys2
+
+number-lost-requires : tie.Need-number-lost-requires
+number-lost-requires c κs = tt
+
 returns-2 : tie.Need-returns-2
-returns-2 c = number-after integer-on (c .integer-behind .result) (rest-from _ _ _ (c .before .before .before .before .before .before .before .pre .0 .0) (c .before .before .before .before .before .before .before .pre .0 .1)) (tag-took (c .before .before .before .before .before .rest-at .ensures) (c .before .before .equals .given .1) 61 (c .before .before .before .before .tag .ensures)) (c .integer-behind .ensures)
+returns-2 c = number-after integer-on (NoNumber (c .number-lost .result)) (rest-from _ _ _ (c .before .before .before .before .before .before .before .before .before .before .pre .0 .0) (c .before .before .before .before .before .before .before .before .before .before .pre .0 .1)) (tag-took (c .before .before .before .before .before .before .before .before .rest-at .ensures) (c .before .before .before .before .before .equals .given .1) 61 (c .before .before .before .before .before .before .before .tag .ensures)) (number-at-not (c .before .before .before .integer-behind .ensures) (c .number-lost .ensures) (c .before .enum-told2 .given .1))
+
+returns-3 : tie.Need-returns-3
+returns-3 c = number-after integer-on (Value _ _) (rest-from _ _ _ (c .before .before .before .before .before .before .before .before .before .before .pre .0 .0) (c .before .before .before .before .before .before .before .before .before .before .pre .0 .1)) (tag-took (c .before .before .before .before .before .before .before .before .rest-at .ensures) (c .before .before .before .before .before .equals .given .1) 61 (c .before .before .before .before .before .before .before .tag .ensures)) (number-at-is (c .before .before .before .integer-behind .ensures) (c .before .number .given .1))
 
 pub code-at-spec : {M : Type 1} → statement M
 code-at-spec =
@@ -39,4 +52,8 @@ code-at-spec =
     step-lost-requires
     returns
     integer-behind-requires
-    returns-2)
+    enum-known-number
+    enum-told-2
+    number-lost-requires
+    returns-2
+    returns-3)

@@ -4,27 +4,18 @@ use Rattle.lexing.proofs.steps.integer_behind.Tie as tie
 use native.Mathlib.Omega.{arith}
 use Rattle.lexing.proofs.steps.Laws.{blank-bounds, integer-behind-is}
 
+blank-at-requires : tie.Need-blank-at-requires
+blank-at-requires c κs = search needs
+
 rest-at-requires : tie.Need-rest-at-requires
-rest-at-requires c κs = search needs
-
-blank-end-requires : tie.Need-blank-end-requires
-blank-end-requires c κs = omega (arith, c .rest-at .ensures .size, c .before .before .pre .1)
-
-rest-at-requires-2 : tie.Need-rest-at-requires-2
-rest-at-requires-2 c κs = omega (arith, blank-bounds (c .blank-end .ensures))
+rest-at-requires c κs = omega (arith, blank-bounds (c .blank-at .ensures .skips), c .blank-at .ensures .at .size, c .blank-at .ensures .at .from)
 
 positive-integer-requires : tie.Need-positive-integer-requires
-positive-integer-requires c κs = omega (arith, c .rest-at2 .ensures .size, c .before .before .rest-at .ensures .size, c .before .before .before .before .pre .1)
+positive-integer-requires c κs = omega (arith, c .rest-at .ensures .size, c .before .before .before .pre .1)
 
 returns : tie.Need-returns
-returns c = integer-behind-is (c .before .before .before .rest-at .ensures) (c .before .before .blank-end .ensures) (c .before .rest-at2 .ensures) _ (c .positive-integer .ensures)
+returns c = integer-behind-is (c .before .before .blank-at .ensures .at) (c .before .before .blank-at .ensures .skips) (c .before .rest-at .ensures) _ (c .positive-integer .ensures)
 
 pub integer-behind-spec : {M : Type 1} → statement M
 integer-behind-spec =
-    tie.close
-    (tie.spec
-    rest-at-requires
-    blank-end-requires
-    rest-at-requires-2
-    positive-integer-requires
-    returns)
+    tie.close (tie.spec blank-at-requires rest-at-requires positive-integer-requires returns)

@@ -4,22 +4,17 @@ use Rattle.lexing.proofs.steps.tag_behind.Tie as tie
 use native.Mathlib.Omega.{arith}
 use Rattle.lexing.proofs.steps.Laws.{blank-bounds, tag-behind-is}
 
+blank-at-requires : tie.Need-blank-at-requires
+blank-at-requires c κs = search needs
+
 rest-at-requires : tie.Need-rest-at-requires
-rest-at-requires c κs = search needs
-
-blank-end-requires : tie.Need-blank-end-requires
-blank-end-requires c κs = omega (arith, c .rest-at .ensures .size, c .before .before .pre .1)
-
-rest-at-requires-2 : tie.Need-rest-at-requires-2
-rest-at-requires-2 c κs = omega (arith, blank-bounds (c .blank-end .ensures))
+rest-at-requires c κs = omega (arith, blank-bounds (c .blank-at .ensures .skips), c .blank-at .ensures .at .size, c .blank-at .ensures .at .from)
 
 tag-requires : tie.Need-tag-requires
-tag-requires c κs = omega (arith, c .rest-at2 .ensures .size, c .before .before .rest-at .ensures .size, c .before .before .before .before .pre .1)
+tag-requires c κs = omega (arith, c .rest-at .ensures .size, c .before .before .before .pre .1)
 
 returns : tie.Need-returns
-returns c = tag-behind-is (c .before .before .before .rest-at .ensures) (c .before .before .blank-end .ensures) (c .before .rest-at2 .ensures) _ _ (c .tag .ensures)
+returns c = tag-behind-is (c .before .before .blank-at .ensures .at) (c .before .before .blank-at .ensures .skips) (c .before .rest-at .ensures) _ _ (c .tag .ensures)
 
 pub tag-behind-spec : {M : Type 1} → statement M
-tag-behind-spec =
-    tie.close
-    (tie.spec rest-at-requires blank-end-requires rest-at-requires-2 tag-requires returns)
+tag-behind-spec = tie.close (tie.spec blank-at-requires rest-at-requires tag-requires returns)
