@@ -11,6 +11,8 @@ ghost use Rattle.lexing.specs.answers.{groupReply, docOf, BlankTo, gapRe
 use crate::answers::Lost;
 use crate::bytes::is_in_line;
 use crate::bytes::is_space;
+use crate::eights::eight_at;
+use crate::eights::non_stars;
 use crate::parts::after;
 use crate::parts::peek;
 use crate::parts::rest_at;
@@ -99,37 +101,25 @@ fn is_close_at(part: &[u8], i: usize) -> bool
     peek(part, i + 1) == b'/'
 }
 
-// Whether four bytes stand at a place, none of them a star.
+// Whether eight bytes stand at a place, none of them a star.
 fn is_plain_at(part: &[u8], i: usize) -> bool
     requires { ⌜ i ≤ length (now part) ⌝ }
     ensures { λ r. ⌜ PlainIf r (now (part .entry)) i ⌝ }
 {
-    if part.len() - i < 4 {
+    if part.len() - i < 8 {
         return false;
     }
-    if part[i] == b'*' {
-        return false;
-    }
-    if part[i + 1] == b'*' {
-        return false;
-    }
-    if part[i + 2] == b'*' {
-        return false;
-    }
-    if part[i + 3] == b'*' {
-        return false;
-    }
-    true
+    non_stars(eight_at(part, i)) == 0x8080_8080_8080_8080
 }
 
-// How many bytes stand before the first `*/`. A turn passes four bytes without a star, as most are, else one.
+// How many bytes stand before the first `*/`. A turn passes eight bytes without a star, as most are, else one.
 fn comment_end(part: &[u8]) -> End
     ensures { λ r. ⌜ endUntil r (now (part .entry)) ≡ until-close (now (part .entry)) ⌝ }
 {
     let mut i = 0;
     while i < part.len() {
         if is_plain_at(part, i) {
-            i += 4;
+            i += 8;
             continue;
         }
         if is_close_at(part, i) {

@@ -2,7 +2,7 @@
 ghost use mathlib.Core.Path.{_≡_};
 ghost use Prim.Native.Nat.{_+_, _≤_};
 ghost use lib.ListN.{length};
-ghost use Rattle.lexing.specs.inner.eights.{pack, byteAt, bytesFrom, noLetter};
+ghost use Rattle.lexing.specs.inner.eights.{pack, bytesFrom, failing, isAlpha, isStar};
 
 // Four bytes as a number. The compiler makes one load of a sum in this order.
 fn four_at(part: &[u8], i: usize) -> u64
@@ -25,9 +25,18 @@ pub fn eight_at(part: &[u8], i: usize) -> u64
 
 // The highest bit of each byte that is no letter from a to z in either case; no other bit is set.
 pub fn non_letters(w: u64) -> u64
-    ensures { λ r. ⌜ r ≡ pack 8 (λ j. noLetter (byteAt w j)) ⌝ }
+    ensures { λ r. ⌜ r ≡ failing isAlpha w ⌝ }
 {
     let folded = (w & 0x7f7f_7f7f_7f7f_7f7f) | 0x2020_2020_2020_2020;
     let outside = (0xe0e0_e0e0_e0e0_e0e0 - folded) | (folded + 0x0505_0505_0505_0505);
     (outside | w) & 0x8080_8080_8080_8080
+}
+
+// The highest bit of each byte that is no star; no other bit is set.
+pub fn non_stars(w: u64) -> u64
+    ensures { λ r. ⌜ r ≡ failing isStar w ⌝ }
+{
+    let other = w ^ 0x2a2a_2a2a_2a2a_2a2a;
+    let some = (other & 0x7f7f_7f7f_7f7f_7f7f) + 0x7f7f_7f7f_7f7f_7f7f;
+    (some | other) & 0x8080_8080_8080_8080
 }

@@ -1,31 +1,32 @@
 -- Numbers by their bytes: sums, differences and bit operations go byte by byte.
-use mathlib.Core.Path.{_≡_, refl, sym, ap, _∙_}
-use mathlib.Core.Bool.{Bool, true, false, _&&_, _||_, not}
+use mathlib.Core.Path.{_≡_, refl, sym, ap, ap₂, _∙_}
+use mathlib.Core.Bool.{Bool, true, false, _&&_}
 use mathlib.Core.List.{List}
 use Prim.Native.Nat.{ℕ, zero, suc, _+_, _-_, _*_, _/_, _%_, _^_, _≤_, _<_, zero-le}
 use native.Mathlib.Omega.{arith}
 use native.Mathlib.Nat.{mod-one, pow-suc}
 use lib.Arith.{mod-mul}
-use lib.Bits.{bitAnd, bitOr, and-le-r, or-lt, and-block, or-block}
+use lib.Bits.{bitAnd, bitOr, bitXor, and-le-r, and-lt, or-lt, xor-lt, and-block, or-block, xor-block}
 use lib.Count.{trailingZeros, under, trailing-le}
 use lib.Dec.{eqb}
 use lib.ListN.{getD}
 use lib.Pow.{pow-pos, pow-add}
-use borrow.Author.Tests.{eq-eqb, eqb-false}
-use Rattle.lexing.specs.bytes.{within, lower, isLetter, isDigit, isWord}
-use Rattle.lexing.specs.inner.eights.{pack, byteAt, bytesFrom, noLetter}
+use borrow.Author.Tests.{eqb-false}
+use Rattle.lexing.specs.bytes.{within, lower}
+use Rattle.lexing.specs.inner.eights.{pack, byteAt, bytesFrom, failed, failing, isAlpha, isStar}
 use Rattle.lexing.proofs.Tests.{eq-of, and-left, and-right}
 
+-- all are bytes
 abbrev pub Bytes : (ℕ → ℕ) → Type 0
 Bytes f = (j : ℕ) → f j < 256
 
 -- packed numbers
-pub pack-same : (n : ℕ) (f g : ℕ → ℕ) → ((j : ℕ) → f j ≡ g j) → pack n f ≡ pack n g
+pack-same : (n : ℕ) (f g : ℕ → ℕ) → ((j : ℕ) → f j ≡ g j) → pack n f ≡ pack n g
 unfolding pack
 pack-same zero f g h = refl
 pack-same (suc n) f g h = omega (arith, pack-same n (λ j. f (suc j)) (λ j. g (suc j)) (λ j. h (suc j)), h 0)
 
-pub pack-le : (n : ℕ) (f g : ℕ → ℕ) → ((j : ℕ) → f j ≤ g j) → pack n f ≤ pack n g
+pack-le : (n : ℕ) (f g : ℕ → ℕ) → ((j : ℕ) → f j ≤ g j) → pack n f ≤ pack n g
 unfolding pack
 pack-le zero f g h = zero-le
 pack-le (suc n) f g h = omega (arith, pack-le n (λ j. f (suc j)) (λ j. g (suc j)) (λ j. h (suc j)), h 0)
@@ -40,33 +41,24 @@ pack-op op z b zero f g p q = z
 pack-op op z b (suc n) f g p q =
     b _ _ _ _ (p 0) (q 0) ∙ ap (λ (x : ℕ). x * 256 + op (f 0) (g 0)) (pack-op op z b n (λ j. f (suc j)) (λ j. g (suc j)) (λ j. p (suc j)) (λ j. q (suc j)))
 
-pub pack-and : (n : ℕ) (f g : ℕ → ℕ) → Bytes f → Bytes g → bitAnd (pack n f) (pack n g) ≡ pack n (λ j. bitAnd (f j) (g j))
-pack-and = pack-op bitAnd refl (and-block 8)
-
-pub pack-or : (n : ℕ) (f g : ℕ → ℕ) → Bytes f → Bytes g → bitOr (pack n f) (pack n g) ≡ pack n (λ j. bitOr (f j) (g j))
-pack-or = pack-op bitOr refl (or-block 8)
-
-pub pack-add : (n : ℕ) (f g : ℕ → ℕ) → Bytes f → Bytes g → pack n f + pack n g ≡ pack n (λ j. f j + g j)
-pack-add = pack-op _+_ refl (λ a b r s p q. omega arith)
-
-pub pack-sub : (n : ℕ) (f g : ℕ → ℕ) → ((j : ℕ) → g j ≤ f j) → pack n f - pack n g ≡ pack n (λ j. f j - g j)
+pack-sub : (n : ℕ) (f g : ℕ → ℕ) → ((j : ℕ) → g j ≤ f j) → pack n f - pack n g ≡ pack n (λ j. f j - g j)
 unfolding pack
 pack-sub zero f g h = refl
 pack-sub (suc n) f g h =
     omega (arith, pack-le n (λ j. g (suc j)) (λ j. f (suc j)) (λ j. h (suc j)), pack-sub n (λ j. f (suc j)) (λ j. g (suc j)) (λ j. h (suc j)), h 0)
 
 -- the bytes of a number
-pub byte-lt : (w : ℕ) → Bytes (byteAt w)
+byte-lt : (w : ℕ) → Bytes (byteAt w)
 unfolding byteAt
 byte-lt w zero = omega arith
 byte-lt w (suc j) = byte-lt (w / 256) j
 
-pub pack-bytes : (n w : ℕ) → w < 256 ^ n → w ≡ pack n (byteAt w)
+pack-bytes : (n w : ℕ) → w < 256 ^ n → w ≡ pack n (byteAt w)
 unfolding pack byteAt
 pack-bytes zero w h = omega arith
 pack-bytes (suc n) w h = omega (arith, pack-bytes n (w / 256) (omega arith))
 
-pub byte-pack : (n : ℕ) (f : ℕ → ℕ) → Bytes f → (j : ℕ) → j < n → byteAt (pack n f) j ≡ f j
+byte-pack : (n : ℕ) (f : ℕ → ℕ) → Bytes f → (j : ℕ) → j < n → byteAt (pack n f) j ≡ f j
 unfolding pack byteAt
 byte-pack zero f p j h = absurd (omega arith)
 byte-pack (suc n) f p zero h = omega (arith, p 0)
@@ -86,9 +78,42 @@ module _ (u : List ℕ) (i : ℕ) where
       let z : (j : ℕ) → i + 4 + j ≡ i + (4 + j) = λ j. omega arith in
       omega (arith, pack-same 4 (bytesFrom u (i + 4)) (λ j. bytesFrom u i (4 + j)) (λ j. ap (λ (k : ℕ). getD u k 0) (z j)))
 
-  pub four-lt : Bytes (λ j. getD u j 0) → pack 4 (bytesFrom u i) ≤ 0xffffffff
+  pub four-le : Bytes (λ j. getD u j 0) → pack 4 (bytesFrom u i) ≤ 0xffffffff
   unfolding pack
-  four-lt h = pack-le 4 (bytesFrom u i) (λ j. 0xff) (λ j. omega (arith, h (i + j)))
+  four-le h = pack-le 4 (bytesFrom u i) (λ j. 0xff) (λ j. omega (arith, h (i + j)))
+
+-- the eight bytes of w are f 0, f 1, ..
+record Eight (w : ℕ) (f : ℕ → ℕ) : Type 0 where
+  is : w ≡ pack 8 f
+  byte : Bytes f
+
+own-bytes : (w : ℕ) → w < 2 ^ 64 → Eight w (byteAt w)
+own-bytes w h = record { is = pack-bytes 8 w h; byte = byte-lt w }
+
+alike : (c : ℕ) → c < 256 → Eight (pack 8 (λ j. c)) (λ j. c)
+alike c h = record { is = refl; byte = λ j. h }
+
+module _ {w v : ℕ} {f g : ℕ → ℕ} (p : Eight w f) (q : Eight v g) where
+  each : (op : ℕ → ℕ → ℕ) → op 0 0 ≡ 0 → Block op → ((j : ℕ) → op (f j) (g j) < 256) → Eight (op w v) (λ j. op (f j) (g j))
+  each op z b h = record { is = ap₂ op (p .is) (q .is) ∙ pack-op op z b 8 f g (p .byte) (q .byte); byte = h }
+
+  each-and : Eight (bitAnd w v) (λ j. bitAnd (f j) (g j))
+  each-and = each bitAnd refl (and-block 8) (λ j. and-lt 8 (f j) (g j) (p .byte j) (q .byte j))
+
+  each-or : Eight (bitOr w v) (λ j. bitOr (f j) (g j))
+  each-or = each bitOr refl (or-block 8) (λ j. or-lt 8 (f j) (g j) (p .byte j) (q .byte j))
+
+  each-xor : Eight (bitXor w v) (λ j. bitXor (f j) (g j))
+  each-xor = each bitXor refl (xor-block 8) (λ j. xor-lt 8 (f j) (g j) (p .byte j) (q .byte j))
+
+  each-add : ((j : ℕ) → f j + g j < 256) → Eight (w + v) (λ j. f j + g j)
+  each-add = each _+_ refl (λ a b r s l k. omega arith)
+
+  each-sub : ((j : ℕ) → g j ≤ f j) → Eight (w - v) (λ j. f j - g j)
+  each-sub h = record { is = ap₂ _-_ (p .is) (q .is) ∙ pack-sub 8 f g h; byte = λ j. omega (arith, p .byte j) }
+
+at-most : {w c : ℕ} {f : ℕ → ℕ} → Eight w f → ((j : ℕ) → f j ≤ c) → w ≤ pack 8 (λ j. c)
+at-most {w} {c} {f} p h = omega (arith, p .is, pack-le 8 f (λ j. c) h)
 
 -- a test of all numbers below n
 unfoldable every : ℕ → (ℕ → Bool) → Bool
@@ -104,85 +129,65 @@ every-at (suc n) t e x h = go (eqb x n) refl (every-at n t (and-right (t n) (eve
     go true q ih = ap t (eq-of x n q) ∙ and-left (t n) (every n t) e
     go false q ih = ih (omega (arith, eqb-false x n q))
 
--- letters: the bits of a byte as the code computes them
+-- bits g of a byte that tell where it fails a test: one law for all tests of eight bytes, and g is looked at once for each byte
+fails-by : (t : ℕ → Bool) (g : ℕ → ℕ) → every 256 (λ x. eqb (g x) (failed (t x))) ≡ true → (w : ℕ) {m : ℕ} → Eight m (λ j. g (byteAt w j)) → m ≡ failing t w
+unfolding failing
+fails-by t g e w p = p .is ∙ pack-same 8 _ _ (λ j. eq-of _ _ (every-at 256 (λ x. eqb (g x) (failed (t x))) e (byteAt w j) (byte-lt w j)))
+
+-- letters: the bits of a byte, and of eight, as the code computes them
 abbrev folded : ℕ → ℕ
 folded x = bitOr (bitAnd x 0x7f) 0x20
 
-abbrev marked : ℕ → ℕ
-marked x = bitAnd (bitOr (bitOr (0xe0 - folded x) (folded x + 0x05)) x) 0x80
+abbrev alphaBits : ℕ → ℕ
+alphaBits x = bitAnd (bitOr (bitOr (0xe0 - folded x) (folded x + 0x05)) x) 0x80
 
-no-letter-lt : (x : ℕ) → noLetter x < 256
-unfolding noLetter
-no-letter-lt x = go (within 0x61 0x7a (lower x))
-  where
-    go : (t : Bool) → elim t [ true ↦ 0 | false ↦ 0x80 ] < 256
-    go true = omega arith
-    go false = omega arith
-
-marked-all : every 256 (λ x. eqb (marked x) (noLetter x)) ≡ true
-unfolding every noLetter within lower
-marked-all = refl
-
-marked-byte : (x : ℕ) → x < 256 → marked x ≡ noLetter x
-marked-byte x h = eq-of _ _ (every-at 256 (λ x. eqb (marked x) (noLetter x)) marked-all x h)
-
-word-all : every 256 (λ x. not (eqb (noLetter x) 0) || isWord x) ≡ true
-unfolding every noLetter within lower isWord isLetter isDigit
-word-all = refl
-
-pub unmarked-word : (x : ℕ) → x < 256 → noLetter x ≡ 0 → isWord x ≡ true
-unmarked-word x h e = rw (eq-eqb (noLetter x) 0 e) at (every-at 256 (λ x. not (eqb (noLetter x) 0) || isWord x) word-all x h)
+alpha-all : every 256 (λ x. eqb (alphaBits x) (failed (isAlpha x))) ≡ true
+unfolding every failed isAlpha within lower
+alpha-all = refl
 
 folded-le : (x : ℕ) → folded x ≤ 0x7f
 folded-le x = let h : bitAnd x 0x7f ≤ 0x7f = and-le-r x 0x7f in omega (arith, or-lt 7 (bitAnd x 0x7f) 0x20 (omega arith) (omega arith))
 
+abbrev foldedEight : ℕ → ℕ
+foldedEight w = bitOr (bitAnd w 0x7f7f7f7f7f7f7f7f) 0x2020202020202020
+
 module _ (w : ℕ) (h : w < 2 ^ 64) where
-  whole : w ≡ pack 8 (byteAt w)
-  whole = pack-bytes 8 w h
-
-  abbrev lowered : ℕ
-  lowered = bitOr (bitAnd w 0x7f7f7f7f7f7f7f7f) 0x2020202020202020
-
-  lowered-is : lowered ≡ pack 8 (λ j. folded (byteAt w j))
+  folds : Eight (foldedEight w) (λ j. folded (byteAt w j))
   unfolding pack
-  lowered-is =
-      let l : Bytes (λ j. bitAnd (byteAt w j) 0x7f) = λ j. omega (arith, and-le-r (byteAt w j) 0x7f) in
-      ap (λ (v : ℕ). bitOr (bitAnd v 0x7f7f7f7f7f7f7f7f) 0x2020202020202020) whole
-      ∙ ap (λ (v : ℕ). bitOr v 0x2020202020202020) (pack-and 8 (byteAt w) (λ j. 0x7f) (byte-lt w) (λ j. omega arith))
-      ∙ pack-or 8 (λ j. bitAnd (byteAt w j) 0x7f) (λ j. 0x20) l (λ j. omega arith)
+  folds = each-or (each-and (own-bytes w h) (alike 0x7f (omega arith))) (alike 0x20 (omega arith))
 
-  -- so the difference and the sum of the code fit
-  pub lowered-le : lowered ≤ 0x7f7f7f7f7f7f7f7f
+  pub folded-fits : foldedEight w ≤ 0x7f7f7f7f7f7f7f7f
   unfolding pack
-  lowered-le = omega (arith, lowered-is, pack-le 8 (λ j. folded (byteAt w j)) (λ j. 0x7f) (λ j. folded-le (byteAt w j)))
+  folded-fits = at-most folds (λ j. folded-le (byteAt w j))
 
-  abbrev outer : ℕ → ℕ
-  outer x = bitOr (0xe0 - folded x) (folded x + 0x05)
-
-  outer-lt : (x : ℕ) → outer x < 256
-  outer-lt x = or-lt 8 (0xe0 - folded x) (folded x + 0x05) (omega arith) (omega (arith, folded-le x))
-
-  abbrev outside : ℕ
-  outside = bitOr (0xe0e0e0e0e0e0e0e0 - lowered) (lowered + 0x0505050505050505)
-
-  outside-is : outside ≡ pack 8 (λ j. outer (byteAt w j))
+  pub alpha-fails : bitAnd (bitOr (bitOr (0xe0e0e0e0e0e0e0e0 - foldedEight w) (foldedEight w + 0x0505050505050505)) w) 0x8080808080808080 ≡ failing isAlpha w
   unfolding pack
-  outside-is =
-      let f : ℕ → ℕ = λ j. folded (byteAt w j) in
-      let k : (j : ℕ) → f j ≤ 0x7f = λ j. folded-le (byteAt w j) in
-      ap (λ (v : ℕ). bitOr (0xe0e0e0e0e0e0e0e0 - v) (v + 0x0505050505050505)) lowered-is
-      ∙ ap (λ (v : ℕ). bitOr v (pack 8 f + 0x0505050505050505)) (pack-sub 8 (λ j. 0xe0) f (λ j. omega (arith, k j)))
-      ∙ ap (λ (v : ℕ). bitOr (pack 8 (λ j. 0xe0 - f j)) v) (pack-add 8 f (λ j. 0x05) (λ j. omega (arith, k j)) (λ j. omega arith))
-      ∙ pack-or 8 (λ j. 0xe0 - f j) (λ j. f j + 0x05) (λ j. omega arith) (λ j. omega (arith, k j))
+  alpha-fails =
+      let l : (j : ℕ) → folded (byteAt w j) ≤ 0x7f = λ j. folded-le (byteAt w j) in
+      let below = each-sub (alike 0xe0 (omega arith)) folds (λ j. omega (arith, l j)) in
+      let above = each-add folds (alike 0x05 (omega arith)) (λ j. omega (arith, l j)) in
+      fails-by isAlpha alphaBits alpha-all w (each-and (each-or (each-or below above) (own-bytes w h)) (alike 0x80 (omega arith)))
 
-  pub marked-is : bitAnd (bitOr outside w) 0x8080808080808080 ≡ pack 8 (λ j. noLetter (byteAt w j))
-  unfolding pack
-  marked-is =
-      ap (λ (v : ℕ). bitAnd (bitOr v w) 0x8080808080808080) outside-is
-      ∙ ap (λ (v : ℕ). bitAnd (bitOr (pack 8 (λ j. outer (byteAt w j))) v) 0x8080808080808080) whole
-      ∙ ap (λ (v : ℕ). bitAnd v 0x8080808080808080) (pack-or 8 (λ j. outer (byteAt w j)) (byteAt w) (λ j. outer-lt (byteAt w j)) (byte-lt w))
-      ∙ pack-and 8 (λ j. bitOr (outer (byteAt w j)) (byteAt w j)) (λ j. 0x80) (λ j. or-lt 8 (outer (byteAt w j)) (byteAt w j) (outer-lt (byteAt w j)) (byte-lt w j)) (λ j. omega arith)
-      ∙ pack-same 8 (λ j. marked (byteAt w j)) (λ j. noLetter (byteAt w j)) (λ j. marked-byte (byteAt w j) (byte-lt w j))
+-- stars
+abbrev starBits : ℕ → ℕ
+starBits x = bitAnd (bitOr (bitAnd (bitXor x 0x2a) 0x7f + 0x7f) (bitXor x 0x2a)) 0x80
+
+star-all : every 256 (λ x. eqb (starBits x) (failed (isStar x))) ≡ true
+unfolding every failed
+star-all = refl
+
+abbrev otherEight : ℕ → ℕ
+otherEight w = bitXor w 0x2a2a2a2a2a2a2a2a
+
+pub other-fits : (w : ℕ) → bitAnd (otherEight w) 0x7f7f7f7f7f7f7f7f ≤ 0x7f7f7f7f7f7f7f7f
+other-fits w = and-le-r (otherEight w) 0x7f7f7f7f7f7f7f7f
+
+pub star-fails : (w : ℕ) → w < 2 ^ 64 → bitAnd (bitOr (bitAnd (otherEight w) 0x7f7f7f7f7f7f7f7f + 0x7f7f7f7f7f7f7f7f) (otherEight w)) 0x8080808080808080 ≡ failing isStar w
+unfolding pack
+star-fails w h =
+    let other = each-xor (own-bytes w h) (alike 0x2a (omega arith)) in
+    let some = each-add (each-and other (alike 0x7f (omega arith))) (alike 0x7f (omega arith)) (λ j. omega (arith, and-le-r (bitXor (byteAt w j) 0x2a) 0x7f)) in
+    fails-by isStar starBits star-all w (each-and (each-or some other) (alike 0x80 (omega arith)))
 
 -- trailing zeros
 trailing-mod : (t k m : ℕ) → t ≤ trailingZeros k m → m % 2 ^ t ≡ 0
@@ -208,12 +213,39 @@ zero-byte (suc n) f p (suc j) h e =
     zero-byte n (λ j. f (suc j)) (λ j. p (suc j)) j (omega arith) (ap (λ (x : ℕ). x % 2 ^ (j * 8 + 8)) (sym d) ∙ omega arith)
 
 -- the bytes below the lowest bit that is set
-pub zero-bytes : (f : ℕ → ℕ) → Bytes f → (j : ℕ) → j < trailingZeros 64 (pack 8 f) / 8 → f j ≡ 0
+zero-bytes : (f : ℕ → ℕ) → Bytes f → (j : ℕ) → j < trailingZeros 64 (pack 8 f) / 8 → f j ≡ 0
 zero-bytes f p j h = zero-byte 8 f p j (omega (arith, trailing-le 64 (pack 8 f))) (trailing-mod (j * 8 + 8) 64 (pack 8 f) (omega arith))
 
--- the letters at the front of eight bytes, as their number tells them
-pub letters-pass : (u : List ℕ) (i w m : ℕ) → Bytes (λ j. getD u j 0) → w ≡ pack 8 (bytesFrom u i) → m ≡ pack 8 (λ j. noLetter (byteAt w j)) → (j : ℕ) → j < trailingZeros 64 m / 8 → isWord (getD u (i + j) 0) ≡ true
-letters-pass u i w m b e d j h =
-    let small : j < 8 = omega (arith, trailing-le 64 m) in
-    let same : byteAt w j ≡ getD u (i + j) 0 = ap (λ (v : ℕ). byteAt v j) e ∙ byte-pack 8 (bytesFrom u i) (λ k. b (i + k)) j small in
-    unmarked-word _ (b (i + j)) (ap noLetter (sym same) ∙ zero-bytes (λ k. noLetter (byteAt w k)) (λ k. no-letter-lt (byteAt w k)) j (rw d at h))
+-- what the bits tell of a byte
+failed-lt : (b : Bool) → failed b < 256
+unfolding failed
+failed-lt true = omega arith
+failed-lt false = omega arith
+
+failed-not : (b : Bool) → failed b ≡ 0 → b ≡ true
+unfolding failed
+failed-not true e = refl
+failed-not false e = absurd (omega arith)
+
+failed-so : (b : Bool) → failed b ≡ 0x80 → b ≡ false
+unfolding failed
+failed-so true e = absurd (omega arith)
+failed-so false e = refl
+
+-- and of the bytes of a part
+module _ (t : ℕ → Bool) (u : List ℕ) (i w m : ℕ) (b : Bytes (λ j. getD u j 0)) (e : w ≡ pack 8 (bytesFrom u i)) (d : m ≡ failing t w) (j : ℕ) where
+  same-byte : j < 8 → t (byteAt w j) ≡ t (getD u (i + j) 0)
+  same-byte h = ap (λ (v : ℕ). t (byteAt v j)) e ∙ ap t (byte-pack 8 (bytesFrom u i) (λ k. b (i + k)) j h)
+
+  -- those before the first that fails
+  pub passing : j < trailingZeros 64 m / 8 → t (getD u (i + j) 0) ≡ true
+  unfolding failing
+  passing h = sym (same-byte (omega (arith, trailing-le 64 m))) ∙ failed-not _ (zero-bytes (λ k. failed (t (byteAt w k))) (λ k. failed-lt (t (byteAt w k))) j (rw d at h))
+
+  -- all fail
+  pub all-failing : m ≡ 0x8080808080808080 → j < 8 → t (getD u (i + j) 0) ≡ false
+  unfolding failing pack
+  all-failing z h =
+      let k = byte-pack 8 (λ k. failed (t (byteAt w k))) (λ k. failed-lt (t (byteAt w k))) j h in
+      let c = byte-pack 8 (λ k. 0x80) (λ k. omega arith) j h in
+      sym (same-byte h) ∙ failed-so _ (sym k ∙ (ap (λ (v : ℕ). byteAt v j) (sym d ∙ z) ∙ c))

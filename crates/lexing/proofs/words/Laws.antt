@@ -14,10 +14,10 @@ use Rattle.lexing.specs.bytes.{within, isLetter, isDigit, isWord, lower,
 use Rattle.lexing.specs.reply.{Reply, ok, fail, stop, ret, _>>=_, position, failAt, pick}
 use Rattle.lexing.specs.words.{Word, word, bytesOf, parse-id, isKeyword, keyword, tag}
 use Rattle.lexing.specs.answers.{wordAt}
-use Rattle.lexing.specs.inner.eights.{pack, byteAt, bytesFrom, noLetter}
+use Rattle.lexing.specs.inner.eights.{pack, bytesFrom, failing, isAlpha}
 use Rattle.lexing.specs.inner.words.{isKeyByte, Agree, KeyAt, HasKey, word-of}
 use Rattle.lexing.proofs.Scans.{take-run, drop-run, run-cons, run-le, run-byte, run-stops, run-passes, RunAt, runs-on, runs-le}
-use Rattle.lexing.proofs.eights.Laws.{Bytes, letters-pass}
+use Rattle.lexing.proofs.eights.Laws.{Bytes, passing}
 use Rattle.lexing.proofs.Tests.{eq-of, and-left, and-right, false-if, within-of, digit-no-letter}
 
 letter-word : (x : ℕ) → isLetter x ≡ true → isWord x ≡ true
@@ -27,17 +27,6 @@ letter-word x e = rw e
 pub no-letter : isLetter 0 ≡ false
 unfolding isLetter within
 no-letter = refl
-
--- the letters at the front of eight bytes, told by the number of the bytes
-module _ (u : List ℕ) (i w m : ℕ) (b : Bytes (λ j. getD u j 0)) (e : w ≡ pack 8 (bytesFrom u i)) (d : m ≡ pack 8 (λ j. noLetter (byteAt w j))) (le : i + 8 ≤ length u) (r : RunAt isWord u i) where
-  letters-at : RunAt isWord u (i + trailingZeros 64 m / 8)
-  letters-at = runs-on isWord u i r (trailingZeros 64 m / 8) (omega (arith, trailing-le 64 m)) (letters-pass u i w m b e d)
-
-  pub letters-some : i + trailingZeros 64 m / 8 ≤ length (takeWhile isWord u)
-  letters-some = runs-le isWord u (i + trailingZeros 64 m / 8) letters-at
-
-  pub letters-all : m ≡ 0 → RunAt isWord u (i + 8)
-  letters-all z = let n : trailingZeros 64 m / 8 ≡ 8 = omega (arith, ap (trailingZeros 64) z ∙ trailing-of-zero 64) in rw n at letters-at
 
 -- words
 parse-id-run : (b : ℕ) (u : List ℕ) → isLetter (getD u 0 0) ≡ true → parse-id b u ≡ ok (word b (takeWhile isWord u)) (b + length (takeWhile isWord u)) (dropWhile isWord u)
@@ -154,6 +143,14 @@ capital-word x e = go (within 0x61 0x7a x) refl
     go true d = rw d
     go false d = rw (d, e)
 
+alpha-word : (x : ℕ) → isAlpha x ≡ true → isWord x ≡ true
+unfolding isAlpha
+alpha-word x e = go (lower-either x)
+  where
+    go : ((within 0x41 0x5a x ≡ true) × (lower x ≡ x + 32)) ⊎ (lower x ≡ x) → isWord x ≡ true
+    go (inl c) = capital-word x (c .0)
+    go (inr c) = small-word x (rw c at e)
+
 digit-word : (x : ℕ) → isDigit x ≡ true → isWord x ≡ true
 unfolding isWord
 digit-word x e = rw (digit-no-letter x e, e)
@@ -239,6 +236,17 @@ module _ (x k : ℕ) where
             let c : within 0x41 0x5a x ≡ true = rw (le-leb 0x41 x (omega arith), le-leb x 0x5a (omega arith)) in
             q ∙ is-key (omega (arith, lower-up x c)) (capital-word x c)
         go false q = q ∙ no-key (λ l w. none (eqb-false x (k - 32) q) l (lower-either x))
+
+-- the letters at the front of eight bytes, told by the number of the bytes
+module _ (u : List ℕ) (i w m : ℕ) (b : Bytes (λ j. getD u j 0)) (e : w ≡ pack 8 (bytesFrom u i)) (d : m ≡ failing isAlpha w) (le : i + 8 ≤ length u) (r : RunAt isWord u i) where
+  letters-at : RunAt isWord u (i + trailingZeros 64 m / 8)
+  letters-at = runs-on isWord u i r (trailingZeros 64 m / 8) (omega (arith, trailing-le 64 m)) (λ j h. alpha-word _ (passing isAlpha u i w m b e d j h))
+
+  pub letters-some : i + trailingZeros 64 m / 8 ≤ length (takeWhile isWord u)
+  letters-some = runs-le isWord u (i + trailingZeros 64 m / 8) letters-at
+
+  pub letters-all : m ≡ 0 → RunAt isWord u (i + 8)
+  letters-all z = let n : trailingZeros 64 m / 8 ≡ 8 = omega (arith, ap (trailingZeros 64) z ∙ trailing-of-zero 64) in rw n at letters-at
 
 -- a run goes on behind its first n bytes where the next byte is one of it
 run-longer : (u : List ℕ) (n : ℕ) → n ≤ length (takeWhile isWord u) → isWord (getD u n 0) ≡ true → n < length (takeWhile isWord u)

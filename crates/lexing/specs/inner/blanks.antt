@@ -18,9 +18,9 @@ use Rattle.lexing.specs.declared.blanks.Turn.the-variants.{Again, Done}
 abbrev pub isClose : ℕ → ℕ → Bool
 isClose x y = eqb x star && eqb y slash
 
--- where it is said so, four bytes stand at i, none of them a star
+-- where it is said so, eight bytes stand at i, none of them a star
 abbrev pub PlainIf : Bool → List ℕ → ℕ → Type 0
-PlainIf true u i = (i + 4 ≤ length u) × ((j : ℕ) → j < 4 → getD u (i + j) 0 ≡ star → ⊥)
+PlainIf true u i = (i + 8 ≤ length u) × ((j : ℕ) → j < 8 → getD u (i + j) 0 ≡ star → ⊥)
 PlainIf false u i = Unit {0}
 
 -- where the search for `*/` ended

@@ -1,9 +1,10 @@
--- Numbers by their bytes, the lowest first: what the private functions over eight bytes promise.
+-- Numbers by their bytes, the lowest first: what the functions over eight bytes promise.
 use Prim.Native.Nat.{ℕ, zero, suc, _+_, _*_, _/_, _%_}
-use mathlib.Core.Bool.{true, false}
+use mathlib.Core.Bool.{Bool, true, false}
 use mathlib.Core.List.{List}
+use lib.Dec.{eqb}
 use lib.ListN.{getD}
-use Rattle.lexing.specs.bytes.{within, lower}
+use Rattle.lexing.specs.bytes.{star, within, lower}
 
 -- the number whose n bytes are f 0, f 1, ..
 unfoldable pub pack : ℕ → (ℕ → ℕ) → ℕ
@@ -19,6 +20,18 @@ byteAt w (suc j) = byteAt (w / 256) j
 abbrev pub bytesFrom : List ℕ → ℕ → ℕ → ℕ
 bytesFrom u i j = getD u (i + j) 0
 
--- the highest bit, where a byte is no letter from a to z in either case
-unfoldable pub noLetter : ℕ → ℕ
-noLetter x = elim (within 0x61 0x7a (lower x)) [ true ↦ 0 | false ↦ 0x80 ]
+-- a byte's highest bit, set where a test fails
+unfoldable pub failed : Bool → ℕ
+failed true = 0
+failed false = 0x80
+
+-- of the eight bytes of w those that fail a test
+unfoldable pub failing : (ℕ → Bool) → ℕ → ℕ
+failing t w = pack 8 (λ j. failed (t (byteAt w j)))
+
+-- a letter from a to z in either case
+unfoldable pub isAlpha : ℕ → Bool
+isAlpha x = within 0x61 0x7a (lower x)
+
+abbrev pub isStar : ℕ → Bool
+isStar x = eqb x star

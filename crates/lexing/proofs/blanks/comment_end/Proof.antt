@@ -4,7 +4,7 @@ use Rattle.lexing.proofs.blanks.comment_end.Tie as tie
 use native.Mathlib.Omega.{arith}
 use Prim.Native.Nat.{_-_}
 use lib.ListN.{length}
-use Rattle.lexing.proofs.blanks.Laws.{UntilAt, until-start, until-four, until-more, until-found, until-end}
+use Rattle.lexing.proofs.blanks.Laws.{UntilAt, until-start, until-eight, until-more, until-found, until-end}
 
 abbrev Inv-loop : tie.InvT-loop
 Inv-loop part i₀ i = UntilAt part i
@@ -19,13 +19,13 @@ is-plain-at-requires : tie.Need-is-plain-at-requires Inv-loop μ-loop
 is-plain-at-requires c κs = search needs
 
 add-i : tie.Need-add-i Inv-loop μ-loop
-add-i c = omega (arith, (until-four _ _ (c .before .before .before .loop .inv) (c .before .is-plain-at .result) (c .before .is-plain-at .ensures) (c .if1 .taken)) .inside)
+add-i c = omega (arith, (until-eight _ _ (c .before .before .before .loop .inv) (c .before .is-plain-at .result) (c .before .is-plain-at .ensures) (c .if1 .taken)) .inside)
 
 loop-less : tie.Need-loop-less Inv-loop μ-loop
-loop-less c = omega (arith, (until-four _ _ (c .before .before .before .loop .inv) (c .before .is-plain-at .result) (c .before .is-plain-at .ensures) (c .if1 .taken)) .inside)
+loop-less c = omega (arith, (until-eight _ _ (c .before .before .before .loop .inv) (c .before .is-plain-at .result) (c .before .is-plain-at .ensures) (c .if1 .taken)) .inside)
 
 loop-again : tie.Need-loop-again Inv-loop μ-loop
-loop-again c = (until-four _ _ (c .before .before .before .loop .inv) (c .before .is-plain-at .result) (c .before .is-plain-at .ensures) (c .if1 .taken))
+loop-again c = (until-eight _ _ (c .before .before .before .loop .inv) (c .before .is-plain-at .result) (c .before .is-plain-at .ensures) (c .if1 .taken))
 
 is-close-at-requires : tie.Need-is-close-at-requires Inv-loop μ-loop
 is-close-at-requires c κs = search needs

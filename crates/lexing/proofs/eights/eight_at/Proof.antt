@@ -4,7 +4,7 @@ use Rattle.lexing.proofs.eights.eight_at.Tie as tie
 use native.Mathlib.Omega.{arith}
 use Prim.Native.Nat.{_+_}
 use denote.Ref.{now}
-use Rattle.lexing.proofs.eights.Laws.{four-lt, eight-sum}
+use Rattle.lexing.proofs.eights.Laws.{four-le, eight-sum}
 
 four-at-requires : tie.Need-four-at-requires
 four-at-requires c κs = search needs
@@ -16,10 +16,10 @@ four-at-requires-2 : tie.Need-four-at-requires-2
 four-at-requires-2 c κs = search needs
 
 mul-result : tie.Need-mul-result
-mul-result c = omega (arith, c .four-at2 .ensures, four-lt (now (c .before .before .before .args .part)) (c .before .before .before .args .i + 4) (λ j. c .before .before .shared-slice-known .given j .fits))
+mul-result c = omega (arith, c .four-at2 .ensures, four-le (now (c .before .before .before .args .part)) (c .before .before .before .args .i + 4) (λ j. c .before .before .shared-slice-known .given j .fits))
 
 add-result : tie.Need-add-result
-add-result c = omega (arith, c .before .four-at .ensures, c .four-at2 .ensures, four-lt (now (c .before .before .before .args .part)) (c .before .before .before .args .i) (λ j. c .before .before .shared-slice-known .given j .fits), four-lt (now (c .before .before .before .args .part)) (c .before .before .before .args .i + 4) (λ j. c .before .before .shared-slice-known .given j .fits))
+add-result c = omega (arith, c .before .four-at .ensures, c .four-at2 .ensures, four-le (now (c .before .before .before .args .part)) (c .before .before .before .args .i) (λ j. c .before .before .shared-slice-known .given j .fits), four-le (now (c .before .before .before .args .part)) (c .before .before .before .args .i + 4) (λ j. c .before .before .shared-slice-known .given j .fits))
 
 returns : tie.Need-returns
 returns c = omega (arith, c .before .four-at .ensures, c .four-at2 .ensures, eight-sum (now (c .before .before .before .args .part)) (c .before .before .before .args .i))

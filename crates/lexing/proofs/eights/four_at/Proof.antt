@@ -2,9 +2,9 @@ use borrow.Author.Needs.{needs}
 use Rattle.lexing.proofs.eights.four_at.Statement.{statement}
 use Rattle.lexing.proofs.eights.four_at.Tie as tie
 use native.Mathlib.Omega.{arith}
+use Prim.Native.Nat.{_+_}
 use denote.Ref.{now}
 use Rattle.lexing.proofs.eights.Laws.{four-sum}
-use Prim.Native.Nat.{_+_}
 
 shared-slice-read-result : tie.Need-shared-slice-read-result
 shared-slice-read-result c = search needs
