@@ -4,7 +4,7 @@ ghost use lib.ListN.{length};
 ghost use Rattle.lexing.specs.integers.{u64-max};
 ghost use Rattle.items.specs.entries.{api-maturity};
 ghost use Rattle.items.specs.answers.{MaturityTo, maturity-between};
-ghost use Rattle.items.specs.inner.maturity.{MaturityBy};
+ghost use Rattle.items.specs.inner.maturity.{MaturityBy, InitialIf};
 use lexing::answers::Step;
 use lexing::bytes::lower_of;
 use lexing::parts::peek;
@@ -52,13 +52,30 @@ pub fn api_maturity(part: &[u8], base: usize) -> Maturity
     }
 }
 
-// A maturity and the blanks around it.
+// Whether a maturity begins with a letter.
+fn is_initial(x: u8) -> bool
+    ensures { λ r. ⌜ InitialIf r x ⌝ }
+{
+    match x {
+        b's' => true,
+        b'p' => true,
+        b'i' => true,
+        b'd' => true,
+        _ => false,
+    }
+}
+
+// A maturity and the blanks around it. Where there is none, as mostly, no blank stands behind the blanks.
 pub fn maturity_between(part: &[u8], base: usize) -> Maturity
     requires { ⌜ base + length (now part) ≤ u64-max ⌝ }
     ensures { λ r. ⌜ MaturityTo maturity-between r base (now (part .entry)) ⌝ }
 {
     let c1 = blank_at(part, base, base);
-    let m = api_maturity(rest_at(part, base, c1), c1);
+    let rest = rest_at(part, base, c1);
+    if !is_initial(lower_of(peek(rest, 0))) {
+        return Maturity { level: 0, next: c1 };
+    }
+    let m = api_maturity(rest, c1);
     let c2 = m.next;
     let next = blank_at(part, base, c2);
     Maturity {

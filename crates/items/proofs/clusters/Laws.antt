@@ -557,10 +557,6 @@ raise-words r q n c e = subst (λ (x : Count). x ≡ countRaised x q) (sym e) re
 pub raise-lost : (r : Count) (q : ℕ) (l x : Lost) → r ≡ NoCount l → x ≡ furtherLost l q → NoCount x ≡ countRaised r q
 raise-lost r q l x e f = ap NoCount f ∙ sym (ap (λ (y : Count). countRaised y q) e)
 
--- no blank stands where blanks were read
-pub rest-clear : {b n c : ℕ} {u v : List ℕ} {d : Doc} → Took whitespace0 b u n d c → Rest b u c v → whitespace0 c v ≡ ok no-doc c v
-rest-clear {b} {n} {c} {u} {v} {d} t q = subst (λ (x : List ℕ). whitespace0 c x ≡ ok no-doc c x) (sym (q .same)) (blank-clear n (drop (n - b) u) d c (drop (c - b) u) (t .goes))
-
 pub member-tries-on : (d : Doc) (m : ℕ) → Onward (member-tries d m)
 member-tries-on d m = walks (member-tries-inside d m .on-chain)
 

@@ -1,6 +1,6 @@
 -- Maturities.
-use mathlib.Core.Path.{_≡_, refl, sym, _∙_}
-use mathlib.Core.Bool.{true}
+use mathlib.Core.Path.{_≡_, refl, sym, ap, _∙_, subst}
+use mathlib.Core.Bool.{Bool, true, false}
 use mathlib.Core.List.{List, [], _∷_}
 use Prim.Native.Nat.{ℕ, _-_, _<_}
 use native.Mathlib.Omega.{arith}
@@ -8,18 +8,20 @@ use lib.ListN.{drop, getD}
 use Rattle.lexing.specs.bytes.{ascii, lower}
 use Rattle.lexing.specs.reply.{ok, ret}
 use Rattle.lexing.specs.words.{keyword}
+use Rattle.lexing.specs.blanks.{Doc, no-doc, whitespace0}
 use Rattle.lexing.specs.answers.{Rest, wordReply}
 use Rattle.lexing.specs.declared.answers.Lost.{Lost}
 use Rattle.lexing.specs.declared.answers.Step.{Step}
 use Rattle.lexing.specs.declared.answers.Step.the-variants.{Next, Not}
 use Rattle.lexing.proofs.Onward.{Onward}
+use Rattle.lexing.proofs.steps.Laws.{rest-clear}
 use Rattle.lexing.proofs.TokenLocality.{whitespace0-chain}
 use Rattle.lexing.proofs.Composed.{onward-ret, onward-bind, onward-then}
 use Rattle.lexing.proofs.Slicing.{Took, took, walks, reads-in, or-here, or-next}
 use Rattle.items.specs.entries.{api-maturity}
 use Rattle.items.specs.answers.{MaturityTo, maturity-between}
 use Rattle.items.specs.answers.members.{numbered}
-use Rattle.items.specs.inner.maturity.{MaturityBy}
+use Rattle.items.specs.inner.maturity.{MaturityBy, InitialIf}
 use Rattle.items.specs.declared.maturity.Maturity.{Maturity}
 use Rattle.items.proofs.Keywords.{keyword-value, keyword-not}
 use Rattle.items.proofs.Letters.{NoneOf, all-begin, initials-free}
@@ -53,6 +55,13 @@ maturity-other b u ys t x n h = let z : b - b ≡ 0 = omega arith in maturity-is
 -- a maturity, as a step of a sequence
 pub maturity-took : {b n : ℕ} {u r : List ℕ} {t : Maturity} → Rest b u n r → MaturityTo api-maturity t n r → Took api-maturity b u n (t .level) (t .next)
 maturity-took q h = took (walks (api-maturity-local .on-chain)) q (h .reads)
+
+-- none of their letters stands behind blanks: no maturity, and no further blank
+pub no-maturity : {b n : ℕ} {u r : List ℕ} {d : Doc} → Took whitespace0 b u b d n → Rest b u n r → {x y : ℕ} → x ≡ getD r 0 0 → y ≡ lower x → (t : Bool) → InitialIf t y → t ≡ false → Took api-maturity b u n 0 n × Took whitespace0 b u n no-doc n
+no-maturity {b} {n} {u} {r} k q {x} {y} p e t i f =
+    let none = subst (λ (s : Bool). InitialIf s y) f i in
+    let z : n - n ≡ 0 = omega arith in
+    (maturity-took q (maturity-other n r (100 ∷ 105 ∷ 112 ∷ 115 ∷ []) refl y none (ap lower (sym p) ∙ sym e)), took (walks whitespace0-chain) q (rw z (sym (rest-clear k q))))
 
 -- the same with the blanks around it
 between-on : Onward maturity-between

@@ -8,10 +8,10 @@ use borrow.Author.Tests.{eq-eqb, ne-eqb}
 use lib.ListN.{length, drop, getD}
 use lib.Seq.{getD-drop}
 use Rattle.lexing.specs.bytes.{slash, space}
-use Rattle.lexing.specs.reply.{Parser, ret, _>>=_, _>>_, position, failAt, pick}
+use Rattle.lexing.specs.reply.{ok, Parser, ret, _>>=_, _>>_, position, failAt, pick}
 use Rattle.lexing.specs.words.{keyword, tag}
 use Rattle.lexing.specs.integers.{positive-integer}
-use Rattle.lexing.specs.blanks.{no-doc, whitespace0, whitespace1}
+use Rattle.lexing.specs.blanks.{Doc, no-doc, whitespace0, whitespace1}
 use Rattle.lexing.specs.answers.{Rest, BlankTo, docOf, lostOf, lostReply, numberAnswer, numberLost, numberReply, tagReply, wordReply, Skips, SkipsAt, BlankAt, NumberAt}
 use Rattle.lexing.specs.declared.answers.Lost.{Lost}
 use Rattle.lexing.specs.declared.answers.Lost.the-variants.{Fail}
@@ -23,6 +23,7 @@ use Rattle.lexing.specs.declared.integers.Number.{Number}
 use Rattle.lexing.specs.declared.integers.Number.the-variants.{Value, NoNumber}
 use Rattle.lexing.proofs.Onward.{Onward, advances-onward, tag-advances, integer-advances}
 use Rattle.lexing.proofs.Slicing.{Took, took, walks, rebase, rest-from, rest-self, integer-lost}
+use Rattle.lexing.proofs.FirstWord.{blank-clear}
 use Rattle.lexing.proofs.TokenLocality.{keyword-chain, whitespace0-chain, whitespace1-chain}
 use Rattle.lexing.proofs.Dropping.{behind, skip-behind, tag-skips, keyword-skips}
 use Rattle.lexing.proofs.blanks.Laws.{blanks-none, blanks-one}
@@ -100,6 +101,10 @@ module _ (b c : ℕ) (u : List ℕ) (at : (b ≤ c) × (c ≤ b + length u)) {x 
 
     pub blank-one-in : c + 1 ≤ b + length u
     blank-one-in = omega (arith, single .inside, rest .size)
+
+-- no blank stands where blanks were read
+pub rest-clear : {b n c : ℕ} {u v : List ℕ} {d : Doc} → Took whitespace0 b u n d c → Rest b u c v → whitespace0 c v ≡ ok no-doc c v
+rest-clear {b} {n} {c} {u} {v} {d} t q = subst (λ (x : List ℕ). whitespace0 c x ≡ ok no-doc c x) (sym (q .same)) (blank-clear n (drop (n - b) u) d c (drop (c - b) u) (t .goes))
 
 -- as steps of a sequence
 module _ {b n : ℕ} {u : List ℕ} where

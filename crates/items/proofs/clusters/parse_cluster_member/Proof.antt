@@ -8,7 +8,8 @@ use Rattle.lexing.proofs.Slicing.{rest-self, begin, go, on, blank-took}
 use Rattle.items.specs.clusters.{member-tries, parse-cluster-member}
 use Rattle.items.proofs.maturity.Laws.{maturity-took}
 use Rattle.items.proofs.counts.Laws.{count-behind}
-use Rattle.items.proofs.clusters.Laws.{rest-clear, member-tries-on}
+use Rattle.lexing.proofs.steps.Laws.{rest-clear}
+use Rattle.items.proofs.clusters.Laws.{member-tries-on}
 
 whitespace0-requires : tie.Need-whitespace0-requires
 whitespace0-requires c κs = search needs

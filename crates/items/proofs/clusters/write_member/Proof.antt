@@ -7,7 +7,7 @@ use Rattle.lexing.specs.answers.{docOf}
 use Rattle.lexing.proofs.Slicing.{rest-self, blank-took}
 use Rattle.items.proofs.maturity.Laws.{maturity-took}
 use Rattle.items.proofs.writing.Laws.{written-same}
-use Rattle.items.proofs.clusters.Laws.{rest-clear}
+use Rattle.lexing.proofs.steps.Laws.{rest-clear}
 use Rattle.items.proofs.clusters.Whole.{left-room, behind-room, behind-written}
 
 api-maturity-requires : tie.Need-api-maturity-requires

@@ -10,8 +10,7 @@ use Rattle.items.specs.records.{part-records}
 use Rattle.items.specs.endpoints.{part-tries}
 use Rattle.items.proofs.Locality.{part-tries-inside, part-tries-consumes}
 use Rattle.items.proofs.RecordWords.{each-elementwise}
-use Rattle.lexing.proofs.steps.Laws.{blank-at-took}
-use Rattle.items.proofs.clusters.Laws.{rest-clear}
+use Rattle.lexing.proofs.steps.Laws.{blank-at-took, rest-clear}
 use Rattle.items.proofs.endpoints.Placed.{Placing, placing-start, placing-same, placing-room, placing-more, placing-ends}
 use Rattle.items.proofs.endpoints.Laws.{parts-unclosing, parts-nearer}
 

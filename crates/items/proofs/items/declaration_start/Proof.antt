@@ -5,7 +5,7 @@ use mathlib.Core.Path.{sym, _∙_}
 use native.Mathlib.Omega.{arith}
 use Rattle.lexing.proofs.Slicing.{rest-self, blank-took}
 use Rattle.items.proofs.maturity.Laws.{maturity-took}
-use Rattle.items.proofs.clusters.Laws.{rest-clear}
+use Rattle.lexing.proofs.steps.Laws.{rest-clear}
 use Rattle.items.proofs.items.Laws.{start-endpoint, start-cluster, start-type}
 
 slice-aggregate-starts : tie.Need-slice-aggregate-starts

@@ -3,7 +3,7 @@ use Rattle.items.proofs.items.item.Statement.{statement}
 use Rattle.items.proofs.items.item.Tie as tie
 use native.Mathlib.Omega.{arith}
 use Rattle.lexing.proofs.Slicing.{rest-self, blank-took}
-use Rattle.items.proofs.clusters.Laws.{rest-clear}
+use Rattle.lexing.proofs.steps.Laws.{rest-clear}
 use Rattle.items.proofs.items.Laws.{item-words, item-lost, item-blank}
 
 whitespace0-requires : tie.Need-whitespace0-requires
