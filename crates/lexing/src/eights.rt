@@ -2,7 +2,7 @@
 ghost use mathlib.Core.Path.{_≡_};
 ghost use Prim.Native.Nat.{_+_, _≤_};
 ghost use lib.ListN.{length};
-ghost use Rattle.lexing.specs.inner.eights.{pack, bytesFrom, failing, isAlpha, isStar};
+ghost use Rattle.lexing.specs.inner.eights.{pack, bytesFrom, failing, isAlpha, isStar, isCapital};
 
 // Four bytes as a number. The compiler makes one load of a sum in this order.
 fn four_at(part: &[u8], i: usize) -> u64
@@ -39,4 +39,13 @@ pub fn non_stars(w: u64) -> u64
     let other = w ^ 0x2a2a_2a2a_2a2a_2a2a;
     let some = (other & 0x7f7f_7f7f_7f7f_7f7f) + 0x7f7f_7f7f_7f7f_7f7f;
     (some | other) & 0x8080_8080_8080_8080
+}
+
+// The highest bit of each byte that is no capital letter; no other bit is set.
+pub fn non_capitals(w: u64) -> u64
+    ensures { λ r. ⌜ r ≡ failing isCapital w ⌝ }
+{
+    let low = w & 0x7f7f_7f7f_7f7f_7f7f;
+    let outside = (0xc0c0_c0c0_c0c0_c0c0 - low) | (low + 0x2525_2525_2525_2525);
+    (outside | w) & 0x8080_8080_8080_8080
 }

@@ -7,10 +7,12 @@ ghost use Rattle.lexing.specs.integers.{u64-max};
 ghost use Rattle.lexing.specs.words.{isLower, keyword};
 ghost use Rattle.lexing.specs.word_sets.{set-of};
 ghost use Rattle.lexing.specs.answers.{wordReply, WordSetTo};
-ghost use Rattle.lexing.specs.inner.word_sets.{set-gap, startReply, with-flag, initial};
+ghost use Rattle.lexing.specs.inner.word_sets.{set-gap, startReply, with-flag, initial, LowerAt};
 use crate::answers::Step;
 use crate::blanks::whitespace0;
 use crate::bytes::lower_of;
+use crate::eights::eight_at;
+use crate::eights::non_capitals;
 use crate::parts::peek;
 use crate::parts::rest_at;
 use crate::words::keyword;
@@ -155,12 +157,27 @@ fn is_initial(set: u8, x: u8) -> bool
     x == b't'
 }
 
+// Of the first n bytes, how many are passed eight at a time with no capital letter among them.
+fn lower_run(part: &[u8], n: usize) -> usize
+    requires { ⌜ n ≤ length (now part) ⌝ }
+    ensures { λ r. ⌜ LowerAt (now (part .entry)) n r ⌝ }
+{
+    let mut i = 0;
+    while 8 <= n - i {
+        if non_capitals(eight_at(part, i)) != 0x8080_8080_8080_8080 {
+            return i;
+        }
+        i += 8;
+    }
+    i
+}
+
 // Whether the first n bytes are in lower case.
 pub fn is_lower(part: &[u8], n: usize) -> bool
     requires { ⌜ n ≤ length (now part) ⌝ }
     ensures { λ r. ⌜ r ≡ isLower (take n (now (part .entry))) ⌝ }
 {
-    let mut i = 0;
+    let mut i = lower_run(part, n);
     while i < n {
         let x = part[i];
         if lower_of(x) != x {

@@ -175,19 +175,19 @@ fn mark_record(text: &[u8], out: &mut [u8], filter: &mut [u8], start: usize, at:
 }
 
 // Whether a record whose first two bytes are these can be a type's or has a mark: no other record gets a mark or joins the filter.
-fn may_mark(kind: u8, second: u8) -> bool
-    ensures { λ r. ⌜ MayMark r kind second ⌝ }
+fn may_mark(first: u8, second: u8) -> bool
+    ensures { λ r. ⌜ MayMark r first second ⌝ }
 {
     if 64 <= second {
         return true;
     }
-    if kind == 5 {
+    if first == 5 {
         return true;
     }
-    if kind == 2 {
+    if first == 2 {
         return true;
     }
-    if kind == 3 {
+    if first == 3 {
         return true;
     }
     false

@@ -13,7 +13,7 @@ use lib.ListN.{getD}
 use lib.Pow.{pow-pos, pow-add}
 use borrow.Author.Tests.{eqb-false}
 use Rattle.lexing.specs.bytes.{within, lower}
-use Rattle.lexing.specs.inner.eights.{pack, byteAt, bytesFrom, failed, failing, isAlpha, isStar}
+use Rattle.lexing.specs.inner.eights.{pack, byteAt, bytesFrom, failed, failing, isAlpha, isStar, isCapital}
 use Rattle.lexing.proofs.Tests.{eq-of, and-left, and-right}
 
 -- all are bytes
@@ -188,6 +188,23 @@ star-fails w h =
     let other = each-xor (own-bytes w h) (alike 0x2a (omega arith)) in
     let some = each-add (each-and other (alike 0x7f (omega arith))) (alike 0x7f (omega arith)) (λ j. omega (arith, and-le-r (bitXor (byteAt w j) 0x2a) 0x7f)) in
     fails-by isStar starBits star-all w (each-and (each-or some other) (alike 0x80 (omega arith)))
+
+-- capital letters
+abbrev capitalBits : ℕ → ℕ
+capitalBits x = bitAnd (bitOr (bitOr (0xc0 - bitAnd x 0x7f) (bitAnd x 0x7f + 0x25)) x) 0x80
+
+capital-all : every 256 (λ x. eqb (capitalBits x) (failed (isCapital x))) ≡ true
+unfolding every failed within
+capital-all = refl
+
+pub capital-fails : (w : ℕ) → w < 2 ^ 64 → bitAnd (bitOr (bitOr (0xc0c0c0c0c0c0c0c0 - bitAnd w 0x7f7f7f7f7f7f7f7f) (bitAnd w 0x7f7f7f7f7f7f7f7f + 0x2525252525252525)) w) 0x8080808080808080 ≡ failing isCapital w
+unfolding pack
+capital-fails w h =
+    let l : (j : ℕ) → bitAnd (byteAt w j) 0x7f ≤ 0x7f = λ j. and-le-r (byteAt w j) 0x7f in
+    let low = each-and (own-bytes w h) (alike 0x7f (omega arith)) in
+    let below = each-sub (alike 0xc0 (omega arith)) low (λ j. omega (arith, l j)) in
+    let above = each-add low (alike 0x25 (omega arith)) (λ j. omega (arith, l j)) in
+    fails-by isCapital capitalBits capital-all w (each-and (each-or (each-or below above) (own-bytes w h)) (alike 0x80 (omega arith)))
 
 -- trailing zeros
 trailing-mod : (t k m : ℕ) → t ≤ trailingZeros k m → m % 2 ^ t ≡ 0

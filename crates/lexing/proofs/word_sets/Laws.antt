@@ -5,7 +5,7 @@ use mathlib.Core.Bool.{Bool, true, false, _&&_, _||_, not, false≢true}
 use Prim.Native.Nat.{ℕ, zero, suc, _+_, _*_, _-_, _/_, _%_, _^_, _≤_, _<_, zero-le}
 use native.Mathlib.Omega.{arith}
 use native.Mathlib.Numerals.{add-one}
-use native.Mathlib.Nat.{mul-assoc, mul-comm, pow-suc, one-le-pow, pow-le-pow-right, mul-add-div-right, div-eq-of-lt, mul-add-mod-self-right, max-eq-left}
+use native.Mathlib.Nat.{add-zero, mul-assoc, mul-comm, pow-suc, one-le-pow, pow-le-pow-right, mul-add-div-right, div-eq-of-lt, mul-add-mod-self-right, max-eq-left}
 use lib.Dec.{eqb, leb, ltb}
 use lib.ListN.{length, drop, take, getD, drop-of-length-le, List·getD-eq-default}
 use lib.Seq.{drop-cons, getD-take, length-take-le}
@@ -16,7 +16,8 @@ use Rattle.lexing.specs.words.{Word, bytesOf, isKeyword, isLower, keywor
 use Rattle.lexing.specs.blanks.{Doc, whitespace1}
 use Rattle.lexing.specs.word_sets.{next-word, set-step, keywords-set, same-bytes, contains, bit, flags, sets, set-of, set-flags}
 use Rattle.lexing.specs.answers.{Rest, lostReply, wordAt, wordReply, docOf, BlankTo, WordSetTo}
-use Rattle.lexing.specs.inner.word_sets.{set-gap, startReply, with-flag, initial}
+use Rattle.lexing.specs.inner.word_sets.{set-gap, startReply, with-flag, initial, LowerAt}
+use Rattle.lexing.specs.inner.eights.{pack, bytesFrom, failing, isCapital}
 use Rattle.lexing.specs.declared.answers.Lost.{Lost}
 use Rattle.lexing.specs.declared.word_sets.WordSet.{WordSet}
 use Rattle.lexing.specs.declared.answers.Lost.the-variants.{Fail, Stop}
@@ -33,6 +34,7 @@ use Rattle.lexing.proofs.Repetition.{IterAt, iter-start, iter-step, ite
 use Rattle.lexing.proofs.FirstWord.{free-keywords, no-initial}
 use Rattle.lexing.proofs.words.Laws.{Says, keyword-says}
 use Rattle.lexing.proofs.blanks.Laws.{gap-none, gap-some}
+use Rattle.lexing.proofs.eights.Laws.{Bytes, all-failing}
 
 -- the same bytes
 pub same-eq : (u v : List ℕ) → same-bytes u v ≡ true → u ≡ v
@@ -261,11 +263,7 @@ pub initial-past : (x n : ℕ) → 5 ≤ n → false ≡ initial x (set-of n)
 unfolding set-of sets initial
 initial-past x n h = rw (List·getD-eq-default sets [] h)
 
--- the invariant of the test for lower case: the first i bytes are, and what is left is to be
-pub record LowerAt (u : List ℕ) (n i : ℕ) : Type 0 where
-  pub inside : i ≤ n
-  pub left : isLower (drop i (take n u)) ≡ isLower (take n u)
-
+-- the test for lower case
 pub lower-start : (u : List ℕ) (n : ℕ) → LowerAt u n 0
 lower-start u n = record { inside = zero-le; left = refl }
 
@@ -292,6 +290,20 @@ module _ (u : List ℕ) (n i : ℕ) (h : LowerAt u n i) (fits : n ≤ length u) 
 
   pub lower-end : n ≤ i → true ≡ isLower (take n u)
   lower-end le = let l : length (take n u) ≤ i = rw (length-take-le n u fits) le in sym (sym (h .left) ∙ rw (drop-of-length-le (take n u) l) lower-nil)
+
+-- bytes that are no capital letters
+plain-lower : (x : ℕ) → isCapital x ≡ false → lower x ≡ x
+unfolding lower
+plain-lower x e = rw (e, lower) refl
+
+lower-on : (u : List ℕ) (n k i : ℕ) → n ≤ length u → LowerAt u n i → i + k ≤ n → ((j : ℕ) → j < k → lower (getD u (i + j) 0) ≡ getD u (i + j) 0) → LowerAt u n (i + k)
+lower-on u n zero i f h l p = rw add-zero h
+lower-on u n (suc k) i f h l p =
+    let z : i + suc k ≡ i + k + 1 = omega arith in
+    rw z (lower-more u n (i + k) (lower-on u n k i f h (omega arith) (λ j q. p j (omega arith))) f (omega arith) (p k (omega arith)))
+
+pub lower-eight : (u : List ℕ) (n i w m : ℕ) → n ≤ length u → LowerAt u n i → 8 ≤ n - i → Bytes (λ j. getD u j 0) → w ≡ pack 8 (bytesFrom u i) → m ≡ failing isCapital w → m ≡ 0x8080808080808080 → LowerAt u n (i + 8)
+lower-eight u n i w m f h l b e d z = lower-on u n 8 i f h (omega arith) (λ j q. plain-lower _ (all-failing isCapital u i w m b e d j z q))
 
 -- the start of a word
 gap-ok : (b : ℕ) (u : List ℕ) (d : Doc) (c : ℕ) (r : List ℕ) → ok d c r ≡ whitespace1 b u → ok tt c r ≡ set-gap false b u

@@ -35,3 +35,6 @@ isAlpha x = within 0x61 0x7a (lower x)
 
 abbrev pub isStar : ℕ → Bool
 isStar x = eqb x star
+
+abbrev pub isCapital : ℕ → Bool
+isCapital x = within 0x41 0x5a x

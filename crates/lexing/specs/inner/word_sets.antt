@@ -1,10 +1,12 @@
 -- What the private functions of the reader of word sets promise.
-use Prim.Native.Nat.{ℕ, _+_, _-_, _/_, _%_}
+use Prim.Native.Nat.{ℕ, _+_, _-_, _/_, _%_, _≤_}
+use mathlib.Core.Path.{_≡_}
 use mathlib.Core.Bool.{Bool, true, false, _||_}
 use mathlib.Core.List.{List, [], _∷_}
 use lib.Dec.{eqb}
-use lib.ListN.{drop}
+use lib.ListN.{take, drop}
 use Rattle.lexing.specs.reply.{Reply, ok, fail, Parser, ret, _>>_}
+use Rattle.lexing.specs.words.{isLower}
 use Rattle.lexing.specs.blanks.{whitespace1}
 use Rattle.lexing.specs.declared.word_sets.Start.{Start}
 use Rattle.lexing.specs.declared.word_sets.Start.the-variants.{Here, Nowhere}
@@ -29,3 +31,8 @@ unfoldable pub initial : ℕ → List (List ℕ) → Bool
 initial x [] = false
 initial x ([] ∷ ks) = true
 initial x ((y ∷ k) ∷ ks) = eqb x y || initial x ks
+
+-- of the first n bytes those before i are in lower case: all are if those behind them are
+pub record LowerAt (u : List ℕ) (n i : ℕ) : Type 0 where
+  pub inside : i ≤ n
+  pub left : isLower (drop i (take n u)) ≡ isLower (take n u)
