@@ -12,7 +12,7 @@ use Rattle.items.specs.answers.items.{unhoisted-item}
 use Rattle.items.specs.declared.counts.Count.{Count}
 use Rattle.items.proofs.counts.Laws.{count-room}
 use Rattle.items.proofs.writing.Laws.{doc-in-limit}
-use Rattle.items.proofs.clusters.Laws.{rest-clear}
+use Rattle.lexing.proofs.steps.Laws.{rest-clear}
 
 whitespace0-requires : tie.Need-whitespace0-requires
 whitespace0-requires c κs = search needs

@@ -32,7 +32,7 @@ use Rattle.items.proofs.RecordWords.{Elementwise, each-elementwise, catalogue-b
 use Rattle.lexing.proofs.buffers.Laws.{big-endian-length, put-nothing, put-length, put-on}
 use Rattle.items.proofs.Braces.{rest-is}
 use Rattle.items.proofs.Tries.{then-ok, then-fail}
-use Rattle.items.proofs.clusters.Laws.{rest-clear}
+use Rattle.lexing.proofs.steps.Laws.{rest-clear}
 use Rattle.items.proofs.counts.Laws.{Counting, counting-start, counting-more, count-took, count-lost, count-is, count-not, count-pass}
 use Rattle.items.proofs.items.Laws.{item-is, declaration-walks, item-walks, item-words, item-lost, item-blank}
 use Rattle.items.proofs.items.Ends.{item-cases}

@@ -5,7 +5,7 @@ use native.Mathlib.Omega.{arith}
 use Prim.Native.Nat.{_-_, _+_}
 use lib.ListN.{length}
 use Rattle.lexing.proofs.Slicing.{blank-took}
-use Rattle.items.proofs.clusters.Laws.{rest-clear}
+use Rattle.lexing.proofs.steps.Laws.{rest-clear}
 use Rattle.matter_idl.proofs.reading.Laws.{CountingItems, items-start, items-more, items-lost, items-ended}
 
 abbrev Inv-loop : tie.InvT-loop

@@ -6,7 +6,7 @@ use native.Mathlib.Omega.{arith}
 use Prim.Native.Nat.{_+_, _-_}
 use lib.ListN.{length}
 use Rattle.lexing.proofs.Slicing.{blank-took}
-use Rattle.items.proofs.clusters.Laws.{rest-clear}
+use Rattle.lexing.proofs.steps.Laws.{rest-clear}
 use Rattle.items.proofs.writing.Laws.{doc-in-limit}
 use Rattle.matter_idl.proofs.reading.Laws.{hoisting-same, hoisting-room}
 use Rattle.matter_idl.proofs.reading.Marked.{HoistingBehind, behind-start, mark-asks, mark-turn, hoisted-all}
