@@ -1,8 +1,8 @@
 use Rattle.items.proofs.maturity.maturity_between.Statement.{statement}
 use Rattle.items.proofs.maturity.maturity_between.Tie as tie
+use borrow.Author.Tests.{not-true}
 use Rattle.items.specs.answers.{maturity-between}
 use Rattle.items.proofs.maturity.Laws.{no-maturity, between-is, maturity-took}
-use borrow.Author.Tests.{not-true}
 use native.Mathlib.Omega.{arith}
 use Rattle.lexing.proofs.Slicing.{begin, go, on, done}
 use Rattle.lexing.proofs.steps.Laws.{blank-at-took}
