@@ -1,5 +1,5 @@
 -- Scans: a loop over the bytes of a part that ends at the first byte that fails a test.
-use mathlib.Core.Path.{_≡_, refl, sym, ap, _∙_}
+use mathlib.Core.Path.{_≡_, refl, sym, ap, _∙_, subst}
 use mathlib.Core.List.{List, [], _∷_}
 use mathlib.Core.Bool.{Bool, true, false}
 use Prim.Native.Nat.{ℕ, zero, suc, _+_, _≤_, _<_, zero-le}
@@ -102,12 +102,14 @@ module _ (f : ℕ → Bool) (u : List ℕ) (i : ℕ) (h : RunAt f u i) where
       let e : length (takeWhile f (drop i u)) ≡ 0 = rw (drop-of-length-le u le) (ap length (run-nil f)) in
       omega (arith, e, h .left)
 
+-- what holds at i and is kept by each of n turns holds behind them
+pub turns : (P : ℕ → Type 0) (i n : ℕ) → P i → ((j : ℕ) → j < n → P (i + j) → P (i + j + 1)) → P (i + n)
+turns P i zero h f = let z : i ≡ i + 0 = omega arith in subst P z h
+turns P i (suc n) h f = let z : i + n + 1 ≡ i + suc n = omega arith in subst P z (f n (omega arith) (turns P i n h (λ j q. f j (omega arith))))
+
 -- n bytes that pass, at once
 pub runs-on : (f : ℕ → Bool) (u : List ℕ) (i : ℕ) → RunAt f u i → (n : ℕ) → i + n ≤ length u → ((j : ℕ) → j < n → f (getD u (i + j) 0) ≡ true) → RunAt f u (i + n)
-runs-on f u i h zero le t = let z : i + 0 ≡ i = omega arith in rw z h
-runs-on f u i h (suc n) le t =
-    let z : i + n + 1 ≡ i + suc n = omega arith in
-    rw z at (runs-more f u (i + n) (runs-on f u i h n (omega arith) (λ j q. t j (omega arith))) (omega arith) (t n (omega arith)))
+runs-on f u i h n le t = turns (RunAt f u) i n h (λ j q g. runs-more f u (i + j) g (omega arith) (t j q))
 
 -- a scan may start inside the run
 pub runs-from : (f : ℕ → Bool) (u : List ℕ) (n : ℕ) → n ≤ length (takeWhile f u) → RunAt f u n

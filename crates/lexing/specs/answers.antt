@@ -1,8 +1,9 @@
 -- What the answers of the code say, as replies of the definitions. An answer is taken with the offset b and the text u that its reader was handed.
 use Prim.Native.Nat.{ℕ, suc, _+_, _-_, _≤_, _<_}
 use mathlib.Core.Path.{_≡_}
+use mathlib.Core.Bool.{Bool, true, false}
 use mathlib.Core.List.{List}
-use lib.ListN.{length, take, drop}
+use lib.ListN.{length, take, drop, getD}
 use Rattle.lexing.specs.reply.{Reply, ok, fail, stop, Parser, _>>_}
 use Rattle.lexing.specs.words.{Word, word}
 use Rattle.lexing.specs.integers.{Signed, signed}
@@ -31,6 +32,11 @@ pub record Rest (b : ℕ) (u : List ℕ) (c : ℕ) (r : List ℕ) : Type 0 where
   pub from : b ≤ c
   pub same : r ≡ drop (c - b) u
   pub size : c + length r ≡ b + length u
+
+-- where it is said so, eight bytes stand at i, none of them x
+abbrev pub LacksIf : Bool → ℕ → List ℕ → ℕ → Type 0
+LacksIf true x u i = (i + 8 ≤ length u) × ((j : ℕ) → j < 8 → getD u (i + j) 0 ≡ x → ⊥)
+LacksIf false x u i = Unit {0}
 
 -- a value and the offset behind it, or why there is none
 pub data Answer (A : Type 0) : Type 0 where

@@ -6,14 +6,13 @@ ghost use lib.ListN.{length, drop, getD};
 ghost use Rattle.lexing.specs.bytes.{slash, isSpace, inLine, takeWhile};
 ghost use Rattle.lexing.specs.integers.{u64-max};
 ghost use Rattle.lexing.specs.blanks.{until-close, whitespace-group, one-blank, whitespace1};
-ghost use Rattle.lexing.specs.inner.blanks.{isClose, PlainIf, endUntil, docBy, turnReply};
+ghost use Rattle.lexing.specs.inner.blanks.{isClose, endUntil, docBy, turnReply};
 ghost use Rattle.lexing.specs.answers.{groupReply, docOf, BlankTo, gapReply, gapLost};
 use crate::answers::Lost;
 use crate::bytes::is_in_line;
 use crate::bytes::is_space;
-use crate::eights::eight_at;
-use crate::eights::non_stars;
 use crate::parts::after;
+use crate::parts::lacks;
 use crate::parts::peek;
 use crate::parts::rest_at;
 
@@ -101,24 +100,13 @@ fn is_close_at(part: &[u8], i: usize) -> bool
     peek(part, i + 1) == b'/'
 }
 
-// Whether eight bytes stand at a place, none of them a star.
-fn is_plain_at(part: &[u8], i: usize) -> bool
-    requires { ⌜ i ≤ length (now part) ⌝ }
-    ensures { λ r. ⌜ PlainIf r (now (part .entry)) i ⌝ }
-{
-    if part.len() - i < 8 {
-        return false;
-    }
-    non_stars(eight_at(part, i)) == 0x8080_8080_8080_8080
-}
-
 // How many bytes stand before the first `*/`. A turn passes eight bytes without a star, as most are, else one.
 fn comment_end(part: &[u8]) -> End
     ensures { λ r. ⌜ endUntil r (now (part .entry)) ≡ until-close (now (part .entry)) ⌝ }
 {
     let mut i = 0;
     while i < part.len() {
-        if is_plain_at(part, i) {
+        if lacks(part, i, b'*') {
             i += 8;
             continue;
         }

@@ -2,7 +2,7 @@
 ghost use mathlib.Core.Path.{_≡_};
 ghost use Prim.Native.Nat.{_+_, _≤_};
 ghost use lib.ListN.{length};
-ghost use Rattle.lexing.specs.inner.eights.{pack, bytesFrom, failing, isAlpha, isStar, isCapital};
+ghost use Rattle.lexing.specs.inner.eights.{pack, bytesFrom, failing, isAlpha, isByte, isCapital};
 
 // Four bytes as a number. The compiler makes one load of a sum in this order.
 fn four_at(part: &[u8], i: usize) -> u64
@@ -32,11 +32,11 @@ pub fn non_letters(w: u64) -> u64
     (outside | w) & 0x8080_8080_8080_8080
 }
 
-// The highest bit of each byte that is no star; no other bit is set.
-pub fn non_stars(w: u64) -> u64
-    ensures { λ r. ⌜ r ≡ failing isStar w ⌝ }
+// The highest bit of each byte that is not x; no other bit is set.
+pub fn others(w: u64, x: u8) -> u64
+    ensures { λ r. ⌜ r ≡ failing (isByte x) w ⌝ }
 {
-    let other = w ^ 0x2a2a_2a2a_2a2a_2a2a;
+    let other = w ^ ((x as u64) * 0x0101_0101_0101_0101);
     let some = (other & 0x7f7f_7f7f_7f7f_7f7f) + 0x7f7f_7f7f_7f7f_7f7f;
     (some | other) & 0x8080_8080_8080_8080
 }

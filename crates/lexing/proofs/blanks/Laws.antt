@@ -8,13 +8,12 @@ use native.Mathlib.Numerals.{add-one}
 use lib.Dec.{eqb}
 use lib.ListN.{length, drop, getD, drop-of-length-le, length-drop}
 use lib.Seq.{drop-cons, drop-drop, getD-drop}
-use borrow.Author.Tests.{eq-eqb, ne-eqb, eqb-true, eqb-false}
+use borrow.Author.Tests.{eq-eqb, ne-eqb, eqb-true}
 use Rattle.lexing.specs.bytes.{slash, star, isSpace, inLine, takeWhile, dropWhile}
 use Rattle.lexing.specs.reply.{ok, fail, ret, _>>=_, catch, keep, position, failAt, pick}
 use Rattle.lexing.specs.blanks.{Whitespace, white, plain, doc-comment, line-comment, Until, found, never, one-more, until-close, comment-kind, closed, block-comment, multispace1, whitespace-group, Doc, no-doc, doc-at, after, one-blank, whitespace0, whitespace1}
-use Rattle.lexing.specs.answers.{Rest, groupReply, blankReply, BlankTo, docOf}
-use Rattle.lexing.specs.inner.blanks.{isClose, PlainIf, endUntil, docBy, turnReply}
-use Rattle.lexing.specs.inner.eights.{pack, bytesFrom, failing, isStar}
+use Rattle.lexing.specs.answers.{Rest, LacksIf, groupReply, blankReply, BlankTo, docOf}
+use Rattle.lexing.specs.inner.blanks.{isClose, endUntil, docBy, turnReply}
 use Rattle.lexing.specs.declared.blanks.End.{End}
 use Rattle.lexing.specs.declared.blanks.End.the-variants.{Closed, Open}
 use Rattle.lexing.specs.declared.blanks.Group.{Group}
@@ -27,8 +26,7 @@ use Rattle.lexing.specs.declared.blanks.Turn.{Turn}
 use Rattle.lexing.specs.declared.blanks.Turn.the-variants.{Again, Done}
 use Rattle.lexing.proofs.Onward.{group-advances}
 use Rattle.lexing.proofs.TokenLocality.{no-line, no-block, open-line, no-group, one-blank-chain, one-blank-consumes}
-use Rattle.lexing.proofs.Scans.{first-of, drop-run, run-cons, run-none, run-le, run-stops}
-use Rattle.lexing.proofs.eights.Laws.{Bytes, all-failing}
+use Rattle.lexing.proofs.Scans.{first-of, turns, drop-run, run-cons, run-none, run-le, run-stops}
 use Rattle.lexing.proofs.Slicing.{took, walks, rest-from}
 use Rattle.lexing.proofs.Repetition.{IterAt, iter-start, iter-step, iter-ends}
 
@@ -94,21 +92,10 @@ module _ (u : List ℕ) (i : ℕ) (h : UntilAt u i) where
 
 -- bytes without a star are passed, any number of them
 until-plain : (u : List ℕ) (i n : ℕ) → UntilAt u i → i + n ≤ length u → ((j : ℕ) → j < n → getD u (i + j) 0 ≡ star → ⊥) → UntilAt u (i + n)
-until-plain u i zero h l k = let z : i + 0 ≡ i = omega arith in rw z h
-until-plain u i (suc n) h l k =
-    let z : i + n + 1 ≡ i + suc n = omega arith in
-    let g : false ≡ isClose (getD u (i + n) 0) (getD u (i + n + 1) 0) = rw (ne-eqb (getD u (i + n) 0) star (k n (omega arith))) in
-    rw z at (until-more u (i + n) (until-plain u i n h (omega arith) (λ j q. k j (omega arith))) (omega arith) false g refl)
+until-plain u i n h l k = turns (UntilAt u) i n h (λ j q g. until-more u (i + j) g (omega arith) false (rw (ne-eqb (getD u (i + j) 0) star (k j q))) refl)
 
-pub until-eight : (u : List ℕ) (i : ℕ) → UntilAt u i → (t : Bool) → PlainIf t u i → t ≡ true → UntilAt u (i + 8)
-until-eight u i h t p e = let q : PlainIf true u i = rw e at p in until-plain u i 8 h (q .0) (q .1)
-
-pub plain-eight : (u : List ℕ) (i w m : ℕ) → Bytes (λ j. getD u j 0) → w ≡ pack 8 (bytesFrom u i) → m ≡ failing isStar w → 8 ≤ length u - i → PlainIf (eqb m 0x8080808080808080) u i
-plain-eight u i w m b e d l = go (eqb m 0x8080808080808080) refl
-  where
-    go : (t : Bool) → eqb m 0x8080808080808080 ≡ t → PlainIf t u i
-    go true q = (omega arith, λ j h. eqb-false _ _ (all-failing isStar u i w m b e d j (eqb-true _ _ q) h))
-    go false q = tt
+pub until-eight : (u : List ℕ) (i : ℕ) → UntilAt u i → (t : Bool) → LacksIf t star u i → t ≡ true → UntilAt u (i + 8)
+until-eight u i h t p e = let q : LacksIf true star u i = rw e at p in until-plain u i 8 h (q .0) (q .1)
 
 -- line comments
 line-at : (b z : ℕ) (u : List ℕ) (t : Bool) → inLine z ≡ t → line-comment b (slash ∷ slash ∷ z ∷ u) ≡ elim t [ true ↦ ok plain (b + (3 + length (takeWhile inLine u))) (dropWhile inLine u) | false ↦ fail b ]

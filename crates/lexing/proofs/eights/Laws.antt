@@ -6,14 +6,15 @@ use Prim.Native.Nat.{ℕ, zero, suc, _+_, _-_, _*_, _/_, _%_, _^_, _≤_, _<_, z
 use native.Mathlib.Omega.{arith}
 use native.Mathlib.Nat.{mod-one, pow-suc}
 use lib.Arith.{mod-mul}
-use lib.Bits.{bitAnd, bitOr, bitXor, and-le-r, and-lt, or-lt, xor-lt, and-block, or-block, xor-block}
+use lib.Bits.{bitAnd, bitOr, bitXor, and-le-l, and-le-r, xor-add-and, xor-self, and-lt, or-lt, xor-lt, and-block, or-block, xor-block}
 use lib.Count.{trailingZeros, under, trailing-le}
 use lib.Dec.{eqb}
-use lib.ListN.{getD}
+use lib.ListN.{length, getD}
 use lib.Pow.{pow-pos, pow-add}
-use borrow.Author.Tests.{eqb-false}
+use borrow.Author.Tests.{eq-eqb, ne-eqb, eqb-true, eqb-false}
 use Rattle.lexing.specs.bytes.{within, lower}
-use Rattle.lexing.specs.inner.eights.{pack, byteAt, bytesFrom, failed, failing, isAlpha, isStar, isCapital}
+use Rattle.lexing.specs.inner.eights.{pack, byteAt, bytesFrom, failed, failing, isAlpha, isByte, isCapital}
+use Rattle.lexing.specs.answers.{LacksIf}
 use Rattle.lexing.proofs.Tests.{eq-of, and-left, and-right}
 
 -- all are bytes
@@ -168,26 +169,35 @@ module _ (w : ℕ) (h : w < 2 ^ 64) where
       let above = each-add folds (alike 0x05 (omega arith)) (λ j. omega (arith, l j)) in
       fails-by isAlpha alphaBits alpha-all w (each-and (each-or (each-or below above) (own-bytes w h)) (alike 0x80 (omega arith)))
 
--- stars
-abbrev starBits : ℕ → ℕ
-starBits x = bitAnd (bitOr (bitAnd (bitXor x 0x2a) 0x7f + 0x7f) (bitXor x 0x2a)) 0x80
+-- bytes that are not x: the bits of their difference
+abbrev zeroBits : ℕ → ℕ
+zeroBits z = bitAnd (bitOr (bitAnd z 0x7f + 0x7f) z) 0x80
 
-star-all : every 256 (λ x. eqb (starBits x) (failed (isStar x))) ≡ true
+zero-all : every 256 (λ z. eqb (zeroBits z) (failed (eqb z 0))) ≡ true
 unfolding every failed
-star-all = refl
+zero-all = refl
 
-abbrev otherEight : ℕ → ℕ
-otherEight w = bitXor w 0x2a2a2a2a2a2a2a2a
+xor-none : (y x : ℕ) → eqb (bitXor y x) 0 ≡ eqb y x
+xor-none y x = go (eqb y x) refl
+  where
+    go : (t : Bool) → eqb y x ≡ t → eqb (bitXor y x) 0 ≡ t
+    go true e = eq-eqb (bitXor y x) 0 (ap (λ (z : ℕ). bitXor z x) (eq-of y x e) ∙ xor-self x)
+    go false e = ne-eqb (bitXor y x) 0 (λ z. eqb-false y x e (omega (arith, z, xor-add-and y x, and-le-l y x, and-le-r y x)))
 
-pub other-fits : (w : ℕ) → bitAnd (otherEight w) 0x7f7f7f7f7f7f7f7f ≤ 0x7f7f7f7f7f7f7f7f
-other-fits w = and-le-r (otherEight w) 0x7f7f7f7f7f7f7f7f
+abbrev otherEight : ℕ → ℕ → ℕ
+otherEight w x = bitXor w (x * 0x0101010101010101)
 
-pub star-fails : (w : ℕ) → w < 2 ^ 64 → bitAnd (bitOr (bitAnd (otherEight w) 0x7f7f7f7f7f7f7f7f + 0x7f7f7f7f7f7f7f7f) (otherEight w)) 0x8080808080808080 ≡ failing isStar w
-unfolding pack
-star-fails w h =
-    let other = each-xor (own-bytes w h) (alike 0x2a (omega arith)) in
-    let some = each-add (each-and other (alike 0x7f (omega arith))) (alike 0x7f (omega arith)) (λ j. omega (arith, and-le-r (bitXor (byteAt w j) 0x2a) 0x7f)) in
-    fails-by isStar starBits star-all w (each-and (each-or some other) (alike 0x80 (omega arith)))
+pub other-fits : (w x : ℕ) → bitAnd (otherEight w x) 0x7f7f7f7f7f7f7f7f ≤ 0x7f7f7f7f7f7f7f7f
+other-fits w x = and-le-r (otherEight w x) 0x7f7f7f7f7f7f7f7f
+
+pub other-fails : (w x : ℕ) → w < 2 ^ 64 → x < 256 → bitAnd (bitOr (bitAnd (otherEight w x) 0x7f7f7f7f7f7f7f7f + 0x7f7f7f7f7f7f7f7f) (otherEight w x)) 0x8080808080808080 ≡ failing (isByte x) w
+unfolding pack failing
+other-fails w x h k =
+    let each-x : Eight (x * 0x0101010101010101) (λ j. x) = record { is = omega arith; byte = λ j. k } in
+    let other = each-xor (own-bytes w h) each-x in
+    let some = each-add (each-and other (alike 0x7f (omega arith))) (alike 0x7f (omega arith)) (λ j. omega (arith, and-le-r (bitXor (byteAt w j) x) 0x7f)) in
+    let bits = each-and (each-or some other) (alike 0x80 (omega arith)) in
+    bits .is ∙ pack-same 8 _ _ (λ j. eq-of _ _ (every-at 256 (λ z. eqb (zeroBits z) (failed (eqb z 0))) zero-all (bitXor (byteAt w j) x) (other .byte j)) ∙ ap failed (xor-none (byteAt w j) x))
 
 -- capital letters
 abbrev capitalBits : ℕ → ℕ
@@ -266,3 +276,11 @@ module _ (t : ℕ → Bool) (u : List ℕ) (i w m : ℕ) (b : Bytes (λ j. getD 
       let k = byte-pack 8 (λ k. failed (t (byteAt w k))) (λ k. failed-lt (t (byteAt w k))) j h in
       let c = byte-pack 8 (λ k. 0x80) (λ k. omega arith) j h in
       sym (same-byte h) ∙ failed-so _ (sym k ∙ (ap (λ (v : ℕ). byteAt v j) (sym d ∙ z) ∙ c))
+
+-- so that a reader can say of eight bytes that none is x
+pub lacks-eight : (x : ℕ) (u : List ℕ) (i w m : ℕ) → Bytes (λ j. getD u j 0) → w ≡ pack 8 (bytesFrom u i) → m ≡ failing (isByte x) w → 8 ≤ length u - i → LacksIf (eqb m 0x8080808080808080) x u i
+lacks-eight x u i w m b e d l = go (eqb m 0x8080808080808080) refl
+  where
+    go : (t : Bool) → eqb m 0x8080808080808080 ≡ t → LacksIf t x u i
+    go true q = (omega arith, λ j h. eqb-false _ _ (all-failing (isByte x) u i w m b e d j (eqb-true _ _ q) h))
+    go false q = tt

@@ -5,7 +5,7 @@ use mathlib.Core.Bool.{Bool, true, false, _&&_, _||_, not, false≢true}
 use Prim.Native.Nat.{ℕ, zero, suc, _+_, _*_, _-_, _/_, _%_, _^_, _≤_, _<_, zero-le}
 use native.Mathlib.Omega.{arith}
 use native.Mathlib.Numerals.{add-one}
-use native.Mathlib.Nat.{add-zero, mul-assoc, mul-comm, pow-suc, one-le-pow, pow-le-pow-right, mul-add-div-right, div-eq-of-lt, mul-add-mod-self-right, max-eq-left}
+use native.Mathlib.Nat.{mul-assoc, mul-comm, pow-suc, one-le-pow, pow-le-pow-right, mul-add-div-right, div-eq-of-lt, mul-add-mod-self-right, max-eq-left}
 use lib.Dec.{eqb, leb, ltb}
 use lib.ListN.{length, drop, take, getD, drop-of-length-le, List·getD-eq-default}
 use lib.Seq.{drop-cons, getD-take, length-take-le}
@@ -34,6 +34,7 @@ use Rattle.lexing.proofs.Repetition.{IterAt, iter-start, iter-step, ite
 use Rattle.lexing.proofs.FirstWord.{free-keywords, no-initial}
 use Rattle.lexing.proofs.words.Laws.{Says, keyword-says}
 use Rattle.lexing.proofs.blanks.Laws.{gap-none, gap-some}
+use Rattle.lexing.proofs.Scans.{turns}
 use Rattle.lexing.proofs.eights.Laws.{Bytes, all-failing}
 
 -- the same bytes
@@ -297,10 +298,7 @@ unfolding lower
 plain-lower x e = rw (e, lower) refl
 
 lower-on : (u : List ℕ) (n k i : ℕ) → n ≤ length u → LowerAt u n i → i + k ≤ n → ((j : ℕ) → j < k → lower (getD u (i + j) 0) ≡ getD u (i + j) 0) → LowerAt u n (i + k)
-lower-on u n zero i f h l p = rw add-zero h
-lower-on u n (suc k) i f h l p =
-    let z : i + suc k ≡ i + k + 1 = omega arith in
-    rw z (lower-more u n (i + k) (lower-on u n k i f h (omega arith) (λ j q. p j (omega arith))) f (omega arith) (p k (omega arith)))
+lower-on u n k i f h l p = turns (LowerAt u n) i k h (λ j q g. lower-more u n (i + j) g f (omega arith) (p j q))
 
 pub lower-eight : (u : List ℕ) (n i w m : ℕ) → n ≤ length u → LowerAt u n i → 8 ≤ n - i → Bytes (λ j. getD u j 0) → w ≡ pack 8 (bytesFrom u i) → m ≡ failing isCapital w → m ≡ 0x8080808080808080 → LowerAt u n (i + 8)
 lower-eight u n i w m f h l b e d z = lower-on u n 8 i f h (omega arith) (λ j q. plain-lower _ (all-failing isCapital u i w m b e d j z q))

@@ -18,11 +18,6 @@ use Rattle.lexing.specs.declared.blanks.Turn.the-variants.{Again, Done}
 abbrev pub isClose : ℕ → ℕ → Bool
 isClose x y = eqb x star && eqb y slash
 
--- where it is said so, eight bytes stand at i, none of them a star
-abbrev pub PlainIf : Bool → List ℕ → ℕ → Type 0
-PlainIf true u i = (i + 8 ≤ length u) × ((j : ℕ) → j < 8 → getD u (i + j) 0 ≡ star → ⊥)
-PlainIf false u i = Unit {0}
-
 -- where the search for `*/` ended
 abbrev pub endUntil : End → List ℕ → Until
 endUntil (Closed n) u = found n (drop (n + 2) u)

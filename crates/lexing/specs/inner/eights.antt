@@ -4,7 +4,7 @@ use mathlib.Core.Bool.{Bool, true, false}
 use mathlib.Core.List.{List}
 use lib.Dec.{eqb}
 use lib.ListN.{getD}
-use Rattle.lexing.specs.bytes.{star, within, lower}
+use Rattle.lexing.specs.bytes.{within, lower}
 
 -- the number whose n bytes are f 0, f 1, ..
 unfoldable pub pack : ℕ → (ℕ → ℕ) → ℕ
@@ -33,8 +33,9 @@ failing t w = pack 8 (λ j. failed (t (byteAt w j)))
 unfoldable pub isAlpha : ℕ → Bool
 isAlpha x = within 0x61 0x7a (lower x)
 
-abbrev pub isStar : ℕ → Bool
-isStar x = eqb x star
+-- the byte x
+abbrev pub isByte : ℕ → ℕ → Bool
+isByte x y = eqb y x
 
 abbrev pub isCapital : ℕ → Bool
 isCapital x = within 0x41 0x5a x

@@ -1,5 +1,5 @@
 -- The scans for cuts: what the bytes that are passed leave of a text's sections.
-use mathlib.Core.Path.{_≡_, refl, sym, ap, _∙_}
+use mathlib.Core.Path.{_≡_, refl, sym, ap, _∙_, subst}
 use mathlib.Core.Logic.{inl, inr}
 use mathlib.Core.Bool.{Bool, true, false}
 use mathlib.Core.List.{List, [], _∷_, _++_, append-assoc, append-nil}
@@ -10,7 +10,9 @@ use lib.Dec.{eqb}
 use lib.ListN.{length, take, drop, getD, drop-of-length-le}
 use lib.Seq.{drop-cons, take-suc, take-all}
 use borrow.Author.Tests.{ne-eqb}
+use Rattle.lexing.specs.answers.{LacksIf}
 use Rattle.lexing.proofs.Tests.{eq-of, and-right}
+use Rattle.lexing.proofs.Scans.{turns}
 use Rattle.matter_idl.specs.sections.{line-feed, closing-brace, cut-after, before-first, cut-from, sections}
 use Rattle.matter_idl.specs.inner.sections.{FirstSection}
 
@@ -148,3 +150,17 @@ module _ {u : List ℕ} {i n : ℕ} (h : CutsAt u i n) {t : Bool} (c : t ≡ cut
 
 pub cuts-end : {u : List ℕ} {i n : ℕ} → CutsAt u i n → length u ≤ i → n ≡ length (sections u)
 cuts-end {u} {i} h l = omega (arith, h .left, ap length (at-end u i l))
+
+-- eight bytes without a brace are passed at once
+module _ (u : List ℕ) (i : ℕ) (t : Bool) (p : LacksIf t closing-brace u i) (e : t ≡ true) where
+  lacking : LacksIf true closing-brace u i
+  lacking = subst (λ (b : Bool). LacksIf b closing-brace u i) e p
+
+  pub eight-inside : i + 8 ≤ length u
+  eight-inside = lacking .0
+
+  pub uncut-eight : Uncut u i → Uncut u (i + 8)
+  uncut-eight h = turns (Uncut u) i 8 h (λ j q g. uncut-more g (no-brace _ (lacking .1 j q)) (omega (arith, lacking .0)) refl)
+
+  pub cuts-eight : {n : ℕ} → CutsAt u i n → CutsAt u (i + 8) n
+  cuts-eight {n} h = turns (λ k. CutsAt u k n) i 8 h (λ j q g. cuts-none g (no-brace _ (lacking .1 j q)) (omega (arith, lacking .0)) refl)

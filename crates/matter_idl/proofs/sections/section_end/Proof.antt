@@ -1,10 +1,12 @@
 use borrow.Author.Needs.{needs}
 use Rattle.matter_idl.proofs.sections.section_end.Statement.{statement}
 use Rattle.matter_idl.proofs.sections.section_end.Tie as tie
+use denote.Ref.{now}
 use Prim.Native.Nat.{_-_}
 use lib.ListN.{length}
 use mathlib.Core.Path.{refl}
-use Rattle.matter_idl.proofs.sections.Laws.{Uncut, uncut-start, uncut-more, cut-found, cut-nowhere}
+use native.Mathlib.Omega.{arith}
+use Rattle.matter_idl.proofs.sections.Laws.{Uncut, uncut-start, uncut-more, eight-inside, uncut-eight, cut-found, cut-nowhere}
 
 abbrev Inv-loop : tie.InvT-loop
 Inv-loop part base i₀ i = Uncut part i
@@ -15,8 +17,20 @@ abbrev μ-loop : tie.MeasureT-loop
 loop-holds : tie.Need-loop-holds Inv-loop μ-loop
 loop-holds c = uncut-start _
 
+lacks-requires : tie.Need-lacks-requires Inv-loop μ-loop
+lacks-requires c κs = search needs
+
+add-i : tie.Need-add-i Inv-loop μ-loop
+add-i c = omega (arith, eight-inside (now (c .before .before .before .before .before .args .part)) (c .before .before .before .loop .i) (c .before .lacks .result) (c .before .lacks .ensures) (c .if1 .taken))
+
+loop-less : tie.Need-loop-less Inv-loop μ-loop
+loop-less c = omega (arith, eight-inside (now (c .before .before .before .before .before .args .part)) (c .before .before .before .loop .i) (c .before .lacks .result) (c .before .lacks .ensures) (c .if1 .taken))
+
+loop-again : tie.Need-loop-again Inv-loop μ-loop
+loop-again c = uncut-eight (now (c .before .before .before .before .before .args .part)) (c .before .before .before .loop .i) (c .before .lacks .result) (c .before .lacks .ensures) (c .if1 .taken) (c .before .before .before .loop .inv)
+
 is-cut-requires : tie.Need-is-cut-requires Inv-loop μ-loop
-is-cut-requires c κs = (c .before .loop .inv .from, c .loop-test .taken)
+is-cut-requires c κs = (c .before .before .before .loop .inv .from, c .before .before .loop-test .taken)
 
 add-result : tie.Need-add-result Inv-loop μ-loop
 add-result c = search needs
@@ -25,16 +39,16 @@ add-result-2 : tie.Need-add-result-2 Inv-loop μ-loop
 add-result-2 c = search needs
 
 returns : tie.Need-returns Inv-loop μ-loop
-returns c = cut-found (c .before .before .before .loop .inv) (c .before .is-cut .ensures) (c .before .before .loop-test .taken) (c .if1 .taken) _ refl
+returns c = cut-found (c .before .before .before .before .before .loop .inv) (c .before .is-cut .ensures) (c .before .before .before .before .loop-test .taken) (c .if2 .taken) _ refl
 
-add-i : tie.Need-add-i Inv-loop μ-loop
-add-i c = search needs
+add-i-2 : tie.Need-add-i-2 Inv-loop μ-loop
+add-i-2 c = search needs
 
-loop-less : tie.Need-loop-less Inv-loop μ-loop
-loop-less c = search needs
+loop-less-2 : tie.Need-loop-less-2 Inv-loop μ-loop
+loop-less-2 c = search needs
 
-loop-again : tie.Need-loop-again Inv-loop μ-loop
-loop-again c = uncut-more (c .before .before .before .loop .inv) (c .before .is-cut .ensures) (c .before .before .loop-test .taken) (c .if1 .left)
+loop-again-2 : tie.Need-loop-again-2 Inv-loop μ-loop
+loop-again-2 c = uncut-more (c .before .before .before .before .before .loop .inv) (c .before .is-cut .ensures) (c .before .before .before .before .loop-test .taken) (c .if2 .left)
 
 add-result-3 : tie.Need-add-result-3 Inv-loop μ-loop
 add-result-3 c = search needs
@@ -49,12 +63,16 @@ section-end-spec =
     Inv-loop
     μ-loop
     loop-holds
+    lacks-requires
+    add-i
+    loop-less
+    loop-again
     is-cut-requires
     add-result
     add-result-2
     returns
-    add-i
-    loop-less
-    loop-again
+    add-i-2
+    loop-less-2
+    loop-again-2
     add-result-3
     returns-2)
