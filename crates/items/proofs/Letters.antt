@@ -39,7 +39,7 @@ abbrev pub NoneOf : List ℕ → ℕ → Type 0
 NoneOf [] x = Unit {0}
 NoneOf (y ∷ ys) x = NoneOf ys x × (x ≡ y → ⊥)
 
-abbrev has : List ℕ → ℕ → Bool
+abbrev pub has : List ℕ → ℕ → Bool
 has [] y = false
 has (z ∷ zs) y = eqb y z || has zs y
 
@@ -51,6 +51,10 @@ all-begin ys (k ∷ ks) = (ltb 0 (length k) && has ys (getD k 0 0)) && all-begin
 pub or-cases : {P : Type 0} (s t : Bool) → (s || t) ≡ true → (s ≡ true → P) → (t ≡ true → P) → P
 or-cases true t e f g = f refl
 or-cases false t e f g = g e
+
+pub none-has : (ys : List ℕ) (x : ℕ) → NoneOf ys x → (y : ℕ) → has ys y ≡ true → x ≡ y → ⊥
+none-has [] x n y e q = false≢true e
+none-has (z ∷ zs) x n y e q = or-cases (eqb y z) (has zs y) e (λ h. n .1 (q ∙ eqb-true y z h)) (λ h. none-has zs x (n .0) y h q)
 
 module _ (b : ℕ) (u : List ℕ) where
   unlike-fails : (k : List ℕ) (ls : List (ℕ × ℕ)) → Letters u ls → unlike ls k ≡ true → keyword k b u ≡ fail b
@@ -72,10 +76,6 @@ module _ (b : ℕ) (u : List ℕ) where
   outs-free ls h js f (k ∷ ks) e =
       let t = and-left (unlike ls k || among js k) (all-out ls js ks) e in
       (or-cases (unlike ls k) (among js k) t (unlike-fails k ls h) (among-free js f k), outs-free ls h js f ks (and-right (unlike ls k || among js k) (all-out ls js ks) e))
-
-  none-has : (ys : List ℕ) (x : ℕ) → NoneOf ys x → (y : ℕ) → has ys y ≡ true → x ≡ y → ⊥
-  none-has [] x n y e q = false≢true e
-  none-has (z ∷ zs) x n y e q = or-cases (eqb y z) (has zs y) e (λ h. n .1 (q ∙ eqb-true y z h)) (λ h. none-has zs x (n .0) y h q)
 
   pub initials-free : (ys : List ℕ) (x : ℕ) → NoneOf ys x → lower (getD u 0 0) ≡ x → (ks : List (List ℕ)) → all-begin ys ks ≡ true → Frees b u ks
   initials-free ys x n h [] e = tt

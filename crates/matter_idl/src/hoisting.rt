@@ -12,16 +12,25 @@ use crate::filter::hash_of;
 use crate::filter::may_hold;
 use lexing::buffers::put_word;
 
-// How many words a record of a kind takes.
+// How many words a record of a kind takes. It is a match and no table, since the next record's offset would wait for a load from it.
 fn words_of(kind: u8) -> usize
     ensures { λ r. ⌜ r ≡ words-of-kind kind ⌝ }
 {
-    let further = b"\x00\x03\x02\x02\x01\x02\x03\x01\x04\x02\x01\x02\x00\x00\x01\x00\x00";
-    let k = kind as usize;
-    if k < further.len() {
-        return 1 + further[k] as usize;
+    match kind {
+        1 => 4,
+        2 => 3,
+        3 => 3,
+        4 => 2,
+        5 => 3,
+        6 => 4,
+        7 => 2,
+        8 => 5,
+        9 => 3,
+        10 => 2,
+        11 => 3,
+        14 => 2,
+        _ => 1,
     }
-    1
 }
 
 fn wide(x: u8) -> u64

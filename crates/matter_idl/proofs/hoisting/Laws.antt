@@ -17,32 +17,34 @@ use Rattle.lexing.specs.buffers.{from-big-endian}
 use Rattle.matter_idl.specs.inner.hoisting.{NameIn, word-hits, Catalogue, flags-shared, is-unmarked, MayMark}
 use Rattle.matter_idl.specs.hoisting.{bytes-at, hits, found}
 use Rattle.matter_idl.proofs.hoisting.Walk.{Walk, FirstOf, kind-of, place-of, offset-of, size-of, walk-first, walk-next, Standing, stands-room, stands-inside, walk-stands, walk-over}
+use Rattle.lexing.proofs.Tests.{and-left, and-right}
+use Rattle.items.proofs.Letters.{NoneOf, has, none-has, or-cases}
 use Rattle.matter_idl.proofs.hoisting.Search.{and-nil}
-
--- a record has at most four further words
-abbrev below : ℕ → List ℕ → Bool
-below n [] = true
-below n (x ∷ l) = leb x n && below n l
-
-both : (a b : Bool) → (a && b) ≡ true → (a ≡ true) × (b ≡ true)
-both true b h = (refl, h)
-both false b h = let z : _≡_ {A = ℕ} 0 1 = cc in absurd (omega arith)
-
-at-most : (n : ℕ) (l : List ℕ) → below n l ≡ true → (k : ℕ) → getD l k 0 ≤ n
-at-most n [] h k = omega arith
-at-most n (x ∷ l) h zero = leb-true x n (both (leb x n) (below n l) h .0)
-at-most n (x ∷ l) h (suc k) = at-most n l (both (leb x n) (below n l) h .1) k
 
 abbrev table : List ℕ
 table = 0 ∷ 3 ∷ 2 ∷ 2 ∷ 1 ∷ 2 ∷ 3 ∷ 1 ∷ 4 ∷ 2 ∷ 1 ∷ 2 ∷ 0 ∷ 0 ∷ 1 ∷ 0 ∷ 0 ∷ []
 
-pub further-small : (k : ℕ) → further-of-kind k ≤ 4
-unfolding further-of-kind
-further-small k = at-most 4 table refl k
+-- the words of a kind that is told
+pub words-at : {k j : ℕ} → k ≡ j → words-of-kind j ≡ words-of-kind k
+words-at e = ap words-of-kind (sym e)
 
-pub words-past : {k : ℕ} → 17 ≤ k → 1 ≡ words-of-kind k
+-- every entry of a table, from a place on, is 0 or has its place among some
+abbrev only : List ℕ → ℕ → List ℕ → Bool
+only js i [] = true
+only js i (x ∷ l) = (eqb x 0 || has js i) && only js (suc i) l
+
+zero-else : (js l : List ℕ) (i k : ℕ) → only js i l ≡ true → NoneOf js (k + i) → getD l k 0 ≡ 0
+zero-else js [] i k e n = refl
+zero-else js (x ∷ l) i zero e n = or-cases (eqb x 0) (has js i) (and-left (eqb x 0 || has js i) (only js (suc i) l) e) (eqb-true x 0) (λ h. absurd (none-has js (0 + i) n i h (let z : 0 + i ≡ i = omega arith in z)))
+zero-else js (x ∷ l) i (suc k) e n = zero-else js l (suc i) k (and-right (eqb x 0 || has js i) (only js (suc i) l) e) (subst (NoneOf js) (let z : suc k + i ≡ k + suc i = omega arith in z) n)
+
+-- the kinds with further words
+abbrev longer : List ℕ
+longer = 14 ∷ 11 ∷ 10 ∷ 9 ∷ 8 ∷ 7 ∷ 6 ∷ 5 ∷ 4 ∷ 3 ∷ 2 ∷ 1 ∷ []
+
+pub words-else : {k : ℕ} → NoneOf longer k → 1 ≡ words-of-kind k
 unfolding words-of-kind further-of-kind
-words-past h = sym (ap suc (List·getD-eq-default table 0 h))
+words-else {k} n = sym (ap suc (zero-else longer table 0 k refl (subst (NoneOf longer) (let z : k ≡ k + 0 = omega arith in z) n)))
 
 -- the bytes of a word
 abbrev elements : ℕ → List ℕ → ℕ → List ℕ
@@ -151,7 +153,7 @@ module _ (k p f : ℕ) where
 
   pub unmarked-place : is-unmarked k p f ≡ true → p ≡ 0
   unfolding is-unmarked
-  unmarked-place h = eqb-true p 0 (both (eqb p 0) (flags-shared k f) h .0)
+  unmarked-place h = eqb-true p 0 (and-left (eqb p 0) (flags-shared k f) h)
 
 -- a record that can be none of a type, by its first two bytes
 module _ (l : List ℕ) (bytes : (i : ℕ) → getD l i 0 < 256) (i : ℕ) (room : i + 8 ≤ length l) (r : Bool) (h : MayMark r (getD l i 0) (getD l (i + 1) 0)) (e : r ≡ false) where
