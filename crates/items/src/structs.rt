@@ -49,13 +49,14 @@ use lexing::words::keyword;
 use lexing::words::tag;
 
 // A field: where its type's name starts and ends, its largest length where it has one, where its name starts and ends, whether it is a list, its code.
+// The two offsets of a name do not stand side by side: they would be copied as one value, which waits for two stores.
 pub struct FieldParts {
     pub type_at: usize,
+    pub name: usize,
     pub type_end: usize,
+    pub end: usize,
     pub has_maximum: bool,
     pub maximum: u64,
-    pub name: usize,
-    pub end: usize,
     pub list: bool,
     pub code: u64,
 }
