@@ -171,7 +171,7 @@ unfolding fields-run
 fields-run-on = walks (chain-many0 (closed-field-inside .on-chain))
 
 -- four words a field
-field-words : (f : StructFieldOf) → word-count (field-record f ∷ []) ≡ 4
+pub field-words : (f : StructFieldOf) → word-count (field-record f ∷ []) ≡ 4
 unfolding word-count catalogue-words each record-words layout-20 field-record plain
 field-words f = refl
 
@@ -344,11 +344,6 @@ field-put s p i j t x w l l₁ ei ej d f y e =
     rw (plain-bytes 6 (s .maturity) (flag (s .field .list) ∷ flag (s .field .«has_maximum») ∷ bits 3 (s .flags) ∷ []) (at (s .field .name) (s .field .end - s .field .name))
     (spanned (at (s .field .«type_at») (s .field .«type_end» - s .field .«type_at»)) ∷ value (s .field .code) ∷ value (or-else 0 (optionOf (s .field .«has_maximum») (s .field .maximum))) ∷ []) g z)
     (rw (d, f, y) at e)
-
--- four words, by offsets too
-pub field-parts-words : (s : StructFieldParts) → word-count (field-parts s ∷ []) ≡ 4
-unfolding word-count catalogue-words each record-words layout-20 plain
-field-parts-words s = refl
 
 -- the record of a field that was read
 pub field-parts-is : (b : ℕ) (u : List ℕ) (s : StructFieldParts) (c : ℕ) → StructFieldBetween b s c → c ≤ b + length u → field-parts s ≡ field-record (structFieldAt b u s)
