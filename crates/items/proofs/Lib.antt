@@ -12,6 +12,8 @@ pub mod Alternatives
 -- tries one after the other, and which of them a first word leaves
 pub mod Choice
 pub mod Tries
+-- blanks before a parser that begins with blanks
+pub mod Blanks
 -- what an answer gives its caller of what a function makes of its value
 pub mod Mapped
 pub mod Recorded

@@ -1,5 +1,6 @@
 // Attributes, and their lists of privileges.
 ghost use mathlib.Core.Path.{_≡_};
+ghost use mathlib.Core.List.{[], _∷_};
 ghost use Prim.Native.Nat.{_+_, _≤_};
 ghost use lib.ListN.{length};
 ghost use Rattle.lexing.specs.words.{keyword, any-keyword};
@@ -9,13 +10,12 @@ ghost use Rattle.lexing.specs.buffers.{put};
 ghost use Rattle.items.specs.records.{attribute-records};
 ghost use Rattle.items.specs.answers.{FrontFits, Room, Written};
 ghost use Rattle.items.specs.members.{parse-attribute-after-doc-maturity};
-ghost use Rattle.items.specs.answers.attributes.{PrivilegesTo, privilegesLost, AttributeBetween, AttributeTo, AttributeCountTo};
-ghost use Rattle.items.specs.inner.attributes.{access-words, operation-of, OperationTo, grantsWith, grantsSmall, EntryTo, EntriesTo, attribute-parts};
+ghost use Rattle.items.specs.answers.attributes.{PrivilegesTo, privilegesLost, AttributeCountTo};
+ghost use Rattle.items.specs.inner.attributes.{access-words, operation-of, OperationTo, grantsWith, grantsSmall, EntryTo, EntriesTo, AttributeHeadSmall, AttributeHeadTo, attributeHeadLost, attribute-first};
 use crate::counts::Count;
 use crate::members::Level;
 use crate::members::access_opening;
 use crate::members::colon_privilege;
-use crate::structs::StructFieldParts;
 use crate::structs::StructFieldRead;
 use crate::structs::closed_field;
 use crate::structs::put_field;
@@ -44,17 +44,16 @@ pub enum PrivilegesRead {
     NoPrivileges(Lost),
 }
 
-// flags: readonly, writeonly, nosubscribe, timedwrite
-pub struct AttributeParts {
-    pub flags: u8,
-    pub read: u8,
-    pub write: u8,
-    pub field: StructFieldParts,
+// An attribute up to its field; flags: readonly, writeonly, nosubscribe, timedwrite.
+struct AttributeHeadParts {
+    flags: u8,
+    read: u8,
+    write: u8,
 }
 
-pub enum AttributeRead {
-    Attribute(AttributeParts, usize),
-    NoAttribute(Lost),
+enum AttributeHeadRead {
+    AttributeHead(AttributeHeadParts, usize),
+    NoAttributeHead(Lost),
 }
 
 // What a word of the list names; in another case than the lower one it names neither.
@@ -207,45 +206,64 @@ pub fn privileges_lost(r: PrivilegesRead) -> Lost
     }
 }
 
-pub fn parse_attribute_after_doc_maturity(part: &[u8], base: usize) -> AttributeRead
+// An attribute up to its field.
+fn attribute_head(part: &[u8], base: usize) -> AttributeHeadRead
     requires { ⌜ base + length (now part) ≤ text-limit ⌝ }
-    ensures { λ r. ⌜ AttributeTo r base (now (part .entry)) ⌝ }
+    ensures { λ r. ⌜ AttributeHeadTo r base (now (part .entry)) ⌝ }
 {
     let q = keywords_set(part, base, 4);
     let c1 = blank_at(part, base, q.next);
     let attribute = keyword(rest_at(part, base, c1), c1, b"attribute");
     let Step::Next(c2) = attribute else {
-        return AttributeRead::NoAttribute(step_lost(attribute));
+        return AttributeHeadRead::NoAttributeHead(step_lost(attribute));
     };
     let gap = gap_at(part, base, c2);
     let Step::Next(c3) = gap else {
-        return AttributeRead::NoAttribute(step_lost(gap));
+        return AttributeHeadRead::NoAttributeHead(step_lost(gap));
     };
     let access = attribute_access(rest_at(part, base, c3), c3);
     let PrivilegesRead::Privileges(read, write, c4) = access else {
-        return AttributeRead::NoAttribute(privileges_lost(access));
+        return AttributeHeadRead::NoAttributeHead(privileges_lost(access));
     };
-    let r = closed_field(rest_at(part, base, c4), c4);
-    let StructFieldRead::StructField(field, c5) = r else {
-        return AttributeRead::NoAttribute(struct_field_lost(r));
+    let head = AttributeHeadParts {
+        flags: q.flags,
+        read,
+        write,
     };
-    AttributeRead::Attribute(
-        AttributeParts {
-            flags: q.flags,
-            read,
-            write,
-            field,
-        },
-        c5,
-    )
+    AttributeHeadRead::AttributeHead(head, c4)
 }
 
-// The records of an attribute and of its field.
-fn put_attribute(out: &mut [u8], at: usize, front: FrontParts, a: AttributeParts)
-    requires { ⌜ at + 48 ≤ length (now out) ⌝ }
+fn attribute_head_lost(r: AttributeHeadRead) -> Lost
+    ensures { λ x. ⌜ x ≡ attributeHeadLost r ⌝ }
+{
+    match r {
+        AttributeHeadRead::AttributeHead(_, c) => Lost::Fail(c),
+        AttributeHeadRead::NoAttributeHead(l) => l,
+    }
+}
+
+// The first pass over an attribute: two words, and the four of its field.
+pub fn parse_attribute_after_doc_maturity(part: &[u8], base: usize) -> Count
+    requires { ⌜ base + length (now part) ≤ text-limit ⌝ }
+    ensures { λ r. ⌜ AttributeCountTo r base (now (part .entry)) ⌝ }
+{
+    let head = attribute_head(part, base);
+    let AttributeHeadRead::AttributeHead(_, c1) = head else {
+        return Count::NoCount(attribute_head_lost(head));
+    };
+    let r = closed_field(rest_at(part, base, c1), c1);
+    let StructFieldRead::StructField(_, c2) = r else {
+        return Count::NoCount(struct_field_lost(r));
+    };
+    Count::Words(6, c2)
+}
+
+// The first record of an attribute.
+fn put_attribute(out: &mut [u8], at: usize, front: FrontParts, head: AttributeHeadParts)
+    requires { ⌜ at + 16 ≤ length (now out) ⌝ }
     requires { ⌜ FrontFits front ⌝ }
-    requires { ⌜ AttributeBetween 0 a text-limit ⌝ }
-    ensures { λ _. ⌜ now (out .exit) ≡ put at (catalogue-bytes layout-20 (attribute-parts front a)) (now (out .entry)) ⌝ }
+    requires { ⌜ AttributeHeadSmall head ⌝ }
+    ensures { λ _. ⌜ now (out .exit) ≡ put at (catalogue-bytes layout-20 (attribute-first front head ∷ [])) (now (out .entry)) ⌝ }
 {
     let doc = front.doc;
     let first = First {
@@ -253,14 +271,13 @@ fn put_attribute(out: &mut [u8], at: usize, front: FrontParts, a: AttributeParts
         place: 0,
         maturity: front.maturity,
         documented: doc_bit(doc),
-        flags: a.flags * 8,
+        flags: head.flags * 8,
         name: 0,
         size: 0,
-        privilege: a.read,
-        further: a.write,
+        privilege: head.read,
+        further: head.write,
     };
     put_documented(out, at, first, doc);
-    put_field(out, at + 16, a.field);
 }
 
 // The second pass over an attribute.
@@ -276,25 +293,19 @@ pub fn write_attribute(
     requires { ⌜ Room attribute-records (parse-attribute-after-doc-maturity (docOf (front .doc)) (front .maturity)) base (now part) at (length (now out)) ⌝ }
     ensures { λ r. ⌜ Written attribute-records (parse-attribute-after-doc-maturity (docOf (front .doc)) (front .maturity)) base (now (part .entry)) at r (now (out .entry)) (now (out .exit)) ⌝ }
 {
-    let r = parse_attribute_after_doc_maturity(part, base);
-    let AttributeRead::Attribute(a, c) = r else {
-        return Wrote { next: base, to: at };
+    let nothing = Wrote { next: base, to: at };
+    let head = attribute_head(part, base);
+    let AttributeHeadRead::AttributeHead(h, c1) = head else {
+        return nothing;
     };
-    put_attribute(out, at, front, a);
+    let r = closed_field(rest_at(part, base, c1), c1);
+    let StructFieldRead::StructField(field, c2) = r else {
+        return nothing;
+    };
+    put_field(out, at + 16, field);
+    put_attribute(out, at, front, h);
     Wrote {
-        next: c,
+        next: c2,
         to: at + 48,
-    }
-}
-
-// The first pass over an attribute: two words, and the four of its field.
-pub fn count_attribute(part: &[u8], base: usize) -> Count
-    requires { ⌜ base + length (now part) ≤ text-limit ⌝ }
-    ensures { λ r. ⌜ AttributeCountTo r base (now (part .entry)) ⌝ }
-{
-    let r = parse_attribute_after_doc_maturity(part, base);
-    match r {
-        AttributeRead::Attribute(_, c) => Count::Words(6, c),
-        AttributeRead::NoAttribute(l) => Count::NoCount(l),
     }
 }

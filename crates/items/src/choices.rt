@@ -31,12 +31,12 @@ use lexing::names::type_behind;
 use lexing::parts::rest_at;
 use lexing::steps::blank_at;
 
-// Up to the entries: whether it is shared, and the offsets of its name and of its base type and behind them.
+// Up to the entries: whether it is shared, and the offsets of its name and of its base type and behind them. The order of the fields is as in structs::FieldParts.
 pub struct ChoiceHeadParts {
     pub shared: bool,
     pub name: usize,
-    pub end: usize,
     pub base_at: usize,
+    pub end: usize,
     pub base_end: usize,
 }
 

@@ -16,7 +16,7 @@ ghost use Rattle.items.specs.entries.{braces};
 ghost use Rattle.items.specs.clusters.{parse-revision, member-tries, parse-cluster-member, cluster-members, side, cluster-after-doc-maturity};
 ghost use Rattle.items.specs.answers.{DocFits, FrontFits, Room, Written};
 ghost use Rattle.items.specs.answers.clusters.{RevisionTo, MemberCountTo, MembersCountTo, clusterHeadLost, ClusterHeadTo, unhoisted-records, ClusterCountTo};
-use crate::attributes::count_attribute;
+use crate::attributes::parse_attribute_after_doc_maturity;
 use crate::attributes::write_attribute;
 use crate::choices::choice_after_doc_maturity;
 use crate::choices::write_choice;
@@ -261,7 +261,7 @@ fn count_member(part: &[u8], base: usize, k: Candidate, doc: DocSpan, maturity: 
         MemberKind::Bitmap => choice_after_doc_maturity(part, base, k.from, b"bitmap"),
         MemberKind::Enum => choice_after_doc_maturity(part, base, k.from, b"enum"),
         MemberKind::Struct => parse_struct_after_doc_maturity(part, base, k.from),
-        MemberKind::Attribute => count_attribute(part, base),
+        MemberKind::Attribute => parse_attribute_after_doc_maturity(part, base),
         MemberKind::Command => count_command(part, base),
         MemberKind::Event => parse_event_after_doc_maturity(part, base),
         MemberKind::Unknown => Count::NoCount(Lost::Fail(base)),

@@ -90,12 +90,12 @@ pub enum DefaultRead {
     NoDefault(Lost),
 }
 
-// An instance of an attribute: its handling, where its name starts and ends, its default.
+// An instance of an attribute: where its name starts and ends, its default, its handling. The order of the fields is as in structs::FieldParts.
 pub struct AttributeInstanceParts {
-    pub handling: u8,
     pub name: usize,
-    pub end: usize,
     pub default: DefaultValue,
+    pub end: usize,
+    pub handling: u8,
 }
 
 // An instance: that of an attribute, or of a command or an event, by the kind of its record and where its name starts and ends.

@@ -5,7 +5,7 @@ ghost use Prim.Native.Nat.{_+_, _≤_, _<_};
 ghost use lib.ListN.{length};
 ghost use Rattle.lexing.specs.reply.{opt, many0};
 ghost use Rattle.lexing.specs.words.{tag};
-ghost use Rattle.items.specs.entries.{constant-annotation, blank-annotation, annotations-in-brackets, constant-annotations-list, constant-entry, blank-entry, constant-entries, constant-entries-list};
+ghost use Rattle.items.specs.entries.{constant-annotation, blank-annotation, annotations-in-brackets, constant-annotations-list, constant-entry, constant-entries, constant-entries-list};
 ghost use Rattle.items.specs.records.{entry-record};
 ghost use Rattle.items.specs.layout.{layout-20, catalogue-bytes, text-limit};
 ghost use Rattle.lexing.specs.buffers.{put};
@@ -23,14 +23,10 @@ use crate::writing::first_word;
 use lexing::answers::Lost;
 use lexing::answers::Step;
 use lexing::answers::step_lost;
-use lexing::blanks::whitespace0;
 use lexing::buffers::put_two;
 use lexing::integers::Number;
 use lexing::integers::number_lost;
-use lexing::names::Named;
 use lexing::names::code_behind;
-use lexing::names::named_lost;
-use lexing::names::word_behind;
 use lexing::optional::optional;
 use lexing::parts::rest_at;
 use lexing::steps::blank_at;
@@ -63,9 +59,10 @@ pub fn constant_annotation(part: &[u8], base: usize) -> Step
     requires { ⌜ base + length (now part) ≤ text-limit ⌝ }
     ensures { λ r. ⌜ Skips constant-annotation r base (now (part .entry)) ⌝ }
 {
-    let key = word_behind(part, base, base);
-    let Named::Name(_, _, c1) = key else {
-        return Step::Not(named_lost(key));
+    let c0 = blank_at(part, base, base);
+    let key = parse_id(rest_at(part, base, c0), c0);
+    let Step::Next(c1) = key else {
+        return Step::Not(step_lost(key));
     };
     let equals = tag_behind(part, base, c1, b'=');
     let Step::Next(c2) = equals else {
@@ -84,23 +81,14 @@ pub fn constant_annotation(part: &[u8], base: usize) -> Step
     Step::Next(c6)
 }
 
-// An annotation with the blanks before it.
-fn blank_annotation(part: &[u8], base: usize) -> Step
-    requires { ⌜ base + length (now part) ≤ text-limit ⌝ }
-    ensures { λ r. ⌜ Skips blank-annotation r base (now (part .entry)) ⌝ }
-{
-    let w = whitespace0(part, base);
-    let c = w.next;
-    constant_annotation(rest_at(part, base, c), c)
-}
-
+// An annotation reads the blanks before it itself.
 fn annotations(part: &[u8], base: usize) -> Step
     requires { ⌜ base + length (now part) ≤ text-limit ⌝ }
     ensures { λ r. ⌜ Skips (many0 blank-annotation) r base (now (part .entry)) ⌝ }
 {
     let mut c = base;
     loop {
-        let r = blank_annotation(rest_at(part, base, c), c);
+        let r = constant_annotation(rest_at(part, base, c), c);
         let Step::Next(n) = r else {
             return optional(r, c);
         };
@@ -162,7 +150,8 @@ pub fn constant_entry(part: &[u8], base: usize) -> EntryRead
     let Step::Next(end) = name else {
         return EntryRead::NoEntry(step_lost(name));
     };
-    let value = code_behind(part, base, end);
+    // from the rest on, since a part that is handed on whole is copied first
+    let value = code_behind(rest_at(part, base, end), end, end);
     let Number::Value(code, c) = value else {
         return EntryRead::NoEntry(number_lost(value));
     };
@@ -188,17 +177,7 @@ pub fn entry_lost(r: EntryRead) -> Lost
     }
 }
 
-// An entry with the blanks before it.
-fn blank_entry(part: &[u8], base: usize) -> EntryRead
-    requires { ⌜ base + length (now part) ≤ text-limit ⌝ }
-    ensures { λ r. ⌜ EntryTo blank-entry r base (now (part .entry)) ⌝ }
-{
-    let w = whitespace0(part, base);
-    let c = w.next;
-    constant_entry(rest_at(part, base, c), c)
-}
-
-// The first pass over entries: each takes two words.
+// The first pass over entries: each takes two words, and reads the blanks before it itself.
 pub fn count_entries(part: &[u8], base: usize) -> Count
     requires { ⌜ base + length (now part) ≤ text-limit ⌝ }
     ensures { λ r. ⌜ CountTo (map entry-record) constant-entries r base (now (part .entry)) ⌝ }
@@ -206,7 +185,7 @@ pub fn count_entries(part: &[u8], base: usize) -> Count
     let mut c = base;
     let mut n = 0;
     loop {
-        let r = blank_entry(rest_at(part, base, c), c);
+        let r = constant_entry(rest_at(part, base, c), c);
         let EntryRead::Read(_, next) = r else {
             return count_end(entry_lost(r), n, c);
         };
@@ -259,7 +238,7 @@ pub fn write_entries(part: &[u8], base: usize, out: &mut [u8], at: usize) -> Wro
     let mut c = base;
     let mut to = at;
     loop {
-        let r = blank_entry(rest_at(part, base, c), c);
+        let r = constant_entry(rest_at(part, base, c), c);
         let EntryRead::Read(e, next) = r else {
             return Wrote { next: c, to };
         };

@@ -49,13 +49,14 @@ use lexing::words::keyword;
 use lexing::words::tag;
 
 // A field: where its type's name starts and ends, its largest length where it has one, where its name starts and ends, whether it is a list, its code.
+// The two offsets of a name do not stand side by side: they would be copied as one value, which waits for two stores.
 pub struct FieldParts {
     pub type_at: usize,
+    pub name: usize,
     pub type_end: usize,
+    pub end: usize,
     pub has_maximum: bool,
     pub maximum: u64,
-    pub name: usize,
-    pub end: usize,
     pub list: bool,
     pub code: u64,
 }
@@ -263,21 +264,20 @@ pub fn struct_field_lost(r: StructFieldRead) -> Lost
     }
 }
 
-// A field of a struct and the semicolon behind it.
+// A field of a struct, which reads the blanks before it itself, and the semicolon behind it.
 pub fn closed_field(part: &[u8], base: usize) -> StructFieldRead
     requires { ⌜ base + length (now part) ≤ text-limit ⌝ }
     ensures { λ r. ⌜ StructFieldTo closed-field r base (now (part .entry)) ⌝ }
 {
-    let c1 = blank_at(part, base, base);
-    let r = parse_struct_field(rest_at(part, base, c1), c1);
-    let StructFieldRead::StructField(field, c2) = r else {
+    let r = parse_struct_field(part, base);
+    let StructFieldRead::StructField(field, c1) = r else {
         return StructFieldRead::NoStructField(struct_field_lost(r));
     };
-    let semicolon = tag_behind(part, base, c2, b';');
-    let Step::Next(c3) = semicolon else {
+    let semicolon = tag_behind(part, base, c1, b';');
+    let Step::Next(c2) = semicolon else {
         return StructFieldRead::NoStructField(step_lost(semicolon));
     };
-    StructFieldRead::StructField(field, c3)
+    StructFieldRead::StructField(field, c2)
 }
 
 // The first pass over fields: four words each.

@@ -1,5 +1,5 @@
 -- Lists of privileges, and attributes.
-use mathlib.Core.Path.{_≡_, refl, sym, ap, _∙_, subst}
+use mathlib.Core.Path.{_≡_, refl, sym, ap, _∙_, subst, fun-ext}
 use mathlib.Core.Logic.{_⊎_, inl, inr}
 use mathlib.Core.Bool.{Bool, true, false}
 use mathlib.Core.Option.{Option, none, some}
@@ -7,35 +7,33 @@ use mathlib.Core.List.{List, [], _∷_, _++_, append-assoc, append-nil}
 use Prim.Native.Nat.{ℕ, zero, suc, _+_, _-_, _*_, _≤_, _<_}
 use native.Mathlib.Omega.{arith}
 use lib.ListN.{length, take, drop, getD}
-use Rattle.lexing.specs.bytes.{ascii, slash, within, lower}
+use Rattle.lexing.specs.bytes.{ascii, byte, slash, within, lower}
 use Rattle.lexing.specs.reply.{Reply, ok, fail, stop, Parser, ret, _>>=_, _>>_, catch, opt, prepend, manyWithin, many0, stopAt, pick}
 use Rattle.lexing.specs.words.{Word, bytesOf, offsetOf, isKeyword, isLower, keyword, any-keyword, tag}
 use Rattle.lexing.specs.blanks.{Doc, whitespace0}
 use Rattle.lexing.specs.word_sets.{same-bytes}
-use Rattle.lexing.specs.answers.{docOf, Rest, lostReply, reply, wordAt, wordReply, SkipsAt}
+use Rattle.lexing.specs.answers.{Rest, lostReply, reply, wordAt, wordReply, SkipsAt}
 use Rattle.lexing.specs.declared.answers.Lost.{Lost}
 use Rattle.lexing.specs.declared.answers.Lost.the-variants.{Fail, Stop}
 use Rattle.lexing.specs.declared.answers.Step.{Step}
 use Rattle.lexing.specs.declared.answers.Step.the-variants.{Next, Not}
 use Rattle.lexing.proofs.Onward.{Onward}
 use Rattle.lexing.proofs.FirstWord.{blank-clear}
-use Rattle.lexing.proofs.Locality.{Consumes, chain-inside, consumes-then-right, chain-opt}
-use Rattle.lexing.proofs.TokenLocality.{any-keyword-chain}
-use Rattle.lexing.proofs.Slicing.{Took, took, walks, told-next, rest-self, blank-took, begin, go, on, lose, fall, done, or-here, or-next}
+use Rattle.lexing.proofs.Locality.{OnChain, Consumes, chain-ret, chain-bind, chain-then, chain-inside, chain-opt, consumes-right, consumes-then-left, consumes-then-right}
+use Rattle.lexing.proofs.TokenLocality.{keyword-chain, any-keyword-chain, keyword-consumes, whitespace0-chain, whitespace1-chain, set-flags-chain}
+use Rattle.lexing.proofs.Slicing.{Took, took, walks, reads-in, told-next, rest-self, blank-took, begin, go, on, lose, fall, done, or-here, or-next}
 use Rattle.lexing.proofs.Repetition.{before, many0-more, many0-fail}
 use Rattle.lexing.proofs.blanks.Laws.{blanks-none}
 use Rattle.lexing.proofs.words.Laws.{keyword-says, key-differs}
 use Rattle.items.specs.members.{Access as AccessOf, access-privilege, access-entry, comma, separated-list0, access-list, Privileges as PrivilegesOf, granted-by, default-privileges, listed, attribute-access, Attribute as AttributeOf, parse-attribute-after-doc-maturity}
 use Rattle.lexing.specs.buffers.{each, words-bytes, put}
-use Rattle.items.specs.records.{plain, documented, field-record, attribute-records, absent, bits}
-use Rattle.items.specs.layout.{layout-20, record-words, catalogue-words, word-count, packed, width, from-top, offset, size, catalogue-bytes, text-limit}
-use Rattle.items.specs.answers.{first-of, docWord, docBit}
-use Rattle.items.specs.answers.attributes.{SmallPrivileges, PrivilegesTo, AttributeTo, AttributeCountTo, attributeAt, AttributeBetween}
-use Rattle.items.specs.inner.attributes.{access-words, operation-of, operationAnswer, operationMeans, OperationTo, grantsWith, with-entry, grants-from, grantsSmall, grants-after, EntryTo, no-grants, EntriesTo, attribute-first, attribute-parts}
-use Rattle.items.specs.declared.counts.Count.the-variants.{Words, NoCount}
+use Rattle.items.specs.records.{Record, plain, documented, field-record, attribute-records, absent, bits}
+use Rattle.items.specs.layout.{layout-20, record-words, catalogue-words, word-count, packed, width, from-top, offset, size, catalogue-bytes}
+use Rattle.items.specs.answers.{Front, frontOf, first-of, docWord, docBit, Room, Written}
+use Rattle.items.specs.answers.attributes.{SmallPrivileges, PrivilegesTo}
+use Rattle.items.specs.inner.attributes.{access-words, operation-of, operationAnswer, operationMeans, OperationTo, grantsWith, with-entry, grants-from, grantsSmall, grants-after, EntryTo, no-grants, EntriesTo, AttributeHeadOf, attribute-head, attributeHeadOf, attributeHeadLost, AttributeHeadTo, attribute-first}
 use Rattle.items.specs.declared.writing.FrontParts.{FrontParts}
 use Rattle.items.specs.inner.structs.{field-parts}
-use Rattle.items.specs.declared.attributes.AttributeParts.{AttributeParts}
 use Rattle.items.specs.declared.attributes.Operation.{Operation}
 use Rattle.items.specs.declared.attributes.Operation.the-variants.{Read, Write, Neither}
 use Rattle.items.specs.declared.attributes.OperationRead.{OperationRead}
@@ -45,22 +43,26 @@ use Rattle.items.specs.declared.attributes.Grants.{Grants}
 use Rattle.items.specs.declared.attributes.Grants.the-variants.{Granted, RefusedAt}
 use Rattle.items.specs.declared.attributes.PrivilegesRead.{PrivilegesRead}
 use Rattle.items.specs.declared.attributes.PrivilegesRead.the-variants.{Privileges, NoPrivileges}
-use Rattle.items.specs.declared.attributes.AttributeRead.{AttributeRead}
-use Rattle.items.specs.declared.attributes.AttributeRead.the-variants.{Attribute, NoAttribute}
-use Rattle.lexing.proofs.AnswerLaws.{reads-as, read-within}
+use Rattle.items.specs.declared.attributes.AttributeHeadParts.{AttributeHeadParts}
+use Rattle.items.specs.declared.attributes.AttributeHeadRead.{AttributeHeadRead}
+use Rattle.items.specs.declared.attributes.AttributeHeadRead.the-variants.{AttributeHead, NoAttributeHead}
+use Rattle.items.specs.declared.structs.StructFieldParts.{StructFieldParts}
+use Rattle.items.specs.declared.structs.StructFieldRead.{StructFieldRead}
+use Rattle.items.specs.declared.structs.StructFieldRead.the-variants.{StructField}
+use Rattle.items.specs.structs.{StructField as StructFieldOf, parse-struct-field, closed-field}
+use Rattle.items.specs.answers.structs.{StructFieldTo}
+use Rattle.lexing.proofs.AnswerLaws.{reads-as, read-within, read-took, read-lost}
 use Rattle.items.proofs.Mapped.{TookAs, mapped-ok, read-as}
 use Rattle.lexing.proofs.Pairs.{pair-on, pair-fall}
 use Rattle.items.proofs.Calm.{Calm, calm-absent, calm-ret, calm-catch, calm-or, calm-many0, calm-bind, calm-then, calm-tag, calm-keyword, calm-any, calm-blanks}
 use Rattle.items.proofs.Keywords.{keyword-missing}
 use Rattle.items.proofs.Tries.{bind-ok, then-ok, then-fail, opt-some, opt-none}
-use Rattle.items.proofs.Locality.{access-entry-inside, access-entry-consumes, comma-local, separated-list0-inside, access-list-inside, attribute-access-inside, parse-attribute-consumes}
-use Rattle.items.proofs.Headed.{further-on}
-use Rattle.items.proofs.counts.Laws.{count-not, read-counted}
+use Rattle.items.proofs.Locality.{access-entry-inside, access-entry-consumes, comma-local, separated-list0-inside, access-list-inside, attribute-access-inside, closed-field-consumes}
+use Rattle.items.proofs.Headed.{Headed, further-on}
+use Rattle.items.proofs.counts.Laws.{Counted}
 use Rattle.items.proofs.Choice.{or-both}
-use Rattle.lexing.proofs.buffers.Laws.{words-bytes-length, put-on}
-use Rattle.items.proofs.RecordWords.{catalogue-bytes-append, catalogue-bytes-length}
-use Rattle.items.proofs.writing.Laws.{documented-bytes}
-use Rattle.items.proofs.structs.Laws.{other-case, by-case, field-parts-is, field-parts-words, field-in-limit}
+use Rattle.items.proofs.writing.Laws.{documented-bytes, read-room, read-written}
+use Rattle.items.proofs.structs.Laws.{other-case, by-case, struct-field-took, closed-field-on, field-words, field-parts-is}
 use Rattle.items.proofs.members.Laws.{skips-none}
 use Rattle.lexing.proofs.optional.Laws.{opt-ok}
 
@@ -452,44 +454,86 @@ pub attribute-words : (a : AttributeOf) → word-count (attribute-records a) ≡
 unfolding word-count catalogue-words each record-words layout-20 attribute-records field-record plain documented
 attribute-words a = refl
 
--- the two ways of a reader, and of a count
-module _ {b : ℕ} {u : List ℕ} where
-  pub attribute-not : (l : Lost) → ((d : Doc) (m : ℕ) → lostReply l ≡ parse-attribute-after-doc-maturity d m b u) → AttributeTo (NoAttribute l) b u
-  attribute-not l e = record { to = λ d m. record { reads = e d m; within = tt } }
+-- an attribute up to its field
+head-chain : OnChain attribute-head
+unfolding attribute-head
+head-chain = chain-bind (set-flags-chain 4) λ q. chain-then whitespace0-chain (chain-then (keyword-chain _) (chain-then whitespace1-chain (chain-bind (chain-inside attribute-access-inside) λ p. chain-ret _)))
 
-  pub attribute-is : {p : AttributeParts} {c : ℕ} → AttributeBetween b p c → ((d : Doc) (m : ℕ) → ok (attributeAt d m b u p) c (drop (c - b) u) ≡ parse-attribute-after-doc-maturity d m b u) → AttributeTo (Attribute p c) b u
-  attribute-is w e = record { to = λ d m. record { reads = e d m; within = w } }
+pub attribute-head-consumes : Consumes attribute-head
+unfolding attribute-head
+attribute-head-consumes = consumes-right (set-flags-chain 4) λ q. consumes-then-right whitespace0-chain (consumes-then-left (keyword-consumes _) (chain-then whitespace1-chain (chain-bind (chain-inside attribute-access-inside) λ p. chain-ret _)))
 
-  module _ {a : AttributeRead} (h : AttributeTo a b u) where
-    pub attribute-none : {l : Lost} → a ≡ NoAttribute l → (d : Doc) (m : ℕ) → lostReply l ≡ parse-attribute-after-doc-maturity d m b u
-    attribute-none e d m = reads-as (h .to d m) e
+module _ {a : AttributeHeadRead} {b : ℕ} {u : List ℕ} (h : AttributeHeadTo a b u) where
+  pub attribute-head-took : {p : AttributeHeadParts} {c : ℕ} → a ≡ AttributeHead p c → Took attribute-head b u b (attributeHeadOf p) c
+  attribute-head-took e = read-took h e (walks head-chain) (rest-self b u) refl
 
-    pub attribute-lost : {l : Lost} → a ≡ NoAttribute l → AttributeCountTo (NoCount l) b u
-    attribute-lost {l} e = record { counts = λ i. count-not attribute-records _ b u l (attribute-none e (i .doc) (i .maturity)) }
+  pub attribute-head-none : {l l' : Lost} → l' ≡ attributeHeadLost a → a ≡ NoAttributeHead l → lostReply l' ≡ attribute-head b u
+  attribute-head-none e d = read-lost h d attributeHeadLost e refl
 
-    pub attribute-counted : {p : AttributeParts} {c : ℕ} → a ≡ Attribute p c → AttributeCountTo (Words 6 c) b u
-    attribute-counted e = record { counts = λ i. read-counted attribute-records (parse-attribute-consumes (i .doc) (i .maturity)) (h .to (i .doc) (i .maturity)) e refl (attribute-words _) (omega arith) }
+-- steps that are taken together are taken one after the other
+one-by-one : {A B C : Type 0} (m : Parser A) (g : A → Parser B) (k : B → Parser C) (f : A → Parser C) → ((a : A) → f a ≡ (g a >>= k)) → (m >>= f) ≡ ((m >>= g) >>= k)
+unfolding _>>=_
+one-by-one {A} {B} {C} m g k f e = fun-ext λ b. fun-ext λ u. at (m b u) refl
+  where
+    at : {b : ℕ} {u : List ℕ} (x : Reply A) → m b u ≡ x → (m >>= f) b u ≡ ((m >>= g) >>= k) b u
+    at (ok a c r) z = rw (z, _>>=_) (ap (λ (p : Parser C). p c r) (e a))
+    at (fail p) z = rw (z, _>>=_)
+    at (stop n p) z = rw (z, _>>=_)
+
+made : {A B : Type 0} (a : A) (k : A → Parser B) → k a ≡ (ret a >>= k)
+unfolding _>>=_ ret
+made a k = refl
+
+field-steps : {A : Type 0} (k : StructFieldOf → Parser A) → (whitespace0 >> (parse-struct-field >>= λ f. whitespace0 >> (tag (byte ";") >> k f))) ≡ (closed-field >>= k)
+unfolding closed-field _>>_
+field-steps k = one-by-one _ _ k _ λ x. one-by-one _ _ k _ λ f. one-by-one _ _ k _ λ y. one-by-one _ _ k _ λ z. made f k
+
+abbrev attribute-of : Doc → ℕ → AttributeHeadOf → StructFieldOf → AttributeOf
+attribute-of d m h f = record { doc = d; maturity = m; flags = h .flags; privileges = h .privileges; field = f }
+
+attribute-steps : (d : Doc) (m : ℕ) → parse-attribute-after-doc-maturity d m ≡ (attribute-head >>= λ h. closed-field >>= λ f. ret (attribute-of d m h f))
+unfolding parse-attribute-after-doc-maturity attribute-head _>>_
+attribute-steps d m =
+    let k : AttributeHeadOf → Parser AttributeOf = λ h. closed-field >>= λ f. ret (attribute-of d m h f) in
+    one-by-one _ _ k _ λ q. one-by-one _ _ k _ λ x. one-by-one _ _ k _ λ y. one-by-one _ _ k _ λ z. one-by-one _ _ k _ λ p. field-steps _ ∙ made (record { flags = q; privileges = p }) k
+
+-- two words an attribute, and those of its field
+pub attribute-headed : Headed {I = Front} (λ i. parse-attribute-after-doc-maturity (i .doc) (i .maturity)) (λ i. attribute-records) attribute-head closed-field (λ f. field-record f ∷ []) 2
+unfolding word-count catalogue-words each record-words layout-20 attribute-records documented
+attribute-headed = record {
+  make = λ i h f. attribute-of (i .doc) (i .maturity) h f;
+  first = λ i h f. documented 7 0 (i .maturity) (i .doc) (bits 4 (h .flags) ∷ []) absent (h .privileges .read) (h .privileges .write) [];
+  reads = λ i. attribute-steps (i .doc) (i .maturity);
+  hands = λ i h f. refl;
+  size = λ i h f. refl;
+}
+
+-- its field, in both passes
+module _ {n : ℕ} {r : List ℕ} {a : StructFieldRead} (h : StructFieldTo closed-field a n r) {s : StructFieldParts} {c : ℕ} (e : a ≡ StructField s c) where
+  pub field-counted : {b : ℕ} {u : List ℕ} → Rest b u n r → Counted (λ f. field-record f ∷ []) closed-field b u n 4 c
+  field-counted q =
+      let t = struct-field-took closed-field-on q h e in
+      record { value = _; words = field-words _; step = t; few = omega (arith, further-on closed-field-consumes (q .from) t) }
+
+  pub field-room : {p k : ℕ} → Room (λ f. field-record f ∷ []) closed-field n r p k → p + 32 ≤ k
+  field-room room = read-room (reads-as h e) (field-words _) room
+
+  pub field-written : {p : ℕ} (to : ℕ) → to ≡ p + 32 → {old new : List ℕ} → new ≡ put p (catalogue-bytes layout-20 (field-parts s ∷ [])) old → Written (λ f. field-record f ∷ []) closed-field n r p (record { next = c; to = to }) old new
+  field-written to z g =
+      let i = reads-in closed-field-on n c r _ (reads-as h e) in
+      rw z (read-written (reads-as h e) (field-words _) (ap (λ (x : Record). x ∷ []) (field-parts-is n r s c (read-within h e) (i .1))) g)
 
 -- The second pass.
 
--- the words of both records
-pub attribute-put : (h : FrontParts) (a : AttributeParts) (p v : ℕ) (l l₁ l₂ : List ℕ) → p + 48 ≤ length l → v ≡ docBit (h .doc)
-    → l₁ ≡ put p (words-bytes (first-of (record { kind = 7; place = 0; maturity = h .maturity; documented = v; flags = a .flags * 8; name = 0; size = 0; privilege = a .read; further = a .write }) ∷ docWord (h .doc) ∷ [])) l
-    → l₂ ≡ put (p + 16) (catalogue-bytes layout-20 (field-parts (a .field) ∷ [])) l₁ → l₂ ≡ put p (catalogue-bytes layout-20 (attribute-parts h a)) l
+-- the two words of an attribute's first record
+pub attribute-first-put : (f : FrontParts) (h : AttributeHeadParts) (p v : ℕ) (l l₁ : List ℕ) → v ≡ docBit (f .doc)
+    → l₁ ≡ put p (words-bytes (first-of (record { kind = 7; place = 0; maturity = f .maturity; documented = v; flags = h .flags * 8; name = 0; size = 0; privilege = h .read; further = h .write }) ∷ docWord (f .doc) ∷ [])) l
+    → l₁ ≡ put p (catalogue-bytes layout-20 (attribute-first f h ∷ [])) l
 unfolding from-top packed width offset size
-attribute-put h a p v l l₁ l₂ r d e₁ e₂ =
-    let w : List ℕ = first-of (record { kind = 7; place = 0; maturity = h .maturity; documented = docBit (h .doc); flags = a .flags * 8; name = 0; size = 0; privilege = a .read; further = a .write }) ∷ docWord (h .doc) ∷ [] in
-    let f : List ℕ = catalogue-bytes layout-20 (field-parts (a .field) ∷ []) in
-    let y : a .flags * 8 ≡ from-top 7 (bits 4 (a .flags) ∷ []) = omega arith in
-    let z = documented-bytes 7 0 (h .maturity) (h .doc) (bits 4 (a .flags) ∷ []) absent (a .read) (a .write) [] (a .flags * 8) y in
-    let k = catalogue-bytes-length (field-parts (a .field) ∷ []) in
-    let g : l₂ ≡ put p (words-bytes w ++ f) l = put-on p (p + 16) (words-bytes w) f l l₁ l₂ (omega (arith, words-bytes-length w)) (omega (arith, k, field-parts-words (a .field))) (rw (← d) e₁) e₂ in
-    rw (catalogue-bytes-append layout-20 (attribute-first h a ∷ []) (field-parts (a .field) ∷ []), z) g
+attribute-first-put f h p v l l₁ d e =
+    let y : h .flags * 8 ≡ from-top 7 (bits 4 (h .flags) ∷ []) = omega arith in
+    rw (documented-bytes 7 0 (f .maturity) (f .doc) (bits 4 (h .flags) ∷ []) absent (h .read) (h .write) [] (h .flags * 8) y) (rw (← d) e)
 
--- the records of what was read
-pub attribute-parts-is : (f : FrontParts) (b : ℕ) (u : List ℕ) (a : AttributeParts) (c : ℕ) → AttributeBetween b a c → c ≤ b + length u → attribute-parts f a ≡ attribute-records (attributeAt (docOf (f .doc)) (f .maturity) b u a)
-unfolding attribute-records
-attribute-parts-is f b u a c w i = rw (field-parts-is b u (a .field) c (w .field) i)
-
-pub attribute-in-limit : {b : ℕ} {a : AttributeParts} {c : ℕ} → AttributeBetween b a c → c ≤ text-limit → AttributeBetween 0 a text-limit
-attribute-in-limit w i = record { flags = w .flags; privileges = w .privileges; field = field-in-limit (w .field) i }
+pub attribute-first-is : (f : FrontParts) (h : AttributeHeadParts) (l : StructFieldOf) → attribute-first f h ≡ attribute-headed .first (frontOf f) (attributeHeadOf h) l
+unfolding attribute-headed
+attribute-first-is f h l = refl

@@ -1,21 +1,21 @@
 -- Annotations and entries.
-use mathlib.Core.Path.{_≡_, refl, sym, ap, _∙_}
+use mathlib.Core.Path.{_≡_, refl, ap, _∙_}
 use mathlib.Core.List.{List, [], _∷_, map}
 use Prim.Native.Nat.{ℕ, _+_, _-_, _≤_, _<_}
 use native.Mathlib.Omega.{arith}
 use lib.ListN.{length, drop}
-use Rattle.lexing.specs.reply.{ok, Parser, _>>_, opt, many0}
+use Rattle.lexing.specs.reply.{ok, Parser, opt, many0}
 use Rattle.lexing.specs.words.{Word, word, tag}
-use Rattle.lexing.specs.blanks.{Doc, whitespace0}
 use Rattle.lexing.specs.strings.{span, annotation-escape, quoted-string}
-use Rattle.lexing.specs.answers.{Rest, lostReply, lostOf, spanTo, stringReply}
+use Rattle.lexing.specs.answers.{Rest, lostReply, lostOf, spanTo, stringReply, numberReply, NumberAt, Skips}
 use Rattle.lexing.specs.declared.answers.Lost.{Lost}
 use Rattle.lexing.specs.declared.answers.Step.{Step}
 use Rattle.lexing.specs.declared.answers.Step.the-variants.{Next, Not}
+use Rattle.lexing.specs.declared.integers.Number.{Number}
 use Rattle.lexing.proofs.Onward.{Onward}
 use Rattle.lexing.proofs.Locality.{Consumes, chain-ret, chain-many0, chain-opt, chain-then, consumes-then-right}
 use Rattle.lexing.proofs.TokenLocality.{whitespace0-chain}
-use Rattle.lexing.proofs.Slicing.{Took, took, walks, rest-self, begin, on, told-next, step-lost, string-took}
+use Rattle.lexing.proofs.Slicing.{Took, took, walks, rest-self, told-next, step-lost, string-took}
 use Rattle.items.specs.entries.{Annotation, constant-annotation, blank-annotation, constant-annotations-list, Entry, constant-entry, blank-entry, constant-entries}
 use Rattle.items.specs.records.{Record, value, entry-record, plain}
 use Rattle.lexing.specs.buffers.{each, words-bytes, put}
@@ -26,9 +26,10 @@ use Rattle.items.specs.inner.entries.{entry-end, EndTo, parts-record}
 use Rattle.items.specs.declared.entries.EntryParts.{EntryParts}
 use Rattle.items.specs.declared.entries.EntryRead.{EntryRead}
 use Rattle.items.specs.declared.entries.EntryRead.the-variants.{Read, NoEntry}
-use Rattle.items.proofs.Locality.{punct-local, constant-annotation-local, constant-annotation-consumes, constant-annotations-list-inside, constant-entry-inside, blank-entry-inside, blank-entry-consumes}
+use Rattle.items.proofs.Locality.{punct-local, constant-annotation-local, constant-annotation-consumes, constant-annotations-list-inside, blank-entry-inside, blank-entry-consumes}
 use Rattle.lexing.proofs.AnswerLaws.{read-within, read-took, read-lost}
 use Rattle.lexing.proofs.WordBetween.{word-moved}
+use Rattle.items.proofs.Blanks.{read-behind, skips-behind}
 use Rattle.items.proofs.WordBetween.{extent-between}
 use Rattle.items.proofs.RecordWords.{map-elementwise}
 use Rattle.items.proofs.counts.Laws.{Counting, counting-more}
@@ -45,8 +46,10 @@ pub quoted-took : {b n : ℕ} {u r : List ℕ} {a : Step} {c : ℕ} → Rest b u
 unfolding quoted-string
 quoted-took q e h = string-took q e annotation-escape h
 
-pub annotation-onward : Onward constant-annotation
-annotation-onward = walks (constant-annotation-local .on-chain)
+-- an annotation reads the blanks before it itself
+pub annotation-behind : {b : ℕ} {u : List ℕ} {a : Step} → Skips constant-annotation a b u → Skips blank-annotation a b u
+unfolding blank-annotation constant-annotation
+annotation-behind h = skips-behind _ _ _ h
 
 pub blank-annotation-onward : Onward blank-annotation
 unfolding blank-annotation
@@ -105,20 +108,14 @@ module _ {m : Parser Entry} (w : Onward m) {b n : ℕ} {u r : List ℕ} {a : Ent
 pub blank-entry-onward : Onward blank-entry
 blank-entry-onward = walks (blank-entry-inside .on-chain)
 
--- an entry behind blanks
-behind-at : (b n : ℕ) (u r : List ℕ) (d : Doc) (a : EntryRead) → Rest b u n r → Took whitespace0 b u b d n → EntryTo constant-entry a n r → EntryTo blank-entry a b u
-unfolding blank-entry
-behind-at b n u r d (Read e c) q t h =
-    let k = entry-took (walks (constant-entry-inside .on-chain)) q h e c refl in
-    let v = bounds-of e c h refl in
-    record {
-      reads = begin (whitespace0 >> constant-entry) b u (on constant-entry t (sym (k .goes)));
-      within = record { from = omega (arith, v .from, t .up); up = v .up; inside = v .inside; small = v .small };
-    }
-behind-at b n u r d (NoEntry l) q t h = record { reads = begin (whitespace0 >> constant-entry) b u (on constant-entry t (h .reads ∙ ap (constant-entry n) (q .same))); within = tt }
+-- an entry reads the blanks before it itself
+pub entry-behind : {b : ℕ} {u : List ℕ} {a : EntryRead} → EntryTo constant-entry a b u → EntryTo blank-entry a b u
+unfolding blank-entry constant-entry
+entry-behind h = read-behind _ _ _ h
 
-pub entry-behind : {b n : ℕ} {u r : List ℕ} {d : Doc} {a : EntryRead} → Rest b u n r → Took whitespace0 b u b d n → EntryTo constant-entry a n r → EntryTo blank-entry a b u
-entry-behind {b} {n} {u} {r} {d} {a} q t h = behind-at b n u r d a q t h
+-- its code, from the rest of the part on
+pub number-here : {m : Parser ℕ} {a : Number} {n : ℕ} {r : List ℕ} → NumberAt m a n r n → numberReply a n r ≡ m n r
+number-here {n = n} h = let z : n - n ≡ 0 = omega arith in rw z at (h .reads)
 
 -- the record of an entry takes two words
 pub entry-words : (e : Entry) → word-count (entry-record e ∷ []) ≡ 2

@@ -12,7 +12,7 @@ use Rattle.lexing.specs.bytes.{ascii, within, lower}
 use Rattle.lexing.specs.reply.{ok, fail, Parser, ret, opt, pick, many0}
 use Rattle.lexing.specs.words.{Word, bytesOf, isKeyword, isLower, keyword, any-keyword, tag}
 use Rattle.lexing.specs.word_sets.{same-bytes, bit}
-use Rattle.lexing.specs.answers.{Rest, lostReply, wordAt, wordReply, numberReply, numberLost, BlankAt, wordBetween}
+use Rattle.lexing.specs.answers.{Rest, lostReply, wordAt, wordReply, numberReply, numberLost, BlankAt, behind-blanks, wordBetween}
 use Rattle.lexing.specs.declared.answers.Lost.{Lost}
 use Rattle.lexing.specs.declared.answers.Lost.the-variants.{Fail, Stop}
 use Rattle.lexing.specs.declared.answers.Step.the-variants.{Next}
@@ -20,7 +20,8 @@ use Rattle.lexing.specs.declared.integers.Number.{Number}
 use Rattle.lexing.specs.declared.integers.Number.the-variants.{Value, NoNumber}
 use Rattle.lexing.proofs.Tests.{false-if, and-right}
 use Rattle.lexing.proofs.Locality.{chain-opt, chain-many0}
-use Rattle.lexing.proofs.TokenLocality.{any-keyword-chain}
+use Rattle.lexing.proofs.TokenLocality.{any-keyword-chain, whitespace0-chain}
+use Rattle.lexing.proofs.Composed.{onward-then}
 use Rattle.lexing.proofs.Onward.{Onward}
 use Rattle.lexing.proofs.Slicing.{Took, took, walks, reads-in, rest-self, keyword-took}
 use Rattle.lexing.proofs.words.Laws.{keyword-says}
@@ -51,6 +52,7 @@ use Rattle.items.specs.declared.structs.StructHeadParts.{StructHeadParts
 use Rattle.items.specs.declared.structs.StructHeadRead.{StructHeadRead}
 use Rattle.items.specs.declared.structs.StructHeadRead.the-variants.{Head, NoHead}
 use Rattle.items.proofs.Locality.{max-length-local, list-marker-local, parse-field-inside, parse-struct-field-inside, closed-field-inside, closed-field-consumes, struct-fields-local, struct-type-of-local, struct-head-local}
+use Rattle.items.proofs.Blanks.{read-behind}
 use Rattle.items.proofs.RecordWords.{map-elementwise}
 use Rattle.lexing.proofs.AnswerLaws.{read-within, read-took, read-lost}
 use Rattle.items.proofs.Headed.{Headed}
@@ -150,8 +152,16 @@ module _ {m : Parser StructFieldOf} (w : Onward m) {b n : ℕ} {u r : List ℕ} 
   pub struct-field-none : {l l' : Lost} → l' ≡ structFieldLost a → a ≡ NoStructField l → lostReply l' ≡ m n r
   struct-field-none e d = read-lost h d structFieldLost e refl
 
-pub parse-struct-field-on : Onward parse-struct-field
+parse-struct-field-on : Onward parse-struct-field
 parse-struct-field-on = walks (parse-struct-field-inside .on-chain)
+
+-- it reads the blanks before it itself
+pub field-behind-on : Onward (behind-blanks parse-struct-field)
+field-behind-on = onward-then (walks whitespace0-chain) parse-struct-field-on
+
+pub field-behind : {b : ℕ} {u : List ℕ} {a : StructFieldRead} → StructFieldTo parse-struct-field a b u → StructFieldTo (behind-blanks parse-struct-field) a b u
+unfolding parse-struct-field
+field-behind h = read-behind _ _ _ h
 
 pub closed-field-on : Onward closed-field
 closed-field-on = walks (closed-field-inside .on-chain)
@@ -161,7 +171,7 @@ unfolding fields-run
 fields-run-on = walks (chain-many0 (closed-field-inside .on-chain))
 
 -- four words a field
-field-words : (f : StructFieldOf) → word-count (field-record f ∷ []) ≡ 4
+pub field-words : (f : StructFieldOf) → word-count (field-record f ∷ []) ≡ 4
 unfolding word-count catalogue-words each record-words layout-20 field-record plain
 field-words f = refl
 
@@ -334,11 +344,6 @@ field-put s p i j t x w l l₁ ei ej d f y e =
     rw (plain-bytes 6 (s .maturity) (flag (s .field .list) ∷ flag (s .field .«has_maximum») ∷ bits 3 (s .flags) ∷ []) (at (s .field .name) (s .field .end - s .field .name))
     (spanned (at (s .field .«type_at») (s .field .«type_end» - s .field .«type_at»)) ∷ value (s .field .code) ∷ value (or-else 0 (optionOf (s .field .«has_maximum») (s .field .maximum))) ∷ []) g z)
     (rw (d, f, y) at e)
-
--- four words, by offsets too
-pub field-parts-words : (s : StructFieldParts) → word-count (field-parts s ∷ []) ≡ 4
-unfolding word-count catalogue-words each record-words layout-20 plain
-field-parts-words s = refl
 
 -- the record of a field that was read
 pub field-parts-is : (b : ℕ) (u : List ℕ) (s : StructFieldParts) (c : ℕ) → StructFieldBetween b s c → c ≤ b + length u → field-parts s ≡ field-record (structFieldAt b u s)

@@ -1,20 +1,15 @@
 -- Answers of the readers of attributes.
 use Prim.Native.Nat.{ℕ, _<_}
 use mathlib.Core.List.{List}
-use Rattle.lexing.specs.blanks.{Doc}
 use Rattle.lexing.specs.answers.{Answer, got, lost, ReadTo}
 use Rattle.lexing.specs.declared.answers.Lost.{Lost}
 use Rattle.lexing.specs.declared.answers.Lost.the-variants.{Fail}
-use Rattle.items.specs.members.{Privileges as PrivilegesOf, attribute-access, Attribute as AttributeOf, parse-attribute-after-doc-maturity}
+use Rattle.items.specs.members.{Privileges as PrivilegesOf, attribute-access, parse-attribute-after-doc-maturity}
 use Rattle.items.specs.records.{attribute-records}
 use Rattle.items.specs.answers.{Front, CountsTo}
 use Rattle.items.specs.declared.counts.Count.{Count}
-use Rattle.items.specs.answers.structs.{structFieldAt, StructFieldBetween}
 use Rattle.items.specs.declared.attributes.PrivilegesRead.{PrivilegesRead}
 use Rattle.items.specs.declared.attributes.PrivilegesRead.the-variants.{Privileges, NoPrivileges}
-use Rattle.items.specs.declared.attributes.AttributeParts.{AttributeParts}
-use Rattle.items.specs.declared.attributes.AttributeRead.{AttributeRead}
-use Rattle.items.specs.declared.attributes.AttributeRead.the-variants.{Attribute, NoAttribute}
 
 -- the privileges to read and to write
 pub record SmallPrivileges (r w : ℕ) : Type 0 where
@@ -37,30 +32,5 @@ abbrev pub PrivilegesTo : PrivilegesRead → ℕ → List ℕ → Type 0
 PrivilegesTo r b u = ReadTo privilegesAnswer privilegesSmall attribute-access r b u
 
 -- an attribute, whatever stands before it
-abbrev pub attributeAt : Doc → ℕ → ℕ → List ℕ → AttributeParts → AttributeOf
-attributeAt d m b u p = record {
-  doc = d;
-  maturity = m;
-  flags = p .flags;
-  privileges = record { read = p .read; write = p .write };
-  field = structFieldAt b u (p .field);
-}
-
-abbrev pub attributeAnswer : Doc → ℕ → ℕ → List ℕ → AttributeRead → Answer AttributeOf
-attributeAnswer d m b u (Attribute p c) = got (attributeAt d m b u p) c
-attributeAnswer d m b u (NoAttribute l) = lost l
-
-pub record AttributeBetween (b : ℕ) (p : AttributeParts) (c : ℕ) : Type 0 where
-  pub flags : p .flags < 16
-  pub privileges : SmallPrivileges (p .read) (p .write)
-  pub field : StructFieldBetween b (p .field) c
-
-abbrev pub attributeWithin : ℕ → AttributeRead → Type 0
-attributeWithin b (Attribute p c) = AttributeBetween b p c
-attributeWithin b (NoAttribute l) = Unit {0}
-
-pub record AttributeTo (r : AttributeRead) (b : ℕ) (u : List ℕ) : Type 0 where
-  pub to : (d : Doc) (m : ℕ) → ReadTo (attributeAnswer d m) attributeWithin (parse-attribute-after-doc-maturity d m) r b u
-
 abbrev pub AttributeCountTo : Count → ℕ → List ℕ → Type 0
 AttributeCountTo r b u = CountsTo {I = Front} (λ i. attribute-records) (λ i. parse-attribute-after-doc-maturity (i .doc) (i .maturity)) r b u

@@ -1,22 +1,25 @@
 -- What the private functions of the readers of attributes promise: the list of privileges is read without being kept.
-use Prim.Native.Nat.{ℕ}
+use Prim.Native.Nat.{ℕ, _<_}
 use mathlib.Core.Path.{_≡_}
 use mathlib.Core.Bool.{Bool, true, false}
 use mathlib.Core.Option.{Option, none, some}
 use mathlib.Core.List.{List, [], _∷_}
 use Rattle.lexing.specs.bytes.{ascii}
-use Rattle.lexing.specs.reply.{Parser, opt}
-use Rattle.lexing.specs.words.{Word, offsetOf, bytesOf}
-use Rattle.lexing.specs.word_sets.{same-bytes}
+use Rattle.lexing.specs.reply.{Parser, ret, _>>=_, _>>_, opt}
+use Rattle.lexing.specs.words.{Word, offsetOf, bytesOf, keyword}
+use Rattle.lexing.specs.blanks.{whitespace0, whitespace1}
+use Rattle.lexing.specs.word_sets.{same-bytes, set-flags}
 use Rattle.lexing.specs.answers.{Answer, got, lost, wordAt, reply, docOf, ReadTo}
+use Rattle.lexing.specs.declared.answers.Lost.{Lost}
 use Rattle.lexing.specs.declared.answers.Lost.the-variants.{Fail}
 use Rattle.items.specs.clusters.{mapped}
 use Rattle.items.specs.records.{Record, absent, bits, documented}
-use Rattle.items.specs.members.{Access as AccessOf, access-entry, comma, separated-list0}
+use Rattle.items.specs.members.{Access as AccessOf, access-entry, comma, separated-list0, Privileges as PrivilegesOf, attribute-access}
 use Rattle.items.specs.answers.attributes.{SmallPrivileges}
-use Rattle.items.specs.inner.structs.{field-parts}
 use Rattle.items.specs.declared.writing.FrontParts.{FrontParts}
-use Rattle.items.specs.declared.attributes.AttributeParts.{AttributeParts}
+use Rattle.items.specs.declared.attributes.AttributeHeadParts.{AttributeHeadParts}
+use Rattle.items.specs.declared.attributes.AttributeHeadRead.{AttributeHeadRead}
+use Rattle.items.specs.declared.attributes.AttributeHeadRead.the-variants.{AttributeHead, NoAttributeHead}
 use Rattle.items.specs.declared.attributes.Operation.{Operation}
 use Rattle.items.specs.declared.attributes.Operation.the-variants.{Read, Write, Neither}
 use Rattle.items.specs.declared.attributes.OperationRead.{OperationRead}
@@ -90,11 +93,44 @@ no-grants = Granted 0 1
 abbrev pub EntriesTo : Entries → ℕ → List ℕ → Type 0
 EntriesTo r b u = ReadTo entriesAnswer entriesSmall (mapped (separated-list0 comma access-entry) (grants-from no-grants)) r b u
 
+-- An attribute up to its field, cut out of `parse-attribute-after-doc-maturity`.
+pub record AttributeHeadOf : Type 0 where
+  pub flags : ℕ
+  pub privileges : PrivilegesOf
+
+unfoldable pub attribute-head : Parser AttributeHeadOf
+attribute-head = do
+  q ← set-flags 4
+  whitespace0
+  keyword (ascii "attribute")
+  whitespace1
+  p ← attribute-access
+  ret (record { flags = q; privileges = p })
+
+abbrev pub attributeHeadOf : AttributeHeadParts → AttributeHeadOf
+attributeHeadOf h = record { flags = h .flags; privileges = record { read = h .read; write = h .write } }
+
+abbrev pub attributeHeadAnswer : ℕ → List ℕ → AttributeHeadRead → Answer AttributeHeadOf
+attributeHeadAnswer b u (AttributeHead h c) = got (attributeHeadOf h) c
+attributeHeadAnswer b u (NoAttributeHead l) = lost l
+
+abbrev pub attributeHeadLost : AttributeHeadRead → Lost
+attributeHeadLost (AttributeHead h c) = Fail c
+attributeHeadLost (NoAttributeHead l) = l
+
+pub record AttributeHeadSmall (h : AttributeHeadParts) : Type 0 where
+  pub flags : h .flags < 16
+  pub privileges : SmallPrivileges (h .read) (h .write)
+
+abbrev pub attributeHeadWithin : ℕ → AttributeHeadRead → Type 0
+attributeHeadWithin b (AttributeHead h c) = AttributeHeadSmall h
+attributeHeadWithin b (NoAttributeHead l) = Unit {0}
+
+abbrev pub AttributeHeadTo : AttributeHeadRead → ℕ → List ℕ → Type 0
+AttributeHeadTo r b u = ReadTo attributeHeadAnswer attributeHeadWithin attribute-head r b u
+
 -- The second pass.
 
--- the records of an attribute and of its field, by offsets
-abbrev pub attribute-first : FrontParts → AttributeParts → Record
-attribute-first f a = documented 7 0 (f .maturity) (docOf (f .doc)) (bits 4 (a .flags) ∷ []) absent (a .read) (a .write) []
-
-abbrev pub attribute-parts : FrontParts → AttributeParts → List Record
-attribute-parts f a = attribute-first f a ∷ field-parts (a .field) ∷ []
+-- the first record of an attribute
+abbrev pub attribute-first : FrontParts → AttributeHeadParts → Record
+attribute-first f h = documented 7 0 (f .maturity) (docOf (f .doc)) (bits 4 (h .flags) ∷ []) absent (h .read) (h .write) []

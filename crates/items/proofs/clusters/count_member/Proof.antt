@@ -37,8 +37,8 @@ parse-struct-after-doc-maturity-requires c κs = (c .before .before .before .pre
 enum-told-5 : tie.Need-enum-told-5
 enum-told-5 c = c .match .keys5
 
-count-attribute-requires : tie.Need-count-attribute-requires
-count-attribute-requires c κs = search needs
+parse-attribute-after-doc-maturity-requires : tie.Need-parse-attribute-after-doc-maturity-requires
+parse-attribute-after-doc-maturity-requires c κs = search needs
 
 enum-told-6 : tie.Need-enum-told-6
 enum-told-6 c = c .match .keys6
@@ -68,7 +68,7 @@ returns-4 : tie.Need-returns-4
 returns-4 c = kind-counts (docOf (c .before .before .before .before .args .doc)) (c .before .before .before .before .args .maturity) _ _ (c .before .enum-told4 .given .1) (counts-struct (docOf (c .before .before .before .before .args .doc)) (c .before .before .before .before .args .maturity) _ _ (c .parse-struct-after-doc-maturity .ensures))
 
 returns-5 : tie.Need-returns-5
-returns-5 c = kind-counts (docOf (c .before .before .before .before .args .doc)) (c .before .before .before .before .args .maturity) _ _ (c .before .enum-told5 .given .1) (counts-attribute (docOf (c .before .before .before .before .args .doc)) (c .before .before .before .before .args .maturity) _ _ (c .count-attribute .ensures .counts (record { kind = 0; place = 0; doc = docOf (c .before .before .before .before .args .doc); maturity = c .before .before .before .before .args .maturity })))
+returns-5 c = kind-counts (docOf (c .before .before .before .before .args .doc)) (c .before .before .before .before .args .maturity) _ _ (c .before .enum-told5 .given .1) (counts-attribute (docOf (c .before .before .before .before .args .doc)) (c .before .before .before .before .args .maturity) _ _ (c .parse-attribute-after-doc-maturity .ensures .counts (record { kind = 0; place = 0; doc = docOf (c .before .before .before .before .args .doc); maturity = c .before .before .before .before .args .maturity })))
 
 returns-6 : tie.Need-returns-6
 returns-6 c = kind-counts (docOf (c .before .before .before .before .args .doc)) (c .before .before .before .before .args .maturity) _ _ (c .before .enum-told6 .given .1) (counts-command (docOf (c .before .before .before .before .args .doc)) (c .before .before .before .before .args .maturity) _ _ (c .count-command .ensures .counts (record { kind = 0; place = 0; doc = docOf (c .before .before .before .before .args .doc); maturity = c .before .before .before .before .args .maturity })))
@@ -94,7 +94,7 @@ count-member-spec =
     enum-told-4
     parse-struct-after-doc-maturity-requires
     enum-told-5
-    count-attribute-requires
+    parse-attribute-after-doc-maturity-requires
     enum-told-6
     count-command-requires
     enum-told-7

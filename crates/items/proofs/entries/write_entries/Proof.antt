@@ -9,7 +9,7 @@ use Rattle.items.specs.entries.{blank-entry, constant-entries}
 use Rattle.items.specs.records.{entry-record}
 use Rattle.items.proofs.RecordWords.{map-elementwise}
 use Rattle.items.proofs.writing.Laws.{Writing, writing-start, writing-same}
-use Rattle.items.proofs.entries.Laws.{bounds-of, entry-fits, write-entry, write-ends}
+use Rattle.items.proofs.entries.Laws.{bounds-of, entry-behind, entry-fits, write-entry, write-ends}
 
 abbrev Inv-loop : tie.InvT-loop
 Inv-loop part base out₀ at c₀ to₀ out c to = Writing (map entry-record) blank-entry base part c at out₀ out to
@@ -24,8 +24,8 @@ loop-holds c = writing-start (map-elementwise entry-record) _ _ _ _ _ (c .before
 rest-at-requires : tie.Need-rest-at-requires Inv-loop μ-loop
 rest-at-requires c κs = omega (arith, c .loop .inv .run .from, c .loop .inv .run .inside)
 
-blank-entry-requires : tie.Need-blank-entry-requires Inv-loop μ-loop
-blank-entry-requires c κs = search needs
+constant-entry-requires : tie.Need-constant-entry-requires Inv-loop μ-loop
+constant-entry-requires c κs = search needs
 
 enum-known-r : tie.Need-enum-known-r Inv-loop μ-loop
 enum-known-r c = c .match .keys1
@@ -39,23 +39,23 @@ same-length c = writing-same (map-elementwise entry-record) _ _ _ _ _ (c .before
 
 returns : tie.Need-returns Inv-loop μ-loop
 unfolding constant-entries
-returns c = write-ends _ _ _ _ (c .before .before .before .before .before .before .before .pre .1) (c .before .before .before .before .loop .inv) (c .before .before .before .rest-at .ensures) (c .before .before .blank-entry .ensures) _ (c .enum-told .given .1)
+returns c = write-ends _ _ _ _ (c .before .before .before .before .before .before .before .pre .1) (c .before .before .before .before .loop .inv) (c .before .before .before .rest-at .ensures) (entry-behind (c .before .before .constant-entry .ensures)) _ (c .enum-told .given .1)
 
 put-entry-requires : tie.Need-put-entry-requires Inv-loop μ-loop
 unfolding constant-entries
-put-entry-requires c κs = let f = entry-fits _ _ _ _ (c .before .before .before .before .before .before .before .before .before .pre .1) (c .before .before .before .before .before .before .loop .inv) (c .before .before .before .before .before .rest-at .ensures) (c .before .before .before .before .blank-entry .ensures) _ _ (c .before .before .r .given .1) in let v = bounds-of _ _ (c .before .before .before .before .blank-entry .ensures) (c .before .before .r .given .1) in (f .0, (v .small, (v .up, omega (arith, v .inside, f .1 .1, c .before .before .before .before .before .before .before .before .before .pre .0))))
+put-entry-requires c κs = let f = entry-fits _ _ _ _ (c .before .before .before .before .before .before .before .before .before .pre .1) (c .before .before .before .before .before .before .loop .inv) (c .before .before .before .before .before .rest-at .ensures) (entry-behind (c .before .before .before .before .constant-entry .ensures)) _ _ (c .before .before .r .given .1) in let v = bounds-of _ _ (entry-behind (c .before .before .before .before .constant-entry .ensures)) (c .before .before .r .given .1) in (f .0, (v .small, (v .up, omega (arith, v .inside, f .1 .1, c .before .before .before .before .before .before .before .before .before .pre .0))))
 
 add-to : tie.Need-add-to Inv-loop μ-loop
 unfolding constant-entries
-add-to c = let f = entry-fits _ _ _ _ (c .before .before .before .before .before .before .before .before .before .before .before .before .pre .1) (c .before .before .before .before .before .before .before .before .before .loop .inv) (c .before .before .before .before .before .before .before .before .rest-at .ensures) (c .before .before .before .before .before .before .before .blank-entry .ensures) _ _ (c .before .before .before .before .before .r .given .1) in omega (arith, f .0, writing-same (map-elementwise entry-record) _ _ _ _ _ (c .before .before .before .before .before .before .before .before .before .before .before .before .pre .1) (c .before .before .before .before .before .before .before .before .before .loop .inv))
+add-to c = let f = entry-fits _ _ _ _ (c .before .before .before .before .before .before .before .before .before .before .before .before .pre .1) (c .before .before .before .before .before .before .before .before .before .loop .inv) (c .before .before .before .before .before .before .before .before .rest-at .ensures) (entry-behind (c .before .before .before .before .before .before .before .constant-entry .ensures)) _ _ (c .before .before .before .before .before .r .given .1) in omega (arith, f .0, writing-same (map-elementwise entry-record) _ _ _ _ _ (c .before .before .before .before .before .before .before .before .before .before .before .before .pre .1) (c .before .before .before .before .before .before .before .before .before .loop .inv))
 
 loop-less : tie.Need-loop-less Inv-loop μ-loop
 unfolding constant-entries
-loop-less c = let f = entry-fits _ _ _ _ (c .before .before .before .before .before .before .before .before .before .before .before .before .pre .1) (c .before .before .before .before .before .before .before .before .before .loop .inv) (c .before .before .before .before .before .before .before .before .rest-at .ensures) (c .before .before .before .before .before .before .before .blank-entry .ensures) _ _ (c .before .before .before .before .before .r .given .1) in omega (arith, f .1)
+loop-less c = let f = entry-fits _ _ _ _ (c .before .before .before .before .before .before .before .before .before .before .before .before .pre .1) (c .before .before .before .before .before .before .before .before .before .loop .inv) (c .before .before .before .before .before .before .before .before .rest-at .ensures) (entry-behind (c .before .before .before .before .before .before .before .constant-entry .ensures)) _ _ (c .before .before .before .before .before .r .given .1) in omega (arith, f .1)
 
 loop-again : tie.Need-loop-again Inv-loop μ-loop
 unfolding constant-entries
-loop-again c = write-entry _ _ _ _ (c .before .before .before .before .before .before .before .before .before .before .before .before .pre .1) (c .before .before .before .before .before .before .before .before .before .loop .inv) (c .before .before .before .before .before .before .before .before .rest-at .ensures) (c .before .before .before .before .before .before .before .blank-entry .ensures) _ _ (c .before .before .before .before .before .r .given .1) _ (c .before .before .put-entry .ensures)
+loop-again c = write-entry _ _ _ _ (c .before .before .before .before .before .before .before .before .before .before .before .before .pre .1) (c .before .before .before .before .before .before .before .before .before .loop .inv) (c .before .before .before .before .before .before .before .before .rest-at .ensures) (entry-behind (c .before .before .before .before .before .before .before .constant-entry .ensures)) _ _ (c .before .before .before .before .before .r .given .1) _ (c .before .before .put-entry .ensures)
 
 pub write-entries-spec : {M : Type 1} → statement M
 write-entries-spec =
@@ -65,7 +65,7 @@ write-entries-spec =
     μ-loop
     loop-holds
     rest-at-requires
-    blank-entry-requires
+    constant-entry-requires
     enum-known-r
     enum-told
     same-length
