@@ -5,7 +5,7 @@ use mathlib.Core.Bool.{Bool, true, false, false≢true}
 use mathlib.Core.Logic.{_⊎_, inl, inr}
 use Prim.Native.Nat.{ℕ, zero, suc, _+_, _-_, _/_, _≤_, _<_, zero-le}
 use native.Mathlib.Omega.{arith}
-use lib.Count.{trailingZeros, trailing-le, trailing-of-zero}
+use lib.Count.{trailingZeros, trailing-le}
 use lib.Dec.{eqb, ltb}
 use lib.ListN.{length, drop, getD}
 use borrow.Author.Count.{below-none, below-more}
@@ -17,7 +17,7 @@ use Rattle.lexing.specs.answers.{wordAt}
 use Rattle.lexing.specs.inner.eights.{pack, bytesFrom, failing, isAlpha}
 use Rattle.lexing.specs.inner.words.{isKeyByte, Agree, KeyAt, HasKey, word-of}
 use Rattle.lexing.proofs.Scans.{take-run, drop-run, run-cons, run-le, run-byte, run-stops, run-passes, RunAt, runs-on, runs-le}
-use Rattle.lexing.proofs.eights.Laws.{Bytes, passing}
+use Rattle.lexing.proofs.eights.Laws.{Bytes, no-bits, passing}
 use Rattle.lexing.proofs.Tests.{eq-of, and-left, and-right, false-if, within-of, digit-no-letter}
 
 letter-word : (x : ℕ) → isLetter x ≡ true → isWord x ≡ true
@@ -246,7 +246,7 @@ module _ (u : List ℕ) (i w m : ℕ) (b : Bytes (λ j. getD u j 0)) (e : w ≡ 
   letters-some = runs-le isWord u (i + trailingZeros 64 m / 8) letters-at
 
   pub letters-all : m ≡ 0 → RunAt isWord u (i + 8)
-  letters-all z = let n : trailingZeros 64 m / 8 ≡ 8 = omega (arith, ap (trailingZeros 64) z ∙ trailing-of-zero 64) in rw n at letters-at
+  letters-all z = rw (no-bits z) at letters-at
 
 -- a run goes on behind its first n bytes where the next byte is one of it
 run-longer : (u : List ℕ) (n : ℕ) → n ≤ length (takeWhile isWord u) → isWord (getD u n 0) ≡ true → n < length (takeWhile isWord u)

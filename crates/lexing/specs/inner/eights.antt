@@ -2,7 +2,7 @@
 use Prim.Native.Nat.{ℕ, zero, suc, _+_, _*_, _/_, _%_}
 use mathlib.Core.Bool.{Bool, true, false}
 use mathlib.Core.List.{List}
-use lib.Dec.{eqb}
+use lib.Dec.{eqb, ltb}
 use lib.ListN.{getD}
 use Rattle.lexing.specs.bytes.{within, lower}
 
@@ -28,6 +28,9 @@ failed false = 0x80
 -- of the eight bytes of w those that fail a test
 unfoldable pub failing : (ℕ → Bool) → ℕ → ℕ
 failing t w = pack 8 (λ j. failed (t (byteAt w j)))
+
+abbrev pub isAscii : ℕ → Bool
+isAscii x = ltb x 0x80
 
 -- a letter from a to z in either case
 unfoldable pub isAlpha : ℕ → Bool
