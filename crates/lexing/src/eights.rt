@@ -15,7 +15,7 @@ fn four_at(part: &[u8], i: usize) -> u64
         + (part[i + 3] as u64) * 0x100_0000
 }
 
-// Eight bytes as a number: two loads of four, which the compiler joins.
+// Eight bytes as a number: two loads of four, which the compiler joins at most places.
 pub fn eight_at(part: &[u8], i: usize) -> u64
     requires { ⌜ i + 8 ≤ length (now part) ⌝ }
     ensures { λ r. ⌜ r ≡ pack 8 (bytesFrom (now (part .entry)) i) ⌝ }

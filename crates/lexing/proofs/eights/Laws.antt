@@ -8,7 +8,7 @@ use native.Mathlib.Nat.{mod-one, pow-suc}
 use lib.Arith.{mod-mul}
 use lib.Bits.{bitAnd, bitOr, bitXor, and-le-l, and-le-r, xor-add-and, xor-self, and-lt, or-lt, xor-lt, and-block, or-block, xor-block}
 use lib.Count.{trailingZeros, under, trailing-le, trailing-of-zero}
-use lib.Dec.{eqb, ltb}
+use lib.Dec.{eqb}
 use lib.ListN.{length, getD}
 use lib.Pow.{pow-pos, pow-add}
 use borrow.Author.Tests.{eq-eqb, ne-eqb, eqb-true, eqb-false}
@@ -144,14 +144,22 @@ pub ascii-fails : (w : ℕ) → w < 2 ^ 64 → bitAnd w 0x8080808080808080 ≡ f
 unfolding pack
 ascii-fails w h = fails-by isAscii (λ x. bitAnd x 0x80) ascii-all w (each-and (own-bytes w h) (alike 0x80 (omega arith)))
 
--- letters: the bits of a byte, and of eight, as the code computes them
+-- bytes outside a range, each folded by g first: the bits of a byte, and of eight, as the code computes them
+abbrev outsideBits : (ℕ → ℕ) → ℕ → ℕ → ℕ → ℕ
+outsideBits g m l x = bitAnd (bitOr (bitOr (m - g x) (g x + l)) x) 0x80
+
+outside : (t : ℕ → Bool) (g : ℕ → ℕ) (m l : ℕ) → every 256 (λ x. eqb (outsideBits g m l x) (failed (t x))) ≡ true → ((x : ℕ) → g x ≤ 0x7f) → ((0x7f ≤ m) × (m < 256)) × (l ≤ 0x80)
+    → (w : ℕ) → w < 2 ^ 64 → {v : ℕ} → Eight v (λ j. g (byteAt w j)) → bitAnd (bitOr (bitOr (pack 8 (λ j. m) - v) (v + pack 8 (λ j. l))) w) (pack 8 (λ j. 0x80)) ≡ failing t w
+outside t g m l e le b w h p =
+    let below = each-sub (alike m (b .0 .1)) p (λ j. omega (arith, le (byteAt w j))) in
+    let above = each-add p (alike l (omega arith)) (λ j. omega (arith, le (byteAt w j))) in
+    fails-by t (outsideBits g m l) e w (each-and (each-or (each-or below above) (own-bytes w h)) (alike 0x80 (omega arith)))
+
+-- letters
 abbrev folded : ℕ → ℕ
 folded x = bitOr (bitAnd x 0x7f) 0x20
 
-abbrev alphaBits : ℕ → ℕ
-alphaBits x = bitAnd (bitOr (bitOr (0xe0 - folded x) (folded x + 0x05)) x) 0x80
-
-alpha-all : every 256 (λ x. eqb (alphaBits x) (failed (isAlpha x))) ≡ true
+alpha-all : every 256 (λ x. eqb (outsideBits folded 0xe0 0x05 x) (failed (isAlpha x))) ≡ true
 unfolding every failed isAlpha within lower
 alpha-all = refl
 
@@ -172,11 +180,16 @@ module _ (w : ℕ) (h : w < 2 ^ 64) where
 
   pub alpha-fails : bitAnd (bitOr (bitOr (0xe0e0e0e0e0e0e0e0 - foldedEight w) (foldedEight w + 0x0505050505050505)) w) 0x8080808080808080 ≡ failing isAlpha w
   unfolding pack
-  alpha-fails =
-      let l : (j : ℕ) → folded (byteAt w j) ≤ 0x7f = λ j. folded-le (byteAt w j) in
-      let below = each-sub (alike 0xe0 (omega arith)) folds (λ j. omega (arith, l j)) in
-      let above = each-add folds (alike 0x05 (omega arith)) (λ j. omega (arith, l j)) in
-      fails-by isAlpha alphaBits alpha-all w (each-and (each-or (each-or below above) (own-bytes w h)) (alike 0x80 (omega arith)))
+  alpha-fails = outside isAlpha folded 0xe0 0x05 alpha-all folded-le (omega arith) w h folds
+
+-- capital letters
+capital-all : every 256 (λ x. eqb (outsideBits (λ y. bitAnd y 0x7f) 0xc0 0x25 x) (failed (isCapital x))) ≡ true
+unfolding every failed within
+capital-all = refl
+
+pub capital-fails : (w : ℕ) → w < 2 ^ 64 → bitAnd (bitOr (bitOr (0xc0c0c0c0c0c0c0c0 - bitAnd w 0x7f7f7f7f7f7f7f7f) (bitAnd w 0x7f7f7f7f7f7f7f7f + 0x2525252525252525)) w) 0x8080808080808080 ≡ failing isCapital w
+unfolding pack
+capital-fails w h = outside isCapital _ 0xc0 0x25 capital-all (λ x. and-le-r x 0x7f) (omega arith) w h (each-and (own-bytes w h) (alike 0x7f (omega arith)))
 
 -- bytes that are not x: the bits of their difference
 abbrev zeroBits : ℕ → ℕ
@@ -207,23 +220,6 @@ other-fails w x h k =
     let some = each-add (each-and other (alike 0x7f (omega arith))) (alike 0x7f (omega arith)) (λ j. omega (arith, and-le-r (bitXor (byteAt w j) x) 0x7f)) in
     let bits = each-and (each-or some other) (alike 0x80 (omega arith)) in
     bits .is ∙ pack-same 8 _ _ (λ j. eq-of _ _ (every-at 256 (λ z. eqb (zeroBits z) (failed (eqb z 0))) zero-all (bitXor (byteAt w j) x) (other .byte j)) ∙ ap failed (xor-none (byteAt w j) x))
-
--- capital letters
-abbrev capitalBits : ℕ → ℕ
-capitalBits x = bitAnd (bitOr (bitOr (0xc0 - bitAnd x 0x7f) (bitAnd x 0x7f + 0x25)) x) 0x80
-
-capital-all : every 256 (λ x. eqb (capitalBits x) (failed (isCapital x))) ≡ true
-unfolding every failed within
-capital-all = refl
-
-pub capital-fails : (w : ℕ) → w < 2 ^ 64 → bitAnd (bitOr (bitOr (0xc0c0c0c0c0c0c0c0 - bitAnd w 0x7f7f7f7f7f7f7f7f) (bitAnd w 0x7f7f7f7f7f7f7f7f + 0x2525252525252525)) w) 0x8080808080808080 ≡ failing isCapital w
-unfolding pack
-capital-fails w h =
-    let l : (j : ℕ) → bitAnd (byteAt w j) 0x7f ≤ 0x7f = λ j. and-le-r (byteAt w j) 0x7f in
-    let low = each-and (own-bytes w h) (alike 0x7f (omega arith)) in
-    let below = each-sub (alike 0xc0 (omega arith)) low (λ j. omega (arith, l j)) in
-    let above = each-add low (alike 0x25 (omega arith)) (λ j. omega (arith, l j)) in
-    fails-by isCapital capitalBits capital-all w (each-and (each-or (each-or below above) (own-bytes w h)) (alike 0x80 (omega arith)))
 
 -- trailing zeros: as many as the powers of two that divide the number
 mod-half : (t m : ℕ) → m % 2 ^ suc t ≡ m / 2 % 2 ^ t * 2 + m % 2

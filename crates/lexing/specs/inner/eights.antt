@@ -40,5 +40,6 @@ isAlpha x = within 0x61 0x7a (lower x)
 abbrev pub isByte : ℕ → ℕ → Bool
 isByte x y = eqb y x
 
+-- a letter from A to Z
 abbrev pub isCapital : ℕ → Bool
 isCapital x = within 0x41 0x5a x
