@@ -86,6 +86,9 @@ told-next {A} f r c b u X e h = subst (λ (x : Step). reply (stepAnswer f x) b u
 pub told-not : {A : Type 0} (f : ℕ → A) (r : Step) (l : Lost) (b : ℕ) (u : List ℕ) (X : Reply A) → r ≡ Not l → reply (stepAnswer f r) b u ≡ X → lostReply l ≡ X
 told-not f r l b u X e h = subst (λ (x : Step). reply (stepAnswer f x) b u ≡ X) e h
 
+pub told-value : {a : Number} {v c : ℕ} (b : ℕ) (u : List ℕ) (X : Reply ℕ) → a ≡ Value v c → numberReply a b u ≡ X → ok v c (drop (c - b) u) ≡ X
+told-value b u X e h = subst (λ (x : Number). numberReply x b u ≡ X) e h
+
 -- sequences: one law for each step; `_` for what follows
 module _ {A B : Type 0} {m : Parser A} {b : ℕ} {u : List ℕ} {n : ℕ} where
   pub go : (k : A → Parser B) {X : Reply B} {a : A} {c : ℕ} → Took m b u n a c → X ≡ k a c (drop (c - b) u) → X ≡ (m >>= k) n (drop (n - b) u)
@@ -139,7 +142,7 @@ module _ {b n : ℕ} {u r : List ℕ} (q : Rest b u n r) where
     string-took f h = step-took (spanTo n) (advances-onward (string-advances f)) h
 
   pub integer-took : {a : Number} {v c : ℕ} → a ≡ Value v c → numberReply a n r ≡ positive-integer n r → Took positive-integer b u n v c
-  integer-took {a} {v} {c} e h = took (advances-onward integer-advances) q (subst (λ (x : Number). numberReply x n r ≡ positive-integer n r) e h)
+  integer-took e h = took (advances-onward integer-advances) q (told-value n r _ e h)
 
 -- and lost: whatever the value would have been
 pub step-lost : {A : Type 0} (f : ℕ → A) {a : Step} {l l' : Lost} → l' ≡ lostOf a → a ≡ Not l → (n : ℕ) (r : List ℕ) (X : Reply A) → reply (stepAnswer f a) n r ≡ X → lostReply l' ≡ X

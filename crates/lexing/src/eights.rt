@@ -2,7 +2,7 @@
 ghost use mathlib.Core.Path.{_≡_};
 ghost use Prim.Native.Nat.{_+_, _≤_};
 ghost use lib.ListN.{length};
-ghost use Rattle.lexing.specs.inner.eights.{pack, bytesFrom, failing, isAlpha, isByte, isCapital};
+ghost use Rattle.lexing.specs.inner.eights.{pack, bytesFrom, failing, isAlpha, isAscii, isByte, isCapital};
 
 // Four bytes as a number. The compiler makes one load of a sum in this order.
 fn four_at(part: &[u8], i: usize) -> u64
@@ -15,12 +15,19 @@ fn four_at(part: &[u8], i: usize) -> u64
         + (part[i + 3] as u64) * 0x100_0000
 }
 
-// Eight bytes as a number: two loads of four, which the compiler joins.
+// Eight bytes as a number: two loads of four, which the compiler joins at most places.
 pub fn eight_at(part: &[u8], i: usize) -> u64
     requires { ⌜ i + 8 ≤ length (now part) ⌝ }
     ensures { λ r. ⌜ r ≡ pack 8 (bytesFrom (now (part .entry)) i) ⌝ }
 {
     four_at(part, i) + four_at(part, i + 4) * 0x1_0000_0000
+}
+
+// The highest bit of each byte that is not ASCII; no other bit is set.
+pub fn non_ascii(w: u64) -> u64
+    ensures { λ r. ⌜ r ≡ failing isAscii w ⌝ }
+{
+    w & 0x8080_8080_8080_8080
 }
 
 // The highest bit of each byte that is no letter from a to z in either case; no other bit is set.

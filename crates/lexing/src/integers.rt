@@ -165,7 +165,8 @@ fn any_integer(part: &[u8], base: usize) -> Number
     decimal_integer(part, base)
 }
 
-// An integer without a sign. Most have one digit, and of the others most are decimal: the second byte tells them.
+// An integer without a sign. Most have one digit, and of the others most are decimal: the second byte tells them. A decimal one is handed on by
+// its parts, which need no copy in memory.
 pub fn positive_integer(part: &[u8], base: usize) -> Number
     requires { ⌜ base + length (now part) ≤ u64-max ⌝ }
     ensures { λ r. ⌜ numberReply r base (now (part .entry)) ≡ positive-integer base (now (part .entry)) ⌝ }
@@ -176,7 +177,11 @@ pub fn positive_integer(part: &[u8], base: usize) -> Number
     }
     let y = peek(part, 1);
     if is_digit(y) {
-        return decimal_integer(part, base);
+        let d = decimal_integer(part, base);
+        let Number::Value(v, c) = d else {
+            return Number::NoNumber(number_lost(d));
+        };
+        return Number::Value(v, c);
     }
     if is_x(y) {
         return any_integer(part, base);

@@ -7,6 +7,7 @@ ghost use Rattle.lexing.specs.blanks.{whitespace1};
 ghost use Rattle.lexing.specs.answers.{BlankAt, SkipsAt, NumberAt, behind-blanks};
 use crate::answers::Lost;
 use crate::answers::Step;
+use crate::answers::step_lost;
 use crate::blanks::blank_run;
 use crate::integers::Number;
 use crate::integers::positive_integer;
@@ -64,13 +65,17 @@ pub fn tag_behind(part: &[u8], base: usize, c: usize, t: u8) -> Step
     tag(rest_at(part, base, n), n, t)
 }
 
-// Blanks and a keyword.
+// Blanks and a keyword, which is handed on by its parts.
 pub fn keyword_behind(part: &[u8], base: usize, c: usize, key: &[u8]) -> Step
     requires { ⌜ ((base ≤ c) × (c ≤ base + length (now part))) × (base + length (now part) ≤ u64-max) ⌝ }
     ensures { λ r. ⌜ SkipsAt (behind-blanks (keyword (now (key .entry)))) r base (now (part .entry)) c ⌝ }
 {
     let n = blank_at(part, base, c);
-    keyword(rest_at(part, base, n), n, key)
+    let word = keyword(rest_at(part, base, n), n, key);
+    let Step::Next(end) = word else {
+        return Step::Not(step_lost(word));
+    };
+    Step::Next(end)
 }
 
 // Blanks and an integer.

@@ -7,6 +7,8 @@ ghost use Rattle.lexing.specs.integers.{u64-max};
 ghost use Rattle.lexing.specs.utf8.{utf8-error, errorOf};
 ghost use Rattle.lexing.specs.inner.utf8.{size-of, sequence-size, later, Bounds, AsciiAt};
 use crate::bytes::is_between;
+use crate::eights::eight_at;
+use crate::eights::non_ascii;
 
 // The offset is that of the first byte of the first ill-formed sequence.
 pub enum Utf8 {
@@ -85,19 +87,31 @@ fn or_16(part: &[u8], i: usize) -> u8
     or_4(part, i) | or_4(part, i + 4) | or_4(part, i + 8) | or_4(part, i + 12)
 }
 
-// How many bytes a turn passes at an ASCII byte: that byte, with the 32 behind it where as many are left and all are ASCII, as in most texts.
+// Sixty-four bytes joined bit by bit.
+fn or_64(part: &[u8], i: usize) -> u8
+    requires { ⌜ i + 64 ≤ length (now part) ⌝ }
+    ensures { λ r. ⌜ Bounds r (now (part .entry)) i 64 ⌝ }
+{
+    or_16(part, i) | or_16(part, i + 16) | or_16(part, i + 32) | or_16(part, i + 48)
+}
+
+// How many bytes a turn passes at an ASCII byte: that byte and the 64 behind it where all are ASCII, as in most texts; else those before the first
+// of eight that is not ASCII. Near the end it passes one.
 fn ascii_step(part: &[u8], i: usize) -> usize
     requires { ⌜ (i < length (now part)) × (getD (now part) i 0 < 0x80) ⌝ }
     ensures { λ r. ⌜ AsciiAt (now (part .entry)) i r ⌝ }
 {
-    if part.len() - i < 33 {
+    if part.len() - i < 65 {
         return 1;
     }
-    let behind = or_16(part, i + 1) | or_16(part, i + 17);
-    if behind < 0x80 {
-        return 33;
+    if or_64(part, i + 1) < 0x80 {
+        return 65;
     }
-    1
+    let m = non_ascii(eight_at(part, i));
+    if m == 0 {
+        return 8;
+    }
+    (u64::trailing_zeros(m) / 8) as usize
 }
 
 // Where a part is not well-formed UTF-8, if anywhere; base is the offset of its first byte. A turn passes ASCII bytes, or a longer sequence.

@@ -4,10 +4,10 @@ ghost use Prim.Native.Nat.{_+_, _^_, _≤_, _<_};
 ghost use mathlib.Core.List.{[]};
 ghost use lib.ListN.{length, take, getD};
 ghost use Rattle.lexing.specs.integers.{u64-max};
-ghost use Rattle.lexing.specs.words.{isLower, keyword};
+ghost use Rattle.lexing.specs.words.{isLower};
 ghost use Rattle.lexing.specs.word_sets.{set-of};
-ghost use Rattle.lexing.specs.answers.{wordReply, WordSetTo};
-ghost use Rattle.lexing.specs.inner.word_sets.{set-gap, startReply, with-flag, initial, LowerAt};
+ghost use Rattle.lexing.specs.answers.{WordSetTo};
+ghost use Rattle.lexing.specs.inner.word_sets.{KeywordEnd, set-gap, startReply, with-flag, initial, LowerAt};
 use crate::answers::Step;
 use crate::blanks::whitespace0;
 use crate::bytes::lower_of;
@@ -51,65 +51,77 @@ fn keyword_count(set: u8) -> usize
     0
 }
 
+// The offset behind a keyword, or base where it does not stand there. It is no Step, since one that several calls can return goes through memory.
+fn keyword_end(part: &[u8], base: usize, key: &[u8]) -> usize
+    requires { ⌜ base + length (now part) ≤ u64-max ⌝ }
+    ensures { λ r. ⌜ KeywordEnd (now (key .entry)) base (now (part .entry)) r ⌝ }
+{
+    let word = keyword(part, base, key);
+    let Step::Next(end) = word else {
+        return base;
+    };
+    end
+}
+
 // The k-th keyword of a struct's field.
-fn field_keyword(part: &[u8], base: usize, k: usize) -> Step
+fn field_keyword(part: &[u8], base: usize, k: usize) -> usize
     requires { ⌜ base + length (now part) ≤ u64-max ⌝ }
     requires { ⌜ k < 3 ⌝ }
-    ensures { λ r. ⌜ wordReply r base (now (part .entry)) ≡ keyword (getD (set-of 0) k []) base (now (part .entry)) ⌝ }
+    ensures { λ r. ⌜ KeywordEnd (getD (set-of 0) k []) base (now (part .entry)) r ⌝ }
 {
     if k == 0 {
-        return keyword(part, base, b"optional");
+        return keyword_end(part, base, b"optional");
     }
     if k == 1 {
-        return keyword(part, base, b"nullable");
+        return keyword_end(part, base, b"nullable");
     }
-    keyword(part, base, b"fabric_sensitive")
+    keyword_end(part, base, b"fabric_sensitive")
 }
 
 // The k-th keyword of a command.
-fn command_keyword(part: &[u8], base: usize, k: usize) -> Step
+fn command_keyword(part: &[u8], base: usize, k: usize) -> usize
     requires { ⌜ base + length (now part) ≤ u64-max ⌝ }
     requires { ⌜ k < 2 ⌝ }
-    ensures { λ r. ⌜ wordReply r base (now (part .entry)) ≡ keyword (getD (set-of 3) k []) base (now (part .entry)) ⌝ }
+    ensures { λ r. ⌜ KeywordEnd (getD (set-of 3) k []) base (now (part .entry)) r ⌝ }
 {
     if k == 0 {
-        return keyword(part, base, b"timed");
+        return keyword_end(part, base, b"timed");
     }
-    keyword(part, base, b"fabric")
+    keyword_end(part, base, b"fabric")
 }
 
 // The k-th keyword of an attribute.
-fn attribute_keyword(part: &[u8], base: usize, k: usize) -> Step
+fn attribute_keyword(part: &[u8], base: usize, k: usize) -> usize
     requires { ⌜ base + length (now part) ≤ u64-max ⌝ }
     requires { ⌜ k < 4 ⌝ }
-    ensures { λ r. ⌜ wordReply r base (now (part .entry)) ≡ keyword (getD (set-of 4) k []) base (now (part .entry)) ⌝ }
+    ensures { λ r. ⌜ KeywordEnd (getD (set-of 4) k []) base (now (part .entry)) r ⌝ }
 {
     if k == 0 {
-        return keyword(part, base, b"readonly");
+        return keyword_end(part, base, b"readonly");
     }
     if k == 1 {
-        return keyword(part, base, b"writeonly");
+        return keyword_end(part, base, b"writeonly");
     }
     if k == 2 {
-        return keyword(part, base, b"nosubscribe");
+        return keyword_end(part, base, b"nosubscribe");
     }
-    keyword(part, base, b"timedwrite")
+    keyword_end(part, base, b"timedwrite")
 }
 
 // The k-th keyword of a set.
-fn set_keyword(part: &[u8], base: usize, set: u8, k: usize) -> Step
+fn set_keyword(part: &[u8], base: usize, set: u8, k: usize) -> usize
     requires { ⌜ base + length (now part) ≤ u64-max ⌝ }
     requires { ⌜ k < length (set-of set) ⌝ }
-    ensures { λ r. ⌜ wordReply r base (now (part .entry)) ≡ keyword (getD (set-of set) k []) base (now (part .entry)) ⌝ }
+    ensures { λ r. ⌜ KeywordEnd (getD (set-of set) k []) base (now (part .entry)) r ⌝ }
 {
     if set == 0 {
         return field_keyword(part, base, k);
     }
     if set == 1 {
-        return keyword(part, base, b"fabric_scoped");
+        return keyword_end(part, base, b"fabric_scoped");
     }
     if set == 2 {
-        return keyword(part, base, b"fabric_sensitive");
+        return keyword_end(part, base, b"fabric_sensitive");
     }
     if set == 3 {
         return command_keyword(part, base, k);
@@ -257,8 +269,8 @@ fn words_of_set(part: &[u8], base: usize, set: u8) -> WordSet
         }
         let mut k = 0;
         while k < count {
-            let w = set_keyword(rest, start, set, k);
-            if let Step::Next(end) = w {
+            let end = set_keyword(rest, start, set, k);
+            if start < end {
                 flags = with_flag(flags, count - 1 - k, is_lower(rest, end - start));
                 next = end;
                 first = false;

@@ -6,7 +6,7 @@ ghost use Rattle.lexing.specs.bytes.{isWord, takeWhile};
 ghost use Rattle.lexing.specs.integers.{u64-max};
 ghost use Rattle.lexing.specs.words.{parse-id, keyword, tag};
 ghost use Rattle.lexing.specs.answers.{wordReply, tagReply};
-ghost use Rattle.lexing.specs.inner.words.{isKeyByte, HasKey, word-of};
+ghost use Rattle.lexing.specs.inner.words.{isKeyByte, HasKey};
 use crate::answers::Lost;
 use crate::answers::Step;
 use crate::bytes::is_between;
@@ -53,25 +53,11 @@ fn word_length(part: &[u8]) -> usize
     word_tail(part, letters(part))
 }
 
-pub fn parse_id(part: &[u8], base: usize) -> Step
+// The word at the front, of n bytes.
+fn word_by_size(part: &[u8], base: usize, n: usize) -> Step
     requires { ⌜ base + length (now part) ≤ u64-max ⌝ }
+    requires { ⌜ n ≡ length (takeWhile isWord (now part)) ⌝ }
     ensures { λ r. ⌜ wordReply r base (now (part .entry)) ≡ parse-id base (now (part .entry)) ⌝ }
-{
-    let size = word_length(part);
-    if size == 0 {
-        return Step::Not(Lost::Fail(base));
-    }
-    if is_digit(part[0]) {
-        return Step::Not(Lost::Fail(base));
-    }
-    Step::Next(base + size)
-}
-
-// Where the first n bytes are those of a word: the offset behind them, if the word ends there.
-fn whole_word(part: &[u8], base: usize, n: usize) -> Step
-    requires { ⌜ base + length (now part) ≤ u64-max ⌝ }
-    requires { ⌜ n ≤ length (takeWhile isWord (now part)) ⌝ }
-    ensures { λ r. ⌜ wordReply r base (now (part .entry)) ≡ word-of n base (now (part .entry)) ⌝ }
 {
     if n == 0 {
         return Step::Not(Lost::Fail(base));
@@ -79,10 +65,14 @@ fn whole_word(part: &[u8], base: usize, n: usize) -> Step
     if is_digit(part[0]) {
         return Step::Not(Lost::Fail(base));
     }
-    if is_word(peek(part, n)) {
-        return Step::Not(Lost::Fail(base));
-    }
     Step::Next(base + n)
+}
+
+pub fn parse_id(part: &[u8], base: usize) -> Step
+    requires { ⌜ base + length (now part) ≤ u64-max ⌝ }
+    ensures { λ r. ⌜ wordReply r base (now (part .entry)) ≡ parse-id base (now (part .entry)) ⌝ }
+{
+    word_by_size(part, base, word_length(part))
 }
 
 // Whether a byte is one of a word and, in lower case, the keyword's byte k. Where k is a constant, all but the comparisons of x are known.
@@ -129,7 +119,11 @@ pub fn keyword(part: &[u8], base: usize, key: &[u8]) -> Step
     if !has_key(part, key) {
         return Step::Not(Lost::Fail(base));
     }
-    whole_word(part, base, key.len())
+    let n = key.len();
+    if is_word(peek(part, n)) {
+        return Step::Not(Lost::Fail(base));
+    }
+    word_by_size(part, base, n)
 }
 
 // One given byte.

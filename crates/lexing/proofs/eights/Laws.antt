@@ -7,13 +7,13 @@ use native.Mathlib.Omega.{arith}
 use native.Mathlib.Nat.{mod-one, pow-suc}
 use lib.Arith.{mod-mul}
 use lib.Bits.{bitAnd, bitOr, bitXor, and-le-l, and-le-r, xor-add-and, xor-self, and-lt, or-lt, xor-lt, and-block, or-block, xor-block}
-use lib.Count.{trailingZeros, under, trailing-le}
+use lib.Count.{trailingZeros, under, trailing-le, trailing-of-zero}
 use lib.Dec.{eqb}
 use lib.ListN.{length, getD}
 use lib.Pow.{pow-pos, pow-add}
 use borrow.Author.Tests.{eq-eqb, ne-eqb, eqb-true, eqb-false}
 use Rattle.lexing.specs.bytes.{within, lower}
-use Rattle.lexing.specs.inner.eights.{pack, byteAt, bytesFrom, failed, failing, isAlpha, isByte, isCapital}
+use Rattle.lexing.specs.inner.eights.{pack, byteAt, bytesFrom, failed, failing, isAlpha, isAscii, isByte, isCapital}
 use Rattle.lexing.specs.answers.{LacksIf}
 use Rattle.lexing.proofs.Tests.{eq-of, and-left, and-right}
 
@@ -135,14 +135,31 @@ fails-by : (t : ℕ → Bool) (g : ℕ → ℕ) → every 256 (λ x. eqb (g x) (
 unfolding failing
 fails-by t g e w p = p .is ∙ pack-same 8 _ _ (λ j. eq-of _ _ (every-at 256 (λ x. eqb (g x) (failed (t x))) e (byteAt w j) (byte-lt w j)))
 
--- letters: the bits of a byte, and of eight, as the code computes them
+-- ASCII
+ascii-all : every 256 (λ x. eqb (bitAnd x 0x80) (failed (isAscii x))) ≡ true
+unfolding every failed
+ascii-all = refl
+
+pub ascii-fails : (w : ℕ) → w < 2 ^ 64 → bitAnd w 0x8080808080808080 ≡ failing isAscii w
+unfolding pack
+ascii-fails w h = fails-by isAscii (λ x. bitAnd x 0x80) ascii-all w (each-and (own-bytes w h) (alike 0x80 (omega arith)))
+
+-- bytes outside a range, each folded by g first: the bits of a byte, and of eight, as the code computes them
+abbrev outsideBits : (ℕ → ℕ) → ℕ → ℕ → ℕ → ℕ
+outsideBits g m l x = bitAnd (bitOr (bitOr (m - g x) (g x + l)) x) 0x80
+
+outside : (t : ℕ → Bool) (g : ℕ → ℕ) (m l : ℕ) → every 256 (λ x. eqb (outsideBits g m l x) (failed (t x))) ≡ true → ((x : ℕ) → g x ≤ 0x7f) → ((0x7f ≤ m) × (m < 256)) × (l ≤ 0x80)
+    → (w : ℕ) → w < 2 ^ 64 → {v : ℕ} → Eight v (λ j. g (byteAt w j)) → bitAnd (bitOr (bitOr (pack 8 (λ j. m) - v) (v + pack 8 (λ j. l))) w) (pack 8 (λ j. 0x80)) ≡ failing t w
+outside t g m l e le b w h p =
+    let below = each-sub (alike m (b .0 .1)) p (λ j. omega (arith, le (byteAt w j))) in
+    let above = each-add p (alike l (omega arith)) (λ j. omega (arith, le (byteAt w j))) in
+    fails-by t (outsideBits g m l) e w (each-and (each-or (each-or below above) (own-bytes w h)) (alike 0x80 (omega arith)))
+
+-- letters
 abbrev folded : ℕ → ℕ
 folded x = bitOr (bitAnd x 0x7f) 0x20
 
-abbrev alphaBits : ℕ → ℕ
-alphaBits x = bitAnd (bitOr (bitOr (0xe0 - folded x) (folded x + 0x05)) x) 0x80
-
-alpha-all : every 256 (λ x. eqb (alphaBits x) (failed (isAlpha x))) ≡ true
+alpha-all : every 256 (λ x. eqb (outsideBits folded 0xe0 0x05 x) (failed (isAlpha x))) ≡ true
 unfolding every failed isAlpha within lower
 alpha-all = refl
 
@@ -163,11 +180,16 @@ module _ (w : ℕ) (h : w < 2 ^ 64) where
 
   pub alpha-fails : bitAnd (bitOr (bitOr (0xe0e0e0e0e0e0e0e0 - foldedEight w) (foldedEight w + 0x0505050505050505)) w) 0x8080808080808080 ≡ failing isAlpha w
   unfolding pack
-  alpha-fails =
-      let l : (j : ℕ) → folded (byteAt w j) ≤ 0x7f = λ j. folded-le (byteAt w j) in
-      let below = each-sub (alike 0xe0 (omega arith)) folds (λ j. omega (arith, l j)) in
-      let above = each-add folds (alike 0x05 (omega arith)) (λ j. omega (arith, l j)) in
-      fails-by isAlpha alphaBits alpha-all w (each-and (each-or (each-or below above) (own-bytes w h)) (alike 0x80 (omega arith)))
+  alpha-fails = outside isAlpha folded 0xe0 0x05 alpha-all folded-le (omega arith) w h folds
+
+-- capital letters
+capital-all : every 256 (λ x. eqb (outsideBits (λ y. bitAnd y 0x7f) 0xc0 0x25 x) (failed (isCapital x))) ≡ true
+unfolding every failed within
+capital-all = refl
+
+pub capital-fails : (w : ℕ) → w < 2 ^ 64 → bitAnd (bitOr (bitOr (0xc0c0c0c0c0c0c0c0 - bitAnd w 0x7f7f7f7f7f7f7f7f) (bitAnd w 0x7f7f7f7f7f7f7f7f + 0x2525252525252525)) w) 0x8080808080808080 ≡ failing isCapital w
+unfolding pack
+capital-fails w h = outside isCapital _ 0xc0 0x25 capital-all (λ x. and-le-r x 0x7f) (omega arith) w h (each-and (own-bytes w h) (alike 0x7f (omega arith)))
 
 -- bytes that are not x: the bits of their difference
 abbrev zeroBits : ℕ → ℕ
@@ -199,24 +221,10 @@ other-fails w x h k =
     let bits = each-and (each-or some other) (alike 0x80 (omega arith)) in
     bits .is ∙ pack-same 8 _ _ (λ j. eq-of _ _ (every-at 256 (λ z. eqb (zeroBits z) (failed (eqb z 0))) zero-all (bitXor (byteAt w j) x) (other .byte j)) ∙ ap failed (xor-none (byteAt w j) x))
 
--- capital letters
-abbrev capitalBits : ℕ → ℕ
-capitalBits x = bitAnd (bitOr (bitOr (0xc0 - bitAnd x 0x7f) (bitAnd x 0x7f + 0x25)) x) 0x80
+-- trailing zeros: as many as the powers of two that divide the number
+mod-half : (t m : ℕ) → m % 2 ^ suc t ≡ m / 2 % 2 ^ t * 2 + m % 2
+mod-half t m = ap (λ (x : ℕ). m % x) (pow-suc 2 t) ∙ mod-mul m (pow-pos t) (omega arith)
 
-capital-all : every 256 (λ x. eqb (capitalBits x) (failed (isCapital x))) ≡ true
-unfolding every failed within
-capital-all = refl
-
-pub capital-fails : (w : ℕ) → w < 2 ^ 64 → bitAnd (bitOr (bitOr (0xc0c0c0c0c0c0c0c0 - bitAnd w 0x7f7f7f7f7f7f7f7f) (bitAnd w 0x7f7f7f7f7f7f7f7f + 0x2525252525252525)) w) 0x8080808080808080 ≡ failing isCapital w
-unfolding pack
-capital-fails w h =
-    let l : (j : ℕ) → bitAnd (byteAt w j) 0x7f ≤ 0x7f = λ j. and-le-r (byteAt w j) 0x7f in
-    let low = each-and (own-bytes w h) (alike 0x7f (omega arith)) in
-    let below = each-sub (alike 0xc0 (omega arith)) low (λ j. omega (arith, l j)) in
-    let above = each-add low (alike 0x25 (omega arith)) (λ j. omega (arith, l j)) in
-    fails-by isCapital capitalBits capital-all w (each-and (each-or (each-or below above) (own-bytes w h)) (alike 0x80 (omega arith)))
-
--- trailing zeros
 trailing-mod : (t k m : ℕ) → t ≤ trailingZeros k m → m % 2 ^ t ≡ 0
 unfolding trailingZeros
 trailing-mod zero k m h = mod-one m
@@ -224,8 +232,21 @@ trailing-mod (suc t) zero m h = absurd (omega arith)
 trailing-mod (suc t) (suc k) m h = go (m % 2) refl h (trailing-mod t k (m / 2))
   where
     go : (d : ℕ) → m % 2 ≡ d → suc t ≤ under d (trailingZeros k (m / 2)) → (t ≤ trailingZeros k (m / 2) → m / 2 % 2 ^ t ≡ 0) → m % 2 ^ suc t ≡ 0
-    go zero e l ih = ap (λ (x : ℕ). m % x) (pow-suc 2 t) ∙ (mod-mul m (pow-pos t) (omega arith) ∙ omega (arith, ih (omega arith)))
+    go zero e l ih = omega (arith, mod-half t m, ih (omega arith))
     go (suc d) e l ih = absurd (omega arith)
+
+trailing-at : (t k m : ℕ) → t ≤ k → m % 2 ^ t ≡ 0 → t ≤ trailingZeros k m
+unfolding trailingZeros
+trailing-at zero k m h e = zero-le
+trailing-at (suc t) zero m h e = absurd (omega arith)
+trailing-at (suc t) (suc k) m h e = go (m % 2) refl (trailing-at t k (m / 2) (omega arith))
+  where
+    go : (d : ℕ) → m % 2 ≡ d → (m / 2 % 2 ^ t ≡ 0 → t ≤ trailingZeros k (m / 2)) → suc t ≤ under d (trailingZeros k (m / 2))
+    go zero q ih = let l = ih (omega (arith, mod-half t m)) in omega arith
+    go (suc d) q ih = absurd (omega (arith, mod-half t m))
+
+pub no-bits : {m : ℕ} → m ≡ 0 → trailingZeros 64 m / 8 ≡ 8
+no-bits z = omega (arith, ap (trailingZeros 64) z ∙ trailing-of-zero 64)
 
 -- a byte below which no bit is set, and which has none
 zero-byte : (n : ℕ) (f : ℕ → ℕ) → Bytes f → (j : ℕ) → j < n → pack n f % 2 ^ (j * 8 + 8) ≡ 0 → f j ≡ 0
@@ -260,22 +281,27 @@ failed-so true e = absurd (omega arith)
 failed-so false e = refl
 
 -- and of the bytes of a part
-module _ (t : ℕ → Bool) (u : List ℕ) (i w m : ℕ) (b : Bytes (λ j. getD u j 0)) (e : w ≡ pack 8 (bytesFrom u i)) (d : m ≡ failing t w) (j : ℕ) where
-  same-byte : j < 8 → t (byteAt w j) ≡ t (getD u (i + j) 0)
-  same-byte h = ap (λ (v : ℕ). t (byteAt v j)) e ∙ ap t (byte-pack 8 (bytesFrom u i) (λ k. b (i + k)) j h)
+module _ (t : ℕ → Bool) (u : List ℕ) (i w m : ℕ) (b : Bytes (λ j. getD u j 0)) (e : w ≡ pack 8 (bytesFrom u i)) (d : m ≡ failing t w) where
+  same-byte : (j : ℕ) → j < 8 → t (byteAt w j) ≡ t (getD u (i + j) 0)
+  same-byte j h = ap (λ (v : ℕ). t (byteAt v j)) e ∙ ap t (byte-pack 8 (bytesFrom u i) (λ k. b (i + k)) j h)
 
   -- those before the first that fails
-  pub passing : j < trailingZeros 64 m / 8 → t (getD u (i + j) 0) ≡ true
+  pub passing : (j : ℕ) → j < trailingZeros 64 m / 8 → t (getD u (i + j) 0) ≡ true
   unfolding failing
-  passing h = sym (same-byte (omega (arith, trailing-le 64 m))) ∙ failed-not _ (zero-bytes (λ k. failed (t (byteAt w k))) (λ k. failed-lt (t (byteAt w k))) j (rw d at h))
+  passing j h = sym (same-byte j (omega (arith, trailing-le 64 m))) ∙ failed-not _ (zero-bytes (λ k. failed (t (byteAt w k))) (λ k. failed-lt (t (byteAt w k))) j (rw d at h))
+
+  -- there is one where the first passes
+  pub some-passing : t (getD u (i + 0) 0) ≡ true → 0 < trailingZeros 64 m / 8
+  unfolding failing pack failed
+  some-passing p = omega (arith, trailing-at 8 64 m (omega arith) (omega (arith, d, ap failed (same-byte 0 (omega arith) ∙ p))))
 
   -- all fail
-  pub all-failing : m ≡ 0x8080808080808080 → j < 8 → t (getD u (i + j) 0) ≡ false
+  pub all-failing : (j : ℕ) → m ≡ 0x8080808080808080 → j < 8 → t (getD u (i + j) 0) ≡ false
   unfolding failing pack
-  all-failing z h =
+  all-failing j z h =
       let k = byte-pack 8 (λ k. failed (t (byteAt w k))) (λ k. failed-lt (t (byteAt w k))) j h in
       let c = byte-pack 8 (λ k. 0x80) (λ k. omega arith) j h in
-      sym (same-byte h) ∙ failed-so _ (sym k ∙ (ap (λ (v : ℕ). byteAt v j) (sym d ∙ z) ∙ c))
+      sym (same-byte j h) ∙ failed-so _ (sym k ∙ (ap (λ (v : ℕ). byteAt v j) (sym d ∙ z) ∙ c))
 
 -- so that a reader can say of eight bytes that none is x
 pub lacks-eight : (x : ℕ) (u : List ℕ) (i w m : ℕ) → Bytes (λ j. getD u j 0) → w ≡ pack 8 (bytesFrom u i) → m ≡ failing (isByte x) w → 8 ≤ length u - i → LacksIf (eqb m 0x8080808080808080) x u i

@@ -14,7 +14,7 @@ use Rattle.lexing.specs.declared.integers.Number.{Number}
 use Rattle.lexing.specs.declared.integers.Number.the-variants.{Value, NoNumber}
 use Rattle.lexing.proofs.Onward.{Onward, advances-onward, parse-id-advances, tag-advances, integer-advances}
 use Rattle.lexing.proofs.TokenLocality.{keyword-chain, whitespace0-chain, whitespace1-chain}
-use Rattle.lexing.proofs.Slicing.{Took, took, on, walks, rebase, integer-lost}
+use Rattle.lexing.proofs.Slicing.{Took, took, on, walks, rebase, told-value, integer-lost}
 use Rattle.lexing.specs.names.{NamedIn, NamedTo, NamedAt, namedLost, blank-word, gap-word, keyword-name, name-behind, named-after, keyword-number, type-behind, equals-code}
 use Rattle.lexing.specs.declared.names.Named.{Named}
 use Rattle.lexing.specs.declared.names.Named.the-variants.{Name, NoName}
@@ -77,7 +77,7 @@ module _ {m : Parser Word} {n : ℕ} {r : List ℕ} {a : Named} {x e c : ℕ} (h
 
 -- a number that another reader than that of integers gives
 pub number-took : {m : Parser ℕ} (w : Onward m) {b n : ℕ} {u r : List ℕ} {a : Number} {v c : ℕ} → Rest b u n r → a ≡ Value v c → numberReply a n r ≡ m n r → Took m b u n v c
-number-took {m} w {b} {n} {u} {r} q e h = took w q (subst (λ (x : Number). numberReply x n r ≡ m n r) e h)
+number-took w {n = n} {r = r} q e h = took w q (told-value n r _ e h)
 
 -- a number from an offset of a part: behind a step that was read, taken and lost
 module _ {b n : ℕ} {u : List ℕ} {m : Parser ℕ} where
@@ -89,7 +89,7 @@ module _ {b n : ℕ} {u : List ℕ} {m : Parser ℕ} where
 
   module _ {a : Number} (h : NumberAt m a b u n) where
     pub number-at-took : Onward m → {v c : ℕ} → a ≡ Value v c → Took m b u n v c
-    number-at-took w e = took w (h .at) (subst (λ (x : Number). numberReply x n (drop (n - b) u) ≡ m n (drop (n - b) u)) e (h .reads))
+    number-at-took w e = took w (h .at) (told-value n _ _ e (h .reads))
 
     pub number-at-lost : {l l' : Lost} → l' ≡ numberLost a → a ≡ NoNumber l → lostReply l' ≡ m n (drop (n - b) u)
     number-at-lost e d = integer-lost e d n (drop (n - b) u) (m n (drop (n - b) u)) (h .reads)

@@ -22,7 +22,7 @@ use Rattle.lexing.specs.declared.blanks.DocSpan.the-variants.{Absent}
 use Rattle.lexing.specs.declared.integers.Number.{Number}
 use Rattle.lexing.specs.declared.integers.Number.the-variants.{Value, NoNumber}
 use Rattle.lexing.proofs.Onward.{Onward, advances-onward, tag-advances, integer-advances}
-use Rattle.lexing.proofs.Slicing.{Took, took, walks, rebase, rest-from, rest-self, integer-lost}
+use Rattle.lexing.proofs.Slicing.{Took, took, walks, rebase, rest-from, rest-self, told-value, integer-lost}
 use Rattle.lexing.proofs.FirstWord.{blank-clear}
 use Rattle.lexing.proofs.TokenLocality.{keyword-chain, whitespace0-chain, whitespace1-chain}
 use Rattle.lexing.proofs.Dropping.{behind, skip-behind, tag-skips, keyword-skips}
@@ -125,7 +125,7 @@ module _ {b n : ℕ} {u : List ℕ} where
 
   module _ {a : Number} (h : NumberAt (whitespace0 >> positive-integer) a b u n) where
     pub integer-behind-took : {v c : ℕ} → a ≡ Value v c → Took (whitespace0 >> positive-integer) b u n v c
-    integer-behind-took e = took (onward-then blank-on (advances-onward integer-advances)) (h .at) (subst (λ (x : Number). numberReply x n (drop (n - b) u) ≡ (whitespace0 >> positive-integer) n (drop (n - b) u)) e (h .reads))
+    integer-behind-took e = took (onward-then blank-on (advances-onward integer-advances)) (h .at) (told-value n _ _ e (h .reads))
 
     pub integer-behind-lost : {l l' : Lost} → l' ≡ numberLost a → a ≡ NoNumber l → lostReply l' ≡ (whitespace0 >> positive-integer) n (drop (n - b) u)
     integer-behind-lost e d = integer-lost e d n (drop (n - b) u) ((whitespace0 >> positive-integer) n (drop (n - b) u)) (h .reads)

@@ -4,18 +4,21 @@ use mathlib.Core.Bool.{Bool, true, false, _&&_, false≢true}
 use mathlib.Core.Option.{Option, none, some}
 use mathlib.Core.List.{List, [], _∷_, _++_}
 use mathlib.Core.Logic.{_⊎_, inl, inr, ⊎-elim}
-use Prim.Native.Nat.{ℕ, zero, suc, _+_, _-_, _≤_, _<_}
+use Prim.Native.Nat.{ℕ, zero, suc, _+_, _-_, _/_, _≤_, _<_}
 use native.Mathlib.Omega.{arith}
 use native.Mathlib.Numerals.{add-one}
+use lib.Count.{trailingZeros, trailing-le}
 use lib.Bits.{bitOr, and-le-l, and-le-r, or-add-and}
 use lib.ListN.{length, take, drop, getD, replicate, length-drop, length-replicate, drop-of-length-le}
 use lib.Seq.{drop-cons, drop-drop, take-all}
 use borrow.Author.Count.{below-none, below-more}
 use lib.Dec.{ltb}
-use borrow.Author.Tests.{le-leb, lt-leb, ltb-true, ltb-false}
+use borrow.Author.Tests.{le-leb, lt-leb, lt-ltb, ltb-true, ltb-false}
 use Rattle.lexing.specs.bytes.{within}
 use Rattle.lexing.specs.utf8.{Range, _to_, has, Row, row, table, following, State, between, inside, ill, awaiting, begun, step, run, fault, utf8-error}
 use Rattle.lexing.specs.inner.utf8.{fits, size-of, sequence-size, later, Bounds, AsciiAt}
+use Rattle.lexing.specs.inner.eights.{pack, bytesFrom, failing, isAscii}
+use Rattle.lexing.proofs.eights.Laws.{Bytes, no-bits, passing, some-passing}
 
 -- texts one after the other
 run-append : (b : ℕ) (t : State) (u s : List ℕ) → run b t (u ++ s) ≡ run (b + length u) (run b t u) s
@@ -288,15 +291,19 @@ pub or-one : (u : List ℕ) (i : ℕ) → Bounds (getD u i 0) u i 1
 or-one u i = record { each = below-more _ 0 (below-none _) (let z : i + 0 ≡ i = omega arith in rw z (omega arith)) }
 
 -- two runs of bytes, the second behind the first
-pub or-join : (n m : ℕ) {r s : ℕ} {u : List ℕ} {i k : ℕ} → k ≡ i + n → Bounds r u i n → Bounds s u k m → Bounds (bitOr r s) u i (n + m)
-or-join n m {r} {s} {u} {i} {k} e p q = record { each = λ j h. go j h (ltb j n) refl }
+or-join : (n m : ℕ) {r s : ℕ} {u : List ℕ} {i : ℕ} → Bounds r u i n → Bounds s u (i + n) m → Bounds (bitOr r s) u i (n + m)
+or-join n m {r} {s} {u} {i} p q = record { each = λ j h. go j h (ltb j n) refl }
   where
     go : (j : ℕ) → j < n + m → (t : Bool) → ltb j n ≡ t → getD u (i + j) 0 ≤ bitOr r s
     go j h true l = omega (arith, p .each j (ltb-true j n l), or-left r s)
     go j h false l =
         let d = ltb-false j n l in
-        let z : k + (j - n) ≡ i + j = omega arith in
+        let z : i + n + (j - n) ≡ i + j = omega arith in
         omega (arith, rw z at (q .each (j - n) (omega arith)), or-right r s)
+
+-- four runs of n bytes
+pub or-four : (n : ℕ) {r s t v : ℕ} {u : List ℕ} {i : ℕ} → Bounds r u i n → Bounds s u (i + n) n → Bounds t u (i + (n + n)) n → Bounds v u (i + (n + n + n)) n → Bounds (bitOr (bitOr (bitOr r s) t) v) u i (n + n + n + n)
+or-four n p q a b = or-join (n + n + n) n (or-join (n + n) n (or-join n n p q) a) b
 
 -- an ASCII byte with n others behind it
 pub ascii-run : (n : ℕ) {u : List ℕ} {i r : ℕ} → getD u i 0 < 0x80 → i + (n + 1) ≤ length u → Bounds r u (i + 1) n → r < 0x80 → AsciiAt u i (n + 1)
@@ -305,6 +312,18 @@ ascii-run n {u} {i} {r} k l p h = record { onward = omega arith; inside = l; asc
     each : (j : ℕ) → j < n + 1 → getD u (i + j) 0 < 0x80
     each zero q = let z : i + 0 ≡ i = omega arith in rw z k
     each (suc j) q = let z : i + 1 + j ≡ i + suc j = omega arith in omega (arith, rw z at (p .each j (omega arith)))
+
+-- of eight bytes those before the first that is not ASCII
+module _ {u : List ℕ} {i w m : ℕ} (k : getD u i 0 < 0x80) (l : i + 8 ≤ length u) (b : Bytes (λ j. getD u j 0)) (e : w ≡ pack 8 (bytesFrom u i)) (d : m ≡ failing isAscii w) where
+  pub ascii-some : AsciiAt u i (trailingZeros 64 m / 8)
+  ascii-some = record {
+    onward = some-passing isAscii u i w m b e d (let z : i + 0 ≡ i = omega arith in rw z (lt-ltb _ _ k));
+    inside = omega (arith, trailing-le 64 m);
+    ascii = λ j h. ltb-true _ _ (passing isAscii u i w m b e d j h);
+  }
+
+  pub ascii-eight : m ≡ 0 → AsciiAt u i 8
+  ascii-eight z = rw (no-bits z) at ascii-some
 
 -- the bytes after the second: those below i are in their ranges
 module _ (u : List ℕ) (n lo hi : ℕ) where

@@ -7,7 +7,7 @@ use native.Mathlib.Omega.{arith}
 use native.Mathlib.Numerals.{add-one}
 use native.Mathlib.Nat.{mul-assoc, mul-comm, pow-suc, one-le-pow, pow-le-pow-right, mul-add-div-right, div-eq-of-lt, mul-add-mod-self-right, max-eq-left}
 use lib.Dec.{eqb, leb, ltb}
-use lib.ListN.{length, drop, take, getD, drop-of-length-le, List·getD-eq-default}
+use lib.ListN.{length, drop, take, getD, length-drop, drop-of-length-le, List·getD-eq-default}
 use lib.Seq.{drop-cons, getD-take, length-take-le}
 use borrow.Author.Tests.{eq-eqb, ne-eqb, eqb-true, eqb-false, leb-true, ltb-true, ltb-false, not-true, not-false}
 use Rattle.lexing.specs.bytes.{within, lower}
@@ -16,7 +16,7 @@ use Rattle.lexing.specs.words.{Word, bytesOf, isKeyword, isLower, keywor
 use Rattle.lexing.specs.blanks.{Doc, whitespace1}
 use Rattle.lexing.specs.word_sets.{next-word, set-step, keywords-set, same-bytes, contains, bit, flags, sets, set-of, set-flags}
 use Rattle.lexing.specs.answers.{Rest, lostReply, wordAt, wordReply, docOf, BlankTo, WordSetTo}
-use Rattle.lexing.specs.inner.word_sets.{set-gap, startReply, with-flag, initial, LowerAt}
+use Rattle.lexing.specs.inner.word_sets.{KeywordEnd, there, missing, set-gap, startReply, with-flag, initial, LowerAt}
 use Rattle.lexing.specs.inner.eights.{pack, bytesFrom, failing, isCapital}
 use Rattle.lexing.specs.declared.answers.Lost.{Lost}
 use Rattle.lexing.specs.declared.word_sets.WordSet.{WordSet}
@@ -28,7 +28,7 @@ use Rattle.lexing.specs.declared.word_sets.Start.{Start}
 use Rattle.lexing.specs.declared.word_sets.Start.the-variants.{Here, Nowhere}
 use Rattle.lexing.proofs.Tests.{and-left, and-right, or-false, false-if}
 use Rattle.lexing.proofs.Locality.{OnChain, chain-ret, chain-then}
-use Rattle.lexing.proofs.TokenLocality.{whitespace1-chain, keyword-chain, any-keyword-chain, set-step-consumes}
+use Rattle.lexing.proofs.TokenLocality.{whitespace1-chain, keyword-chain, keyword-consumes, any-keyword-chain, set-step-consumes}
 use Rattle.lexing.proofs.Slicing.{Took, took, walks, reads-in, told-next, told-not, on, fall}
 use Rattle.lexing.proofs.Repetition.{IterAt, iter-start, iter-step, iter-ends}
 use Rattle.lexing.proofs.FirstWord.{free-keywords, no-initial}
@@ -230,8 +230,8 @@ module _ (t : Bool) (o p f : ℕ) (e : not t ≡ false) (h : p ≡ 2 ^ o) where
   flag-bit l = let d : o ≤ 3 = omega arith in let m : 2 ^ o ≤ 2 ^ 3 = pow-le-pow-right (omega arith) d in (rw h (pow-up o), rw h m)
 
 -- the keyword of a number
-pub keyword-at : {n m k j : ℕ} (b : ℕ) (u : List ℕ) {X : Reply Word} → n ≡ m → k ≡ j → X ≡ keyword (getD (set-of m) j []) b u → X ≡ keyword (getD (set-of n) k []) b u
-keyword-at b u d e h = rw (d, e) h
+pub keyword-at : {n m k j b : ℕ} {u : List ℕ} {r : ℕ} → n ≡ m → k ≡ j → KeywordEnd (getD (set-of m) j []) b u r → KeywordEnd (getD (set-of n) k []) b u r
+keyword-at d e h = rw (d, e) h
 
 pub count-at : {n m : ℕ} → n ≡ m → length (set-of m) ≡ length (set-of n)
 count-at e = rw e
@@ -365,15 +365,34 @@ any-calm (k ∷ ks) b u = go (keyword k b u) refl (keyword-says k b u) (any-calm
     go (fail p) e h ih = rw (or-fails k ks b u (e ∙ ap fail h), calm-further b (any-keyword ks b u) ih) ih
     go (stop n p) e h ih = absurd h
 
-lost-here : (k : List ℕ) (b : ℕ) (u : List ℕ) (l : Lost) → lostReply l ≡ keyword k b u → keyword k b u ≡ fail b
-lost-here k b u (Fail p) e = sym e ∙ ap fail (rw (← e) at (keyword-says k b u))
+lost-here : (k : List ℕ) (b : ℕ) (u : List ℕ) (l : Lost) → lostReply l ≡ keyword k b u → fail b ≡ keyword k b u
+lost-here k b u (Fail p) e = ap fail (sym (rw (← e) at (keyword-says k b u))) ∙ e
 lost-here k b u (Stop n p) e = absurd (rw (← e) at (keyword-says k b u))
+
+-- the offset behind a keyword, from the step over it
+module _ {k : List ℕ} {b : ℕ} {u : List ℕ} {a : Step} (h : wordReply a b u ≡ keyword k b u) where
+  pub end-missing : {l : Lost} → a ≡ Not l → KeywordEnd k b u b
+  end-missing {l} e = missing refl (lost-here k b u l (told-not (wordAt b u) a l b u (keyword k b u) e h))
+
+  pub end-there : {c : ℕ} → a ≡ Next c → KeywordEnd k b u c
+  end-there {c} e =
+      let f = told-next (wordAt b u) a c b u (keyword k b u) e h in
+      there (omega (arith, rw (← f) at (keyword-consumes k .consumes b u), length-drop (c - b) u)) f
+
+-- and what it tells
+module _ {k : List ℕ} {b : ℕ} {u : List ℕ} {r : ℕ} where
+  is-missing : KeywordEnd k b u r → r ≤ b → keyword k b u ≡ fail b
+  is-missing (there l f) h = absurd (omega arith)
+  is-missing (missing e f) h = sym f
+
+  is-there : KeywordEnd k b u r → b < r → ok (wordAt b u r) r (drop (r - b) u) ≡ keyword k b u
+  is-there (there l f) h = f
+  is-there (missing e f) h = absurd (omega arith)
 
 -- the keyword that is there
 pub record Found (ks : List (List ℕ)) (b : ℕ) (u : List ℕ) (k c : ℕ) : Type 0 where
   pub reads : any-keyword ks b u ≡ ok (wordAt b u c) c (drop (c - b) u)
   pub is : isKeyword (take (c - b) u) (getD ks k []) ≡ true
-  pub up : b ≤ c
   pub inside : c ≤ b + length u
 
 keys-start : (ks : List (List ℕ)) (b : ℕ) (u : List ℕ) → KeysAt ks b u 0
@@ -383,25 +402,21 @@ module _ (ks : List (List ℕ)) (b : ℕ) (u : List ℕ) (k : ℕ) (i : KeysAt k
   keys-end : length ks ≤ k → any-keyword ks b u ≡ fail b
   keys-end le = sym (i .left) ∙ rw (drop-of-length-le ks le) (no-keyword b u)
 
-  module _ (lt : k < length ks) (a : Step) (h : wordReply a b u ≡ keyword (getD ks k []) b u) where
+  module _ (lt : k < length ks) {e : ℕ} (h : KeywordEnd (getD ks k []) b u e) where
     here : any-keyword (getD ks k [] ∷ drop (suc k) ks) b u ≡ any-keyword ks b u
     here = rw (← drop-cons ks k [] lt) (i .left)
 
-    keys-more : (l : Lost) → a ≡ Not l → KeysAt ks b u (k + 1)
-    keys-more l e =
-        let f = lost-here (getD ks k []) b u l (told-not (wordAt b u) a l b u (keyword (getD ks k []) b u) e h) in
-        record { inside = omega arith; left = rw add-one (sym (or-fails (getD ks k []) (drop (suc k) ks) b u f ∙ calm-further b (any-keyword (drop (suc k) ks) b u) (any-calm (drop (suc k) ks) b u)) ∙ here) }
+    keys-more : e ≤ b → KeysAt ks b u (k + 1)
+    keys-more l = record { inside = omega arith; left = rw add-one (sym (or-fails (getD ks k []) (drop (suc k) ks) b u (is-missing h l) ∙ calm-further b (any-keyword (drop (suc k) ks) b u) (any-calm (drop (suc k) ks) b u)) ∙ here) }
 
-    keys-found : (c : ℕ) → a ≡ Next c → Found ks b u k c
+    keys-found : b < e → Found ks b u k e
     unfolding bytesOf
-    keys-found c e =
-        let f = told-next (wordAt b u) a c b u (keyword (getD ks k []) b u) e h in
-        let l = reads-in (walks (keyword-chain (getD ks k []))) b c u (wordAt b u c) f in
+    keys-found l =
+        let f = is-there h l in
         record {
-          reads = sym here ∙ or-takes (getD ks k []) (drop (suc k) ks) b u (wordAt b u c) c (drop (c - b) u) (sym f);
+          reads = sym here ∙ or-takes (getD ks k []) (drop (suc k) ks) b u (wordAt b u e) e (drop (e - b) u) (sym f);
           is = rw (← f) at (keyword-says (getD ks k []) b u);
-          up = l .0;
-          inside = l .1;
+          inside = reads-in (walks (keyword-chain (getD ks k []))) b e u (wordAt b u e) f .1;
         }
 
 -- one word more, by its start and its keyword
@@ -476,17 +491,17 @@ module _ {n b : ℕ} {u : List ℕ} {f c : ℕ} {t : Bool} {m : ℕ} {r : List �
   pub walk-end : count ≤ k → WordSetTo (record { flags = f; next = c }) n b u
   walk-end le = ended (i .set) m (on (any-keyword (set-of n)) (i .start) (sym (rw (i .rest .same) at (keys-end (set-of n) m r k (i .keys) (omega arith)))))
 
-  module _ (lt : k < count) (a : Step) (h : wordReply a m r ≡ keyword (getD (set-of n) k []) m r) where
-    pub walk-more : (l : Lost) → a ≡ Not l → WalkAt n b u f c t m r (k + 1)
-    walk-more l e = record { set = i .set; start = i .start; rest = i .rest; keys = keys-more (set-of n) m r k (i .keys) (omega arith) a h l e }
+  module _ (lt : k < count) {e : ℕ} (h : KeywordEnd (getD (set-of n) k []) m r e) where
+    pub walk-more : e ≤ m → WalkAt n b u f c t m r (k + 1)
+    walk-more g = record { set = i .set; start = i .start; rest = i .rest; keys = keys-more (set-of n) m r k (i .keys) (omega arith) h g }
 
-    pub walk-found : (e : ℕ) → a ≡ Next e → Found (set-of n) m r k e
-    walk-found e = keys-found (set-of n) m r k (i .keys) (omega arith) a h e
+    pub walk-found : m < e → Found (set-of n) m r k e
+    walk-found g = keys-found (set-of n) m r k (i .keys) (omega arith) h g
 
-    pub walk-again : (e : ℕ) → a ≡ Next e → (o f' : ℕ) (l : Bool) → o ≡ count - 1 - k → l ≡ isLower (take (e - m) r) → f' ≡ with-flag l (2 ^ o) f → SetAt n b u f' e false × (c < e)
+    pub walk-again : m < e → (o f' : ℕ) (l : Bool) → o ≡ count - 1 - k → l ≡ isLower (take (e - m) r) → f' ≡ with-flag l (2 ^ o) f → SetAt n b u f' e false × (c < e)
     unfolding none-yet bytesOf
-    walk-again e d o f' l eo el ef =
-        let g = walk-found e d in
+    walk-again d o f' l eo el ef =
+        let g = walk-found d in
         let w = wordAt m r e in
         let y = took (walks (any-keyword-chain (set-of n))) (i .rest) (sym (g .reads)) in
         let s = step-ok (set-of n) (i .set .words) t (i .set .first-is) c (drop (c - b) u) w e (drop (e - b) u) (on (any-keyword (set-of n)) (i .start) (sym (y .goes))) in

@@ -5,7 +5,7 @@ use mathlib.Core.Bool.{Bool, true, false, false≢true}
 use mathlib.Core.Logic.{_⊎_, inl, inr}
 use Prim.Native.Nat.{ℕ, zero, suc, _+_, _-_, _/_, _≤_, _<_, zero-le}
 use native.Mathlib.Omega.{arith}
-use lib.Count.{trailingZeros, trailing-le, trailing-of-zero}
+use lib.Count.{trailingZeros, trailing-le}
 use lib.Dec.{eqb, ltb}
 use lib.ListN.{length, drop, getD}
 use borrow.Author.Count.{below-none, below-more}
@@ -15,9 +15,9 @@ use Rattle.lexing.specs.reply.{Reply, ok, fail, stop, ret, _>>=_, positi
 use Rattle.lexing.specs.words.{Word, word, bytesOf, parse-id, isKeyword, keyword, tag}
 use Rattle.lexing.specs.answers.{wordAt}
 use Rattle.lexing.specs.inner.eights.{pack, bytesFrom, failing, isAlpha}
-use Rattle.lexing.specs.inner.words.{isKeyByte, Agree, KeyAt, HasKey, word-of}
+use Rattle.lexing.specs.inner.words.{isKeyByte, Agree, KeyAt, HasKey}
 use Rattle.lexing.proofs.Scans.{take-run, drop-run, run-cons, run-le, run-byte, run-stops, run-passes, RunAt, runs-on, runs-le}
-use Rattle.lexing.proofs.eights.Laws.{Bytes, passing}
+use Rattle.lexing.proofs.eights.Laws.{Bytes, no-bits, passing}
 use Rattle.lexing.proofs.Tests.{eq-of, and-left, and-right, false-if, within-of, digit-no-letter}
 
 letter-word : (x : ℕ) → isLetter x ≡ true → isWord x ≡ true
@@ -35,11 +35,8 @@ parse-id-run b [] e = absurd (false≢true (sym no-letter ∙ e))
 parse-id-run b (x ∷ u) e = rw (e, parse-id) (rw (run-cons isWord x u (letter-word x e)) (rw (letter-word x e, dropWhile)))
 
 -- the same with the run by its length, as an answer gives it
-run-answer : (b n : ℕ) (u : List ℕ) → n ≡ length (takeWhile isWord u) → ok (wordAt b u (b + n)) (b + n) (drop (b + n - b) u) ≡ ok (word b (takeWhile isWord u)) (b + length (takeWhile isWord u)) (dropWhile isWord u)
-run-answer b n u e = let z : b + n - b ≡ n = omega arith in rw (z, e) (rw (take-run isWord u, drop-run isWord u))
-
 parse-id-yes : (b : ℕ) (u : List ℕ) (n : ℕ) → isLetter (getD u 0 0) ≡ true → n ≡ length (takeWhile isWord u) → ok (wordAt b u (b + n)) (b + n) (drop (b + n - b) u) ≡ parse-id b u
-parse-id-yes b u n e h = run-answer b n u h ∙ sym (parse-id-run b u e)
+parse-id-yes b u n e h = let z : b + n - b ≡ n = omega arith in rw (z, h) (rw (take-run isWord u, drop-run isWord u) (sym (parse-id-run b u e)))
 
 parse-id-no : (b : ℕ) (u : List ℕ) → isLetter (getD u 0 0) ≡ false → fail b ≡ parse-id b u
 unfolding parse-id
@@ -246,7 +243,7 @@ module _ (u : List ℕ) (i w m : ℕ) (b : Bytes (λ j. getD u j 0)) (e : w ≡ 
   letters-some = runs-le isWord u (i + trailingZeros 64 m / 8) letters-at
 
   pub letters-all : m ≡ 0 → RunAt isWord u (i + 8)
-  letters-all z = let n : trailingZeros 64 m / 8 ≡ 8 = omega (arith, ap (trailingZeros 64) z ∙ trailing-of-zero 64) in rw n at letters-at
+  letters-all z = rw (no-bits z) at letters-at
 
 -- a run goes on behind its first n bytes where the next byte is one of it
 run-longer : (u : List ℕ) (n : ℕ) → n ≤ length (takeWhile isWord u) → isWord (getD u n 0) ≡ true → n < length (takeWhile isWord u)
@@ -314,49 +311,21 @@ module _ (k : List ℕ) (b : ℕ) (u : List ℕ) where
   unfolding isKeyByte
   key-no-byte i lt e = key-differs i lt (λ l w. false≢true (sym e ∙ rw (eq-eqb (lower (getD u i 0)) (getD k i 0) l, w)))
 
--- a word by its length
-word-none : (n b : ℕ) (u : List ℕ) → isLetter (getD u 0 0) ≡ false → fail b ≡ word-of n b u
-unfolding word-of _>>=_ position
-word-none n b u e = rw (← parse-id-no b u e, word-of, _>>=_)
+-- a longer word is not the keyword; one that ends there is
+module _ (k u : List ℕ) (h : KeyAt k u (length k)) where
+  pub key-longer : isWord (getD u (length k) 0) ≡ true → (b : ℕ) → fail b ≡ keyword k b u
+  key-longer w b = not-keyword k b u λ e. omega (arith, word-agrees _ _ e .0, run-longer u (length k) (h .word) w)
 
-module _ (n b : ℕ) (u : List ℕ) where
-  word-at : isLetter (getD u 0 0) ≡ true → word-of n b u ≡ pick (eqb (length (takeWhile isWord u)) n) (ret (word b (takeWhile isWord u))) (failAt b) (b + length (takeWhile isWord u)) (dropWhile isWord u)
-  unfolding word-of _>>=_ position bytesOf
-  word-at e = rw (parse-id-run b u e, word-of, _>>=_)
+  module _ (w : isWord (getD u (length k) 0) ≡ false) where
+    pub key-size : length k ≡ length (takeWhile isWord u)
+    key-size = omega (arith, h .word, run-shorter u (length k) w)
 
-  word-other : (isLetter (getD u 0 0) ≡ true → length (takeWhile isWord u) ≡ n → ⊥) → fail b ≡ word-of n b u
-  unfolding pick failAt
-  word-other h = go (isLetter (getD u 0 0)) refl
-    where
-      go : (t : Bool) → isLetter (getD u 0 0) ≡ t → fail b ≡ word-of n b u
-      go false e = word-none n b u e
-      go true e = sym (word-at e ∙ rw (ne-eqb _ _ (h e)))
+    pub key-whole : (b : ℕ) → parse-id b u ≡ keyword k b u
+    key-whole b = go (isLetter (getD u 0 0)) refl
+      where
+        bytes : (j : ℕ) → j < length k → lower (getD (takeWhile isWord u) j 0) ≡ getD k j 0
+        bytes j l = ap lower (run-byte isWord u j (omega (arith, h .word))) ∙ h .agree j l
 
-  pub word-empty : n ≡ 0 → fail b ≡ word-of n b u
-  word-empty z = word-other λ e q. omega (arith, run-longer u 0 zero-le (letter-word _ e))
-
-  pub word-digit : isDigit (getD u 0 0) ≡ true → fail b ≡ word-of n b u
-  word-digit d = word-none n b u (digit-no-letter _ d)
-
-  module _ (h : n ≤ length (takeWhile isWord u)) where
-    pub word-longer : isWord (getD u n 0) ≡ true → fail b ≡ word-of n b u
-    word-longer w = word-other λ e q. omega (arith, run-longer u n h w)
-
-    pub word-whole : (n ≡ 0 → ⊥) → isDigit (getD u 0 0) ≡ false → isWord (getD u n 0) ≡ false → ok (wordAt b u (b + n)) (b + n) (drop (b + n - b) u) ≡ word-of n b u
-    unfolding pick ret
-    word-whole some d w =
-        let z : n ≡ length (takeWhile isWord u) = omega (arith, run-shorter u n w) in
-        let l = word-letter _ (run-passes isWord u 0 (omega arith)) d in
-        run-answer b n u z ∙ sym (word-at l ∙ rw (eq-eqb _ _ (sym z)))
-
-pub key-whole : (k : List ℕ) (b : ℕ) (u : List ℕ) → KeyAt k u (length k) → word-of (length k) b u ≡ keyword k b u
-unfolding pick ret failAt
-key-whole k b u h = go (isLetter (getD u 0 0)) refl (eqb (length (takeWhile isWord u)) (length k)) refl
-  where
-    bytes : (j : ℕ) → j < length k → lower (getD (takeWhile isWord u) j 0) ≡ getD k j 0
-    bytes j l = ap lower (run-byte isWord u j (omega (arith, h .word))) ∙ h .agree j l
-
-    go : (t : Bool) → isLetter (getD u 0 0) ≡ t → (t' : Bool) → eqb (length (takeWhile isWord u)) (length k) ≡ t' → word-of (length k) b u ≡ keyword k b u
-    go false e t' q = sym (word-none (length k) b u e) ∙ keyword-no-word k b u e
-    go true e false q = word-at (length k) b u e ∙ (rw q (keyword-other k b u e (false-if _ (λ y. eqb-false _ _ q (word-agrees _ _ y .0)))))
-    go true e true q = word-at (length k) b u e ∙ (rw q (sym (keyword-same k b u e (agrees-word _ _ (eq-of _ _ q) bytes))))
+        go : (t : Bool) → isLetter (getD u 0 0) ≡ t → parse-id b u ≡ keyword k b u
+        go false e = sym (parse-id-no b u e) ∙ keyword-no-word k b u e
+        go true e = parse-id-run b u e ∙ sym (keyword-same k b u e (agrees-word _ _ (sym key-size) bytes))

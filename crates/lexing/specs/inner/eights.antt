@@ -2,7 +2,7 @@
 use Prim.Native.Nat.{ℕ, zero, suc, _+_, _*_, _/_, _%_}
 use mathlib.Core.Bool.{Bool, true, false}
 use mathlib.Core.List.{List}
-use lib.Dec.{eqb}
+use lib.Dec.{eqb, ltb}
 use lib.ListN.{getD}
 use Rattle.lexing.specs.bytes.{within, lower}
 
@@ -29,6 +29,9 @@ failed false = 0x80
 unfoldable pub failing : (ℕ → Bool) → ℕ → ℕ
 failing t w = pack 8 (λ j. failed (t (byteAt w j)))
 
+abbrev pub isAscii : ℕ → Bool
+isAscii x = ltb x 0x80
+
 -- a letter from a to z in either case
 unfoldable pub isAlpha : ℕ → Bool
 isAlpha x = within 0x61 0x7a (lower x)
@@ -37,5 +40,6 @@ isAlpha x = within 0x61 0x7a (lower x)
 abbrev pub isByte : ℕ → ℕ → Bool
 isByte x y = eqb y x
 
+-- a letter from A to Z
 abbrev pub isCapital : ℕ → Bool
 isCapital x = within 0x41 0x5a x

@@ -1,15 +1,21 @@
 -- What the private functions of the reader of word sets promise.
-use Prim.Native.Nat.{ℕ, _+_, _-_, _/_, _%_, _≤_}
+use Prim.Native.Nat.{ℕ, _+_, _-_, _/_, _%_, _≤_, _<_}
 use mathlib.Core.Path.{_≡_}
 use mathlib.Core.Bool.{Bool, true, false, _||_}
 use mathlib.Core.List.{List, [], _∷_}
 use lib.Dec.{eqb}
 use lib.ListN.{take, drop}
 use Rattle.lexing.specs.reply.{Reply, ok, fail, Parser, ret, _>>_}
-use Rattle.lexing.specs.words.{isLower}
+use Rattle.lexing.specs.words.{isLower, keyword}
 use Rattle.lexing.specs.blanks.{whitespace1}
+use Rattle.lexing.specs.answers.{wordAt}
 use Rattle.lexing.specs.declared.word_sets.Start.{Start}
 use Rattle.lexing.specs.declared.word_sets.Start.the-variants.{Here, Nowhere}
+
+-- the offset behind the keyword k, or b where it does not stand there
+pub data KeywordEnd (k : List ℕ) (b : ℕ) (u : List ℕ) (r : ℕ) : Type 0 where
+  there : b < r → ok (wordAt b u r) r (drop (r - b) u) ≡ keyword k b u → KeywordEnd k b u r
+  missing : r ≡ b → fail b ≡ keyword k b u → KeywordEnd k b u r
 
 -- a blank before each word but the first
 unfoldable pub set-gap : Bool → Parser (Unit {0})

@@ -6,8 +6,8 @@ use mathlib.Core.List.{List}
 use lib.Dec.{eqb}
 use lib.ListN.{length, getD}
 use Rattle.lexing.specs.bytes.{isWord, lower, takeWhile}
-use Rattle.lexing.specs.reply.{fail, Parser, ret, _>>=_, position, failAt, pick}
-use Rattle.lexing.specs.words.{Word, bytesOf, parse-id, keyword}
+use Rattle.lexing.specs.reply.{fail}
+use Rattle.lexing.specs.words.{keyword}
 
 -- a byte of a word that is, in lower case, the keyword's byte k
 unfoldable pub isKeyByte : ℕ → ℕ → Bool
@@ -28,10 +28,3 @@ pub record KeyAt (k u : List ℕ) (i : ℕ) : Type 0 where
 abbrev pub HasKey : Bool → List ℕ → List ℕ → Type 0
 HasKey true k u = KeyAt k u (length k)
 HasKey false k u = (b : ℕ) → fail b ≡ keyword k b u
-
--- a word of n bytes
-unfoldable pub word-of : ℕ → Parser Word
-word-of n = do
-  start ← position
-  w ← parse-id
-  pick (eqb (length (bytesOf w)) n) (ret w) (failAt start)

@@ -2,7 +2,8 @@ use borrow.Author.Needs.{needs}
 use Rattle.lexing.proofs.utf8.ascii_step.Statement.{statement}
 use Rattle.lexing.proofs.utf8.ascii_step.Tie as tie
 use native.Mathlib.Omega.{arith}
-use Rattle.lexing.proofs.utf8.Laws.{ascii-one, or-join, ascii-run}
+use lib.Count.{trailing-le}
+use Rattle.lexing.proofs.utf8.Laws.{ascii-one, ascii-run, ascii-some, ascii-eight}
 
 sub-if1 : tie.Need-sub-if1
 sub-if1 c = search needs
@@ -10,23 +11,29 @@ sub-if1 c = search needs
 returns : tie.Need-returns
 returns c = ascii-one _ _ (c .before .before .pre .0) (c .before .before .pre .1)
 
-add-or-16 : tie.Need-add-or-16
-add-or-16 c = search needs
+add-or-64 : tie.Need-add-or-64
+add-or-64 c = search needs
 
-or-16-requires : tie.Need-or-16-requires
-or-16-requires c κs = search needs
-
-add-or-16-2 : tie.Need-add-or-16-2
-add-or-16-2 c = search needs
-
-or-16-requires-2 : tie.Need-or-16-requires-2
-or-16-requires-2 c κs = search needs
+or-64-requires : tie.Need-or-64-requires
+or-64-requires c κs = search needs
 
 returns-2 : tie.Need-returns-2
-returns-2 c = ascii-run 32 (c .before .before .before .before .before .pre .1) (omega arith) (or-join 16 16 (omega arith) (c .before .before .or-16 .ensures) (c .before .or-162 .ensures)) (c .if2 .taken)
+returns-2 c = ascii-run 64 (c .before .before .before .before .pre .1) (omega arith) (c .before .or-64 .ensures) (c .if2 .taken)
+
+eight-at-requires : tie.Need-eight-at-requires
+eight-at-requires c κs = search needs
+
+non-ascii-requires : tie.Need-non-ascii-requires
+non-ascii-requires c κs = tt
 
 returns-3 : tie.Need-returns-3
-returns-3 c = ascii-one _ _ (c .before .before .before .before .before .pre .0) (c .before .before .before .before .before .pre .1)
+returns-3 c = ascii-eight (c .before .before .before .before .before .before .before .pre .1) (omega arith) (λ j. c .before .before .before .before .before .before .shared-slice-known .given j .fits) (c .before .before .eight-at .ensures) (c .before .non-ascii .ensures) (c .if3 .taken)
+
+cast-result : tie.Need-cast-result
+cast-result c = omega (arith, trailing-le 64 (c .before .non-ascii .result))
+
+returns-4 : tie.Need-returns-4
+returns-4 c = ascii-some (c .before .before .before .before .before .before .before .pre .1) (omega arith) (λ j. c .before .before .before .before .before .before .shared-slice-known .given j .fits) (c .before .before .eight-at .ensures) (c .before .non-ascii .ensures)
 
 pub ascii-step-spec : {M : Type 1} → statement M
 ascii-step-spec =
@@ -34,9 +41,11 @@ ascii-step-spec =
     (tie.spec
     sub-if1
     returns
-    add-or-16
-    or-16-requires
-    add-or-16-2
-    or-16-requires-2
+    add-or-64
+    or-64-requires
     returns-2
-    returns-3)
+    eight-at-requires
+    non-ascii-requires
+    returns-3
+    cast-result
+    returns-4)

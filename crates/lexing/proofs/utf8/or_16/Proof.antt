@@ -1,8 +1,7 @@
 use borrow.Author.Needs.{needs}
 use Rattle.lexing.proofs.utf8.or_16.Statement.{statement}
 use Rattle.lexing.proofs.utf8.or_16.Tie as tie
-use mathlib.Core.Path.{refl}
-use Rattle.lexing.proofs.utf8.Laws.{or-join}
+use Rattle.lexing.proofs.utf8.Laws.{or-four}
 
 or-4-requires : tie.Need-or-4-requires
 or-4-requires c κs = search needs
@@ -26,7 +25,7 @@ or-4-requires-4 : tie.Need-or-4-requires-4
 or-4-requires-4 c κs = search needs
 
 returns : tie.Need-returns
-returns c = or-join 12 4 refl (or-join 8 4 refl (or-join 4 4 refl (c .before .before .before .or-4 .ensures) (c .before .before .or-42 .ensures)) (c .before .or-43 .ensures)) (c .or-44 .ensures)
+returns c = or-four 4 (c .before .before .before .or-4 .ensures) (c .before .before .or-42 .ensures) (c .before .or-43 .ensures) (c .or-44 .ensures)
 
 pub or-16-spec : {M : Type 1} → statement M
 or-16-spec =

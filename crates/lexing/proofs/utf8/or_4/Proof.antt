@@ -1,8 +1,7 @@
 use borrow.Author.Needs.{needs}
 use Rattle.lexing.proofs.utf8.or_4.Statement.{statement}
 use Rattle.lexing.proofs.utf8.or_4.Tie as tie
-use mathlib.Core.Path.{refl}
-use Rattle.lexing.proofs.utf8.Laws.{or-one, or-join}
+use Rattle.lexing.proofs.utf8.Laws.{or-one, or-four}
 
 shared-slice-read-result : tie.Need-shared-slice-read-result
 shared-slice-read-result c = search needs
@@ -26,7 +25,7 @@ shared-slice-read-result-4 : tie.Need-shared-slice-read-result-4
 shared-slice-read-result-4 c = search needs
 
 returns : tie.Need-returns
-returns c = or-join 3 1 refl (or-join 2 1 refl (or-join 1 1 refl (or-one _ _) (or-one _ _)) (or-one _ _)) (or-one _ _)
+returns c = or-four 1 (or-one _ _) (or-one _ _) (or-one _ _) (or-one _ _)
 
 pub or-4-spec : {M : Type 1} → statement M
 or-4-spec =

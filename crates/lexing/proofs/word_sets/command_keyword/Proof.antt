@@ -6,33 +6,33 @@ use native.Mathlib.Omega.{arith}
 use Rattle.lexing.specs.word_sets.{sets, set-of}
 use Rattle.lexing.proofs.word_sets.Laws.{keyword-at}
 
-slice-aggregate-keyword : tie.Need-slice-aggregate-keyword
-slice-aggregate-keyword c = search needs
+slice-aggregate-keyword-end : tie.Need-slice-aggregate-keyword-end
+slice-aggregate-keyword-end c = search needs
 
-keyword-requires : tie.Need-keyword-requires
-keyword-requires c κs = search needs
+keyword-end-requires : tie.Need-keyword-end-requires
+keyword-end-requires c κs = search needs
 
 returns : tie.Need-returns
 unfolding set-of sets
-returns c = keyword-at {n = 3} _ _ refl (c .before .before .if1 .taken) (c .keyword .ensures)
+returns c = keyword-at {n = 3} refl (c .before .before .if1 .taken) (c .keyword-end .ensures)
 
-slice-aggregate-keyword-2 : tie.Need-slice-aggregate-keyword-2
-slice-aggregate-keyword-2 c = search needs
+slice-aggregate-keyword-end-2 : tie.Need-slice-aggregate-keyword-end-2
+slice-aggregate-keyword-end-2 c = search needs
 
-keyword-requires-2 : tie.Need-keyword-requires-2
-keyword-requires-2 c κs = search needs
+keyword-end-requires-2 : tie.Need-keyword-end-requires-2
+keyword-end-requires-2 c κs = search needs
 
 returns-2 : tie.Need-returns-2
 unfolding set-of sets
-returns-2 c = keyword-at {n = 3} {k = c .before .before .before .before .args .k} {j = 1} _ _ refl (omega arith) (c .keyword2 .ensures)
+returns-2 c = keyword-at {n = 3} {k = c .before .before .before .before .args .k} {j = 1} refl (omega arith) (c .keyword-end2 .ensures)
 
 pub command-keyword-spec : {M : Type 1} → statement M
 command-keyword-spec =
     tie.close
     (tie.spec
-    slice-aggregate-keyword
-    keyword-requires
+    slice-aggregate-keyword-end
+    keyword-end-requires
     returns
-    slice-aggregate-keyword-2
-    keyword-requires-2
+    slice-aggregate-keyword-end-2
+    keyword-end-requires-2
     returns-2)

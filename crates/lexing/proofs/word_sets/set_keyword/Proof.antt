@@ -11,41 +11,41 @@ unfolding set-of sets
 field-keyword-requires c κs = (c .before .before .pre .0, below-count _ (c .if1 .taken) (c .before .before .pre .1))
 
 returns : tie.Need-returns
-returns c = keyword-at _ _ (c .before .if1 .taken) refl (c .field-keyword .ensures)
+returns c = keyword-at (c .before .if1 .taken) refl (c .field-keyword .ensures)
 
-slice-aggregate-keyword : tie.Need-slice-aggregate-keyword
-slice-aggregate-keyword c = search needs
+slice-aggregate-keyword-end : tie.Need-slice-aggregate-keyword-end
+slice-aggregate-keyword-end c = search needs
 
-keyword-requires : tie.Need-keyword-requires
-keyword-requires c κs = search needs
+keyword-end-requires : tie.Need-keyword-end-requires
+keyword-end-requires c κs = search needs
 
 returns-2 : tie.Need-returns-2
 unfolding set-of sets
-returns-2 c = keyword-at {j = 0} _ _ (c .before .before .if2 .taken) (omega (arith, below-count (c .before .before .before .before .before .args .k) (c .before .before .if2 .taken) (c .before .before .before .before .before .pre .1))) (c .keyword .ensures)
+returns-2 c = keyword-at {j = 0} (c .before .before .if2 .taken) (omega (arith, below-count (c .before .before .before .before .before .args .k) (c .before .before .if2 .taken) (c .before .before .before .before .before .pre .1))) (c .keyword-end .ensures)
 
-slice-aggregate-keyword-2 : tie.Need-slice-aggregate-keyword-2
-slice-aggregate-keyword-2 c = search needs
+slice-aggregate-keyword-end-2 : tie.Need-slice-aggregate-keyword-end-2
+slice-aggregate-keyword-end-2 c = search needs
 
-keyword-requires-2 : tie.Need-keyword-requires-2
-keyword-requires-2 c κs = search needs
+keyword-end-requires-2 : tie.Need-keyword-end-requires-2
+keyword-end-requires-2 c κs = search needs
 
 returns-3 : tie.Need-returns-3
 unfolding set-of sets
-returns-3 c = keyword-at {j = 0} _ _ (c .before .before .if3 .taken) (omega (arith, below-count (c .before .before .before .before .before .before .args .k) (c .before .before .if3 .taken) (c .before .before .before .before .before .before .pre .1))) (c .keyword2 .ensures)
+returns-3 c = keyword-at {j = 0} (c .before .before .if3 .taken) (omega (arith, below-count (c .before .before .before .before .before .before .args .k) (c .before .before .if3 .taken) (c .before .before .before .before .before .before .pre .1))) (c .keyword-end2 .ensures)
 
 command-keyword-requires : tie.Need-command-keyword-requires
 unfolding set-of sets
 command-keyword-requires c κs = (c .before .before .before .before .before .pre .0, below-count _ (c .if4 .taken) (c .before .before .before .before .before .pre .1))
 
 returns-4 : tie.Need-returns-4
-returns-4 c = keyword-at _ _ (c .before .if4 .taken) refl (c .command-keyword .ensures)
+returns-4 c = keyword-at (c .before .if4 .taken) refl (c .command-keyword .ensures)
 
 attribute-keyword-requires : tie.Need-attribute-keyword-requires
 unfolding set-of sets
 attribute-keyword-requires c κs = (c .before .before .before .before .before .pre .0, below-count {n = c .before .before .before .before .before .args .set} {m = 4} _ (omega (arith, set-below (c .before .before .before .before .before .args .set) (c .before .before .before .before .before .args .k) (c .before .before .before .before .before .pre .1))) (c .before .before .before .before .before .pre .1))
 
 returns-5 : tie.Need-returns-5
-returns-5 c = keyword-at {m = 4} _ _ (omega (arith, set-below (c .before .before .before .before .before .before .args .set) (c .before .before .before .before .before .before .args .k) (c .before .before .before .before .before .before .pre .1))) refl (c .attribute-keyword .ensures)
+returns-5 c = keyword-at {m = 4} (omega (arith, set-below (c .before .before .before .before .before .before .args .set) (c .before .before .before .before .before .before .args .k) (c .before .before .before .before .before .before .pre .1))) refl (c .attribute-keyword .ensures)
 
 pub set-keyword-spec : {M : Type 1} → statement M
 set-keyword-spec =
@@ -53,11 +53,11 @@ set-keyword-spec =
     (tie.spec
     field-keyword-requires
     returns
-    slice-aggregate-keyword
-    keyword-requires
+    slice-aggregate-keyword-end
+    keyword-end-requires
     returns-2
-    slice-aggregate-keyword-2
-    keyword-requires-2
+    slice-aggregate-keyword-end-2
+    keyword-end-requires-2
     returns-3
     command-keyword-requires
     returns-4

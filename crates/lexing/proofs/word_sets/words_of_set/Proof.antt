@@ -59,9 +59,6 @@ loop-holds c = (walk-start (c .before .before .before .before .before .before .b
 set-keyword-requires : tie.Need-set-keyword-requires Inv-loop μ-loop Inv-words μ-words
 set-keyword-requires c κs = search needs
 
-enum-known-w : tie.Need-enum-known-w Inv-loop μ-loop Inv-words μ-words
-enum-known-w c = c .match2 .keys1
-
 sub-with-flag : tie.Need-sub-with-flag Inv-loop μ-loop Inv-words μ-words
 sub-with-flag c = search needs
 
@@ -69,22 +66,19 @@ sub-with-flag-2 : tie.Need-sub-with-flag-2 Inv-loop μ-loop Inv-words μ-words
 sub-with-flag-2 c = search needs
 
 sub-is-lower : tie.Need-sub-is-lower Inv-loop μ-loop Inv-words μ-words
-sub-is-lower c = omega (arith, walk-found (c .before .before .before .before .before .loop .inv .0) (c .before .before .before .before .before .before .before .before .before .before .before .before .before .before .before .before .before .keyword-count .ensures) (c .before .before .before .before .loop-test .taken) (c .before .before .before .set-keyword .result) (c .before .before .before .set-keyword .ensures) _ (c .before .w .given .1) .up)
+sub-is-lower c = search needs
 
 is-lower-requires : tie.Need-is-lower-requires Inv-loop μ-loop Inv-words μ-words
-is-lower-requires c κs = omega (arith, walk-found (c .before .before .before .before .before .loop .inv .0) (c .before .before .before .before .before .before .before .before .before .before .before .before .before .before .before .before .before .keyword-count .ensures) (c .before .before .before .before .loop-test .taken) (c .before .before .before .set-keyword .result) (c .before .before .before .set-keyword .ensures) _ (c .before .w .given .1) .inside)
+is-lower-requires c κs = omega (arith, walk-found (c .before .before .before .loop .inv .0) (c .before .before .before .before .before .before .before .before .before .before .before .before .before .before .before .keyword-count .ensures) (c .before .before .loop-test .taken) (c .before .set-keyword .ensures) (c .if2 .taken) .inside)
 
 with-flag-requires : tie.Need-with-flag-requires Inv-loop μ-loop Inv-words μ-words
-with-flag-requires c κs = omega (arith, c .before .before .before .before .before .before .loop .inv .0 .set .small, set-most (c .before .before .before .before .before .before .before .before .before .before .before .before .before .before .before .before .before .before .before .before .args .set), c .before .before .before .before .before .before .before .before .before .before .before .before .before .before .before .before .before .before .keyword-count .ensures)
+with-flag-requires c κs = omega (arith, c .before .before .before .before .loop .inv .0 .set .small, set-most (c .before .before .before .before .before .before .before .before .before .before .before .before .before .before .before .before .before .before .args .set), c .before .before .before .before .before .before .before .before .before .before .before .before .before .before .before .before .keyword-count .ensures)
 
 words-less : tie.Need-words-less Inv-loop μ-loop Inv-words μ-words
-words-less c = let h = (walk-again (c .before .before .before .before .before .before .before .loop .inv .0) (c .before .before .before .before .before .before .before .before .before .before .before .before .before .before .before .before .before .before .before .keyword-count .ensures) (c .before .before .before .before .before .before .loop-test .taken) (c .before .before .before .before .before .set-keyword .result) (c .before .before .before .before .before .set-keyword .ensures) _ (c .before .before .before .w .given .1) _ _ _ refl (c .before .is-lower .ensures) (c .with-flag .ensures)) in omega (arith, h .1, h .0 .at .inside, c .before .before .before .before .before .before .before .loop .inv .1)
+words-less c = let h = (walk-again (c .before .before .before .before .before .loop .inv .0) (c .before .before .before .before .before .before .before .before .before .before .before .before .before .before .before .before .before .keyword-count .ensures) (c .before .before .before .before .loop-test .taken) (c .before .before .before .set-keyword .ensures) (c .before .before .if2 .taken) _ _ _ refl (c .before .is-lower .ensures) (c .with-flag .ensures)) in omega (arith, h .1, h .0 .at .inside, c .before .before .before .before .before .loop .inv .1)
 
 words-again : tie.Need-words-again Inv-loop μ-loop Inv-words μ-words
-words-again c = (walk-again (c .before .before .before .before .before .before .before .loop .inv .0) (c .before .before .before .before .before .before .before .before .before .before .before .before .before .before .before .before .before .before .before .keyword-count .ensures) (c .before .before .before .before .before .before .loop-test .taken) (c .before .before .before .before .before .set-keyword .result) (c .before .before .before .before .before .set-keyword .ensures) _ (c .before .before .before .w .given .1) _ _ _ refl (c .before .is-lower .ensures) (c .with-flag .ensures)) .0
-
-enum-told-2 : tie.Need-enum-told-2 Inv-loop μ-loop Inv-words μ-words
-enum-told-2 c = c .match2 .keys2
+words-again c = (walk-again (c .before .before .before .before .before .loop .inv .0) (c .before .before .before .before .before .before .before .before .before .before .before .before .before .before .before .before .before .keyword-count .ensures) (c .before .before .before .before .loop-test .taken) (c .before .before .before .set-keyword .ensures) (c .before .before .if2 .taken) _ _ _ refl (c .before .is-lower .ensures) (c .with-flag .ensures)) .0
 
 add-k : tie.Need-add-k Inv-loop μ-loop Inv-words μ-words
 add-k c = search needs
@@ -93,7 +87,7 @@ loop-less : tie.Need-loop-less Inv-loop μ-loop Inv-words μ-words
 loop-less c = search needs
 
 loop-again : tie.Need-loop-again Inv-loop μ-loop Inv-words μ-words
-loop-again c = (walk-more (c .before .before .before .before .loop .inv .0) (c .before .before .before .before .before .before .before .before .before .before .before .before .before .before .before .before .keyword-count .ensures) (c .before .before .before .loop-test .taken) (c .before .before .set-keyword .result) (c .before .before .set-keyword .ensures) _ (c .enum-told2 .given .1), c .before .before .before .before .loop .inv .1)
+loop-again c = (walk-more (c .before .before .before .loop .inv .0) (c .before .before .before .before .before .before .before .before .before .before .before .before .before .before .before .keyword-count .ensures) (c .before .before .loop-test .taken) (c .before .set-keyword .ensures) (c .if2 .left), c .before .before .before .loop .inv .1)
 
 returns : tie.Need-returns Inv-loop μ-loop Inv-words μ-words
 returns c = set-no-start (c .before .before .before .before .words .inv) (c .before .before .word-start .result) (c .before .before .before .rest-at .ensures) (c .before .before .word-start .ensures) (c .enum-told .given .1)
@@ -124,7 +118,6 @@ words-of-set-spec =
     is-initial-requires
     loop-holds
     set-keyword-requires
-    enum-known-w
     sub-with-flag
     sub-with-flag-2
     sub-is-lower
@@ -132,7 +125,6 @@ words-of-set-spec =
     with-flag-requires
     words-less
     words-again
-    enum-told-2
     add-k
     loop-less
     loop-again
