@@ -1,10 +1,11 @@
 // Maturities: stable, provisional, internal, deprecated = 0 to 3.
+ghost use mathlib.Core.Path.{_≡_};
 ghost use Prim.Native.Nat.{_+_, _≤_, _<_};
 ghost use lib.ListN.{length};
 ghost use Rattle.lexing.specs.integers.{u64-max};
 ghost use Rattle.items.specs.entries.{api-maturity};
 ghost use Rattle.items.specs.answers.{MaturityTo, maturity-blank, maturity-between};
-ghost use Rattle.items.specs.inner.maturity.{MaturityBy, InitialIf};
+ghost use Rattle.items.specs.inner.maturity.{isInitial, MaturityBy};
 use lexing::answers::Step;
 use lexing::bytes::lower_of;
 use lexing::parts::peek;
@@ -54,7 +55,7 @@ pub fn api_maturity(part: &[u8], base: usize) -> Maturity
 
 // Whether a maturity begins with a letter.
 fn is_initial(x: u8) -> bool
-    ensures { λ r. ⌜ InitialIf r x ⌝ }
+    ensures { λ r. ⌜ r ≡ isInitial x ⌝ }
 {
     match x {
         b's' => true,

@@ -1,6 +1,6 @@
 -- Maturities.
 use mathlib.Core.Path.{_≡_, refl, sym, ap, _∙_, subst}
-use mathlib.Core.Bool.{Bool, true, false}
+use mathlib.Core.Bool.{Bool, true, false, true≢false}
 use mathlib.Core.List.{List, [], _∷_}
 use Prim.Native.Nat.{ℕ, _-_, _<_}
 use native.Mathlib.Omega.{arith}
@@ -23,7 +23,7 @@ use Rattle.lexing.proofs.Slicing.{Took, took, walks, reads-in, rest-from, rest-
 use Rattle.items.specs.entries.{api-maturity}
 use Rattle.items.specs.answers.{MaturityTo, maturity-blank, maturity-between}
 use Rattle.items.specs.answers.members.{numbered}
-use Rattle.items.specs.inner.maturity.{MaturityBy, InitialIf}
+use Rattle.items.specs.inner.maturity.{MaturityBy, isInitial}
 use Rattle.items.specs.declared.maturity.Maturity.{Maturity}
 use Rattle.items.proofs.Keywords.{keyword-value, keyword-not}
 use Rattle.items.proofs.Letters.{NoneOf, all-begin, initials-free}
@@ -114,13 +114,13 @@ pub between-is : {b n : ℕ} {u r : List ℕ} {d : Doc} {t : Maturity} → Took 
 between-is k q h = reads-as between-on _ _ _ _ (h .small) (begin maturity-between _ _ (on maturity-blank k (sym (took-as blanked-on q h .goes))))
 
 -- none of their letters stands behind the blanks: no maturity, and no further blank
-pub between-none : {b n : ℕ} {u : List ℕ} {d : Doc} → Took whitespace0 b u b d n → {x y : ℕ} → x ≡ getD u (n - b) 0 → y ≡ lower x → (t : Bool) → InitialIf t y → t ≡ false → MaturityTo maturity-between (record { level = 0; next = n }) b u
-between-none {b} {n} {u} k {x} {y} p e t i f =
-    let none = subst (λ (s : Bool). InitialIf s y) f i in
+pub between-none : {b n : ℕ} {u : List ℕ} {d : Doc} → Took whitespace0 b u b d n → {x y : ℕ} → x ≡ getD u (n - b) 0 → y ≡ lower x → {t : Bool} → t ≡ isInitial y → t ≡ false → MaturityTo maturity-between (record { level = 0; next = n }) b u
+between-none {b} {n} {u} k {x} {y} p e i f =
+    let not : (j : ℕ) → isInitial j ≡ true → y ≡ j → ⊥ = λ j h w. true≢false (sym (ap isInitial w ∙ h) ∙ (sym i ∙ f)) in
     let q = rest-from b n u (k .up) (k .inside) in
     let r = drop (n - b) u in
     let first : getD r 0 0 ≡ x = getD-drop (n - b) u 0 0 ∙ (ap (λ (j : ℕ). getD u j 0) (add-zero (n - b)) ∙ sym p) in
-    let m = maturity-other n r (100 ∷ 105 ∷ 112 ∷ 115 ∷ []) refl y none (ap lower first ∙ sym e) in
+    let m = maturity-other n r (100 ∷ 105 ∷ 112 ∷ 115 ∷ []) refl y ((((tt, not 115 refl), not 112 refl), not 105 refl), not 100 refl) (ap lower first ∙ sym e) in
     let z : n - n ≡ 0 = omega arith in
     between-is k q (blanked-is {d = no-doc} (m .small) (took-as maturity-on (rest-self n r) m) (took blanks-on (rest-self n r) (rw z (sym (rest-clear k q)))))
 

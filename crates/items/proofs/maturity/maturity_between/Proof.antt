@@ -21,7 +21,7 @@ is-initial-requires : tie.Need-is-initial-requires
 is-initial-requires c κs = tt
 
 returns : tie.Need-returns
-returns c = between-none (blank-at-took (c .before .before .before .before .blank-at .ensures)) (c .before .before .before .peek .ensures) (c .before .before .lower-of .ensures) (c .before .is-initial .result) (c .before .is-initial .ensures) (not-true _ (c .if1 .taken))
+returns c = between-none (blank-at-took (c .before .before .before .before .blank-at .ensures)) (c .before .before .before .peek .ensures) (c .before .before .lower-of .ensures) (c .before .is-initial .ensures) (not-true _ (c .if1 .taken))
 
 rest-at-requires : tie.Need-rest-at-requires
 rest-at-requires c κs = let t = (blank-at-took (c .before .before .before .before .blank-at .ensures)) in omega (arith, t .up, t .inside)
