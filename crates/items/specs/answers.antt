@@ -38,13 +38,18 @@ abbrev pub optionOf : {A : Type 0} → Bool → A → Option A
 optionOf true a = some a
 optionOf false a = none
 
+-- a maturity and the blanks behind it
+abbrev pub maturity-blank : Parser ℕ
+maturity-blank = do
+  m ← api-maturity
+  whitespace0
+  ret m
+
 -- a maturity between blanks
 abbrev pub maturity-between : Parser ℕ
 maturity-between = do
   whitespace0
-  m ← api-maturity
-  whitespace0
-  ret m
+  maturity-blank
 
 -- a maturity and where what was read ends
 pub record MaturityTo (p : Parser ℕ) (r : Maturity) (b : ℕ) (u : List ℕ) : Type 0 where

@@ -25,7 +25,7 @@ use crate::counts::closed;
 use crate::counts::count_end;
 use crate::counts::count_lost;
 use crate::endpoints::further;
-use crate::maturity::api_maturity;
+use crate::maturity::maturity_between;
 use crate::members::count_command;
 use crate::members::parse_event_after_doc_maturity;
 use crate::members::write_command;
@@ -296,12 +296,10 @@ pub fn parse_cluster_member(part: &[u8], base: usize) -> Count
 {
     let w1 = whitespace0(part, base);
     let c1 = w1.next;
-    let m = api_maturity(rest_at(part, base, c1), c1);
+    let m = maturity_between(rest_at(part, base, c1), c1);
     let c2 = m.next;
-    let w2 = whitespace0(rest_at(part, base, c2), c2);
-    let c3 = w2.next;
     let doc = w1.doc;
-    member_tries(rest_at(part, base, c3), c3, doc, m.level)
+    member_tries(rest_at(part, base, c2), c2, doc, m.level)
 }
 
 // The first pass over members.
@@ -503,17 +501,16 @@ fn write_member(
     at: usize,
 ) -> MembersWrote
     requires { ⌜ base + length (now part) ≤ text-limit ⌝ }
+    requires { ⌜ whitespace0 base (now part) ≡ ok no-doc base (now part) ⌝ }
     requires { ⌜ DocFits doc ⌝ }
     requires { ⌜ Room unhoisted (member-behind (docOf doc)) base (now part) at (length (now out)) ⌝ }
     ensures { λ r. ⌜ MemberWritten last (member-behind (docOf doc)) base (now (part .entry)) at r (now (out .entry)) (now (out .exit)) ⌝ }
 {
-    let m = api_maturity(part, base);
-    let c1 = m.next;
-    let w = whitespace0(rest_at(part, base, c1), c1);
-    let c2 = w.next;
-    let rest = rest_at(part, base, c2);
-    let k = member_kind(rest, c2);
-    write_kind(rest, c2, k, doc, m.level, last, out, at)
+    let m = maturity_between(part, base);
+    let c = m.next;
+    let rest = rest_at(part, base, c);
+    let k = member_kind(rest, c);
+    write_kind(rest, c, k, doc, m.level, last, out, at)
 }
 
 // The second pass over members and the closing brace behind them.

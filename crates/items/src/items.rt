@@ -24,7 +24,7 @@ use crate::counts::Count;
 use crate::counts::count_end;
 use crate::endpoints::endpoint;
 use crate::endpoints::write_endpoint;
-use crate::maturity::api_maturity;
+use crate::maturity::maturity_blank;
 use crate::structs::parse_struct_after_doc_maturity;
 use crate::structs::write_struct;
 use crate::writing::FrontParts;
@@ -97,26 +97,24 @@ fn declaration_start(part: &[u8], base: usize) -> DeclarationStart
             from: base,
         };
     }
-    let m = api_maturity(part, base);
-    let c1 = m.next;
-    let w = whitespace0(rest_at(part, base, c1), c1);
-    let c2 = w.next;
-    if starts_cluster(rest_at(part, base, c2), c2) {
+    let m = maturity_blank(part, base);
+    let c = m.next;
+    if starts_cluster(rest_at(part, base, c), c) {
         return DeclarationStart {
             kind: DeclarationKind::Cluster,
-            floor: c2,
+            floor: c,
             maturity: m.level,
-            next: c2,
-            from: c2,
+            next: c,
+            from: c,
         };
     }
-    let k = member_kind(rest_at(part, base, c2), c2);
+    let k = member_kind(rest_at(part, base, c), c);
     let kind = k.kind;
     DeclarationStart {
         kind: type_kind(kind),
         floor: k.floor,
         maturity: m.level,
-        next: c2,
+        next: c,
         from: k.from,
     }
 }

@@ -1,10 +1,11 @@
 // Maturities: stable, provisional, internal, deprecated = 0 to 3.
+ghost use mathlib.Core.Path.{_≡_};
 ghost use Prim.Native.Nat.{_+_, _≤_, _<_};
 ghost use lib.ListN.{length};
 ghost use Rattle.lexing.specs.integers.{u64-max};
 ghost use Rattle.items.specs.entries.{api-maturity};
-ghost use Rattle.items.specs.answers.{MaturityTo, maturity-between};
-ghost use Rattle.items.specs.inner.maturity.{MaturityBy, InitialIf};
+ghost use Rattle.items.specs.answers.{MaturityTo, maturity-blank, maturity-between};
+ghost use Rattle.items.specs.inner.maturity.{isInitial, MaturityBy};
 use lexing::answers::Step;
 use lexing::bytes::lower_of;
 use lexing::parts::peek;
@@ -54,7 +55,7 @@ pub fn api_maturity(part: &[u8], base: usize) -> Maturity
 
 // Whether a maturity begins with a letter.
 fn is_initial(x: u8) -> bool
-    ensures { λ r. ⌜ InitialIf r x ⌝ }
+    ensures { λ r. ⌜ r ≡ isInitial x ⌝ }
 {
     match x {
         b's' => true,
@@ -65,21 +66,27 @@ fn is_initial(x: u8) -> bool
     }
 }
 
+// A maturity and the blanks behind it. It is called at two places, so that it stays a function of its own and what is left of `maturity_between` is short.
+pub fn maturity_blank(part: &[u8], base: usize) -> Maturity
+    requires { ⌜ base + length (now part) ≤ u64-max ⌝ }
+    ensures { λ r. ⌜ MaturityTo maturity-blank r base (now (part .entry)) ⌝ }
+{
+    let m = api_maturity(part, base);
+    let next = blank_at(part, base, m.next);
+    Maturity {
+        level: m.level,
+        next,
+    }
+}
+
 // A maturity and the blanks around it. Where there is none, as mostly, no blank stands behind the blanks.
 pub fn maturity_between(part: &[u8], base: usize) -> Maturity
     requires { ⌜ base + length (now part) ≤ u64-max ⌝ }
     ensures { λ r. ⌜ MaturityTo maturity-between r base (now (part .entry)) ⌝ }
 {
     let c1 = blank_at(part, base, base);
-    let rest = rest_at(part, base, c1);
-    if !is_initial(lower_of(peek(rest, 0))) {
+    if !is_initial(lower_of(peek(part, c1 - base))) {
         return Maturity { level: 0, next: c1 };
     }
-    let m = api_maturity(rest, c1);
-    let c2 = m.next;
-    let next = blank_at(part, base, c2);
-    Maturity {
-        level: m.level,
-        next,
-    }
+    maturity_blank(rest_at(part, base, c1), c1)
 }

@@ -5,36 +5,30 @@ use mathlib.Core.Path.{refl}
 use native.Mathlib.Omega.{arith}
 use Rattle.lexing.specs.answers.{docOf}
 use Rattle.lexing.proofs.Slicing.{rest-self, begin, go, on, blank-took}
-use Rattle.items.specs.clusters.{member-tries, parse-cluster-member}
-use Rattle.items.proofs.maturity.Laws.{maturity-took}
-use Rattle.items.proofs.counts.Laws.{count-behind}
 use Rattle.lexing.proofs.steps.Laws.{rest-clear}
+use Rattle.items.specs.clusters.{member-tries, parse-cluster-member}
+use Rattle.items.proofs.maturity.Laws.{blanked, between-clear}
+use Rattle.items.proofs.counts.Laws.{count-behind}
 use Rattle.items.proofs.clusters.Laws.{member-tries-on}
 
 whitespace0-requires : tie.Need-whitespace0-requires
 whitespace0-requires c κs = search needs
 
 rest-at-requires : tie.Need-rest-at-requires
-rest-at-requires c κs = omega (arith, (blank-took (rest-self _ _) (c .whitespace0 .ensures)) .up, (blank-took (rest-self _ _) (c .whitespace0 .ensures)) .inside)
+rest-at-requires c κs = omega (arith, c .whitespace0 .ensures .up, c .whitespace0 .ensures .inside)
 
-api-maturity-requires : tie.Need-api-maturity-requires
-api-maturity-requires c κs = search needs
+maturity-between-requires : tie.Need-maturity-between-requires
+maturity-between-requires c κs = omega (arith, c .rest-at .ensures .size, c .before .before .before .pre)
 
 rest-at-requires-2 : tie.Need-rest-at-requires-2
-rest-at-requires-2 c κs = omega (arith, (maturity-took (c .before .rest-at .ensures) (c .api-maturity .ensures)) .up, (maturity-took (c .before .rest-at .ensures) (c .api-maturity .ensures)) .inside, c .before .rest-at .ensures .from)
-
-whitespace0-requires-2 : tie.Need-whitespace0-requires-2
-whitespace0-requires-2 c κs = search needs
-
-rest-at-requires-3 : tie.Need-rest-at-requires-3
-rest-at-requires-3 c κs = omega (arith, (blank-took (c .before .rest-at2 .ensures) (c .whitespace02 .ensures)) .up, (blank-took (c .before .rest-at2 .ensures) (c .whitespace02 .ensures)) .inside, c .before .rest-at2 .ensures .from)
+rest-at-requires-2 c κs = let m = c .maturity-between .ensures in omega (arith, m .up, m .inside, c .before .rest-at .ensures .from, c .before .rest-at .ensures .size)
 
 member-tries-requires : tie.Need-member-tries-requires
-member-tries-requires c κs = (omega (arith, c .rest-at3 .ensures .size, c .before .before .before .before .before .before .before .pre), rest-clear (blank-took (c .before .before .rest-at2 .ensures) (c .before .whitespace02 .ensures)) (c .rest-at3 .ensures))
+member-tries-requires c κs = (omega (arith, c .rest-at2 .ensures .size, c .before .before .before .before .before .pre), rest-clear ((blanked (c .before .before .rest-at .ensures) (between-clear (rest-clear (blank-took (rest-self _ _) (c .before .before .before .whitespace0 .ensures)) (c .before .before .rest-at .ensures)) (c .before .maturity-between .ensures))) .blanks) (c .rest-at2 .ensures))
 
 returns : tie.Need-returns
 unfolding parse-cluster-member
-returns c = record { counts = λ p. count-behind _ parse-cluster-member (member-tries (docOf (c .before .before .before .before .before .before .whitespace0 .result .doc)) (c .before .before .before .before .api-maturity .result .level)) (member-tries-on (docOf (c .before .before .before .before .before .before .whitespace0 .result .doc)) (c .before .before .before .before .api-maturity .result .level)) (c .member-tries .result) (c .before .rest-at3 .ensures) (begin parse-cluster-member _ _ (go _ (blank-took (rest-self _ _) (c .before .before .before .before .before .before .whitespace0 .ensures)) (go _ (maturity-took (c .before .before .before .before .before .rest-at .ensures) (c .before .before .before .before .api-maturity .ensures)) (on _ (blank-took (c .before .before .before .rest-at2 .ensures) (c .before .before .whitespace02 .ensures)) refl)))) (c .member-tries .ensures .counts p) }
+returns c = let m = (blanked (c .before .before .before .rest-at .ensures) (between-clear (rest-clear (blank-took (rest-self _ _) (c .before .before .before .before .whitespace0 .ensures)) (c .before .before .before .rest-at .ensures)) (c .before .before .maturity-between .ensures))) in record { counts = λ p. count-behind _ parse-cluster-member (member-tries (docOf (c .before .before .before .before .whitespace0 .result .doc)) (c .before .before .maturity-between .result .level)) (member-tries-on (docOf (c .before .before .before .before .whitespace0 .result .doc)) (c .before .before .maturity-between .result .level)) (c .member-tries .result) (c .before .rest-at2 .ensures) (begin parse-cluster-member _ _ (go _ (blank-took (rest-self _ _) (c .before .before .before .before .whitespace0 .ensures)) (go _ (m .said) (on _ (m .blanks) refl)))) (c .member-tries .ensures .counts p) }
 
 pub parse-cluster-member-spec : {M : Type 1} → statement M
 parse-cluster-member-spec =
@@ -42,9 +36,7 @@ parse-cluster-member-spec =
     (tie.spec
     whitespace0-requires
     rest-at-requires
-    api-maturity-requires
+    maturity-between-requires
     rest-at-requires-2
-    whitespace0-requires-2
-    rest-at-requires-3
     member-tries-requires
     returns)

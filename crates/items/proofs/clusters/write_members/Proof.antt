@@ -5,6 +5,7 @@ use native.Mathlib.Omega.{arith}
 use Prim.Native.Nat.{_-_, _+_}
 use lib.ListN.{length}
 use Rattle.lexing.proofs.Slicing.{blank-took, tag-took, told-not}
+use Rattle.lexing.proofs.steps.Laws.{rest-clear}
 use Rattle.items.proofs.writing.Laws.{doc-in-limit}
 use Rattle.items.proofs.clusters.Whole.{MembersPlacing, placing-start, placing-same, placing-room, placing-more, placing-ends}
 
@@ -45,7 +46,7 @@ rest-at-requires-3 : tie.Need-rest-at-requires-3 Inv-loop μ-loop
 rest-at-requires-3 c κs = omega (arith, (blank-took (c .before .before .before .before .before .rest-at .ensures) (c .before .before .before .before .whitespace0 .ensures)) .up, (blank-took (c .before .before .before .before .before .rest-at .ensures) (c .before .before .before .before .whitespace0 .ensures)) .inside, c .before .before .before .before .before .rest-at .ensures .from)
 
 write-member-requires : tie.Need-write-member-requires Inv-loop μ-loop
-write-member-requires c κs = (omega (arith, c .before .rest-at3 .ensures .size, c .before .before .before .before .before .before .before .before .before .before .before .pre .0), (doc-in-limit (c .before .before .before .before .before .before .whitespace0 .ensures) (omega (arith, (blank-took (c .before .before .before .before .before .before .before .rest-at .ensures) (c .before .before .before .before .before .before .whitespace0 .ensures)) .inside, c .before .before .before .before .before .before .before .before .before .before .before .pre .0)), placing-room _ _ _ _ (c .before .before .before .before .before .before .before .before .before .before .before .pre .1) (c .before .before .before .before .before .before .before .before .loop .inv) (blank-took (c .before .before .before .before .before .before .before .rest-at .ensures) (c .before .before .before .before .before .before .whitespace0 .ensures)) (c .before .rest-at3 .ensures) (c .before .before .enum-told .given .0 .0) (c .before .before .before .before .before .rest-at2 .ensures) (told-not (λ c. tt) _ _ _ _ _ (c .before .before .enum-told .given .1) (c .before .before .before .before .tag .ensures))))
+write-member-requires c κs = (omega (arith, c .before .rest-at3 .ensures .size, c .before .before .before .before .before .before .before .before .before .before .before .pre .0), (rest-clear (blank-took (c .before .before .before .before .before .before .before .rest-at .ensures) (c .before .before .before .before .before .before .whitespace0 .ensures)) (c .before .rest-at3 .ensures), (doc-in-limit (c .before .before .before .before .before .before .whitespace0 .ensures) (omega (arith, (blank-took (c .before .before .before .before .before .before .before .rest-at .ensures) (c .before .before .before .before .before .before .whitespace0 .ensures)) .inside, c .before .before .before .before .before .before .before .before .before .before .before .pre .0)), placing-room _ _ _ _ (c .before .before .before .before .before .before .before .before .before .before .before .pre .1) (c .before .before .before .before .before .before .before .before .loop .inv) (blank-took (c .before .before .before .before .before .before .before .rest-at .ensures) (c .before .before .before .before .before .before .whitespace0 .ensures)) (c .before .rest-at3 .ensures) (c .before .before .enum-told .given .0 .0) (c .before .before .before .before .before .rest-at2 .ensures) (told-not (λ c. tt) _ _ _ _ _ (c .before .before .enum-told .given .1) (c .before .before .before .before .tag .ensures)))))
 
 loop-less : tie.Need-loop-less Inv-loop μ-loop
 loop-less c = let s = placing-more _ _ _ _ (c .before .before .before .before .before .before .before .before .before .before .before .before .before .before .pre .1) (c .before .before .before .before .before .before .before .before .before .before .before .loop .inv) (blank-took (c .before .before .before .before .before .before .before .before .before .before .rest-at .ensures) (c .before .before .before .before .before .before .before .before .before .whitespace0 .ensures)) (c .before .before .before .before .rest-at3 .ensures) (c .before .before .write-member .ensures) in omega (arith, s .1 .0, s .1 .1)
