@@ -111,29 +111,6 @@ ret-first : {A B : Type 0} (a : A) (k : A → Parser B) (n : ℕ) (v : List ℕ)
 unfolding _>>=_ ret
 ret-first a k n v = refl
 
-module _ {A B C D E : Type 0} (m : Parser A) (p : Parser B) (q : Parser C) (s : Parser D) (k : B → Parser E) where
-  abbrev closing : B → Parser B
-  closing x = q >> (s >> ret x)
-
-  abbrev closed-then : B → Parser E
-  closed-then x = q >> (s >> k x)
-
-  closing-then : (x : B) (n : ℕ) (v : List ℕ) → (closing x >>= k) n v ≡ closed-then x n v
-  closing-then x n v = three-assoc q s (ret x) k n v ∙ then-same q (s >> (ret x >>= k)) (s >> k x) (then-same s (ret x >>= k) (k x) (ret-first x k)) n v
-
-  bound : (n : ℕ) (v : List ℕ) → ((p >>= closing) >>= k) n v ≡ (p >>= closed-then) n v
-  bound n v = bind-assoc p closing k n v ∙ bind-same p (λ x. closing x >>= k) closed-then closing-then n v
-
-  closed-assoc : (n : ℕ) (v : List ℕ) → ((m >> (p >>= closing)) >>= k) n v ≡ (m >> (p >>= closed-then)) n v
-  closed-assoc n v = then-assoc m (p >>= closing) k n v ∙ then-same m ((p >>= closing) >>= k) (p >>= closed-then) bound n v
-
-  module _ {b n : ℕ} {u : List ℕ} where
-    pub closed-go : {X : Reply E} {a : B} {c : ℕ} → Took (m >> (p >>= (λ x. q >> (s >> ret x)))) b u n a c → X ≡ k a c (drop (c - b) u) → X ≡ (m >> (p >>= (λ x. q >> (s >> k x)))) n (drop (n - b) u)
-    closed-go t e = go k t e ∙ closed-assoc n (drop (n - b) u)
-
-    pub closed-lose : {r : List ℕ} (l : Lost) → Rest b u n r → lostReply l ≡ (m >> (p >>= (λ x. q >> (s >> ret x)))) n r → lostReply l ≡ (m >> (p >>= (λ x. q >> (s >> k x)))) n (drop (n - b) u)
-    closed-lose l w e = lose (m >> (p >>= closing)) k l w e ∙ closed-assoc n (drop (n - b) u)
-
 -- a step and what stands on both sides of it
 module _ {A B C D : Type 0} (m : Parser A) (p : Parser B) (q : Parser C) (k : B → Parser D) where
   ret-then : (x : B) (n : ℕ) (v : List ℕ) → ((q >> ret x) >>= k) n v ≡ (q >> k x) n v
