@@ -168,6 +168,11 @@ BlankAt r b u c = SkipsAt whitespace0 (Next r) b u c
 abbrev pub behind-blanks : {A : Type 0} → Parser A → Parser A
 behind-blanks p = whitespace0 >> p
 
+-- a word from an offset c of a part
+pub record WordAt (m : Parser Word) (r : Step) (b : ℕ) (u : List ℕ) (c : ℕ) : Type 0 where
+  pub at : Rest b u c (drop (c - b) u)
+  pub reads : wordReply r c (drop (c - b) u) ≡ m c (drop (c - b) u)
+
 -- an integer from an offset c of a part
 pub record NumberAt (m : Parser ℕ) (r : Number) (b : ℕ) (u : List ℕ) (c : ℕ) : Type 0 where
   pub at : Rest b u c (drop (c - b) u)
