@@ -5,7 +5,7 @@ use mathlib.Core.Bool.{Bool, true, false}
 use Prim.Native.Nat.{ℕ, zero, suc, _+_, _≤_, _<_, zero-le}
 use native.Mathlib.Omega.{arith}
 use native.Mathlib.Numerals.{add-one}
-use native.Mathlib.Nat.{zero-add, add-zero}
+use native.Mathlib.Nat.{add-zero}
 use lib.ListN.{length, drop, take, getD, drop-of-length-le}
 use lib.Seq.{drop-cons, getD-drop, getD-take}
 use Rattle.lexing.specs.bytes.{takeWhile, dropWhile}
@@ -75,32 +75,32 @@ run-nil : (f : ℕ → Bool) → takeWhile f [] ≡ []
 unfolding takeWhile
 run-nil f = refl
 
--- the invariant of a scan: the first i bytes pass, and the rest of the run is that of what is left
-pub record RunAt (f : ℕ → Bool) (u : List ℕ) (i : ℕ) : Type 0 where
+-- the invariant of a scan of a run that ends at place e: from place i on, it ends there as well
+pub record RunAt (f : ℕ → Bool) (u : List ℕ) (e i : ℕ) : Type 0 where
   pub inside : i ≤ length u
-  pub left : length (takeWhile f u) ≡ i + length (takeWhile f (drop i u))
+  pub left : e ≡ i + length (takeWhile f (drop i u))
 
-pub runs-start : (f : ℕ → Bool) (u : List ℕ) → RunAt f u 0
+pub runs-from : (f : ℕ → Bool) (u : List ℕ) (i : ℕ) → i ≤ length u → RunAt f u (i + length (takeWhile f (drop i u))) i
+runs-from f u i h = record { inside = h; left = refl }
+
+pub runs-start : (f : ℕ → Bool) (u : List ℕ) → RunAt f u (length (takeWhile f u)) 0
 runs-start f u = record { inside = zero-le; left = omega arith }
 
-module _ (f : ℕ → Bool) (u : List ℕ) (i : ℕ) (h : RunAt f u i) where
-  pub runs-more : i < length u → f (getD u i 0) ≡ true → RunAt f u (i + 1)
+module _ (f : ℕ → Bool) (u : List ℕ) (i : ℕ) {e : ℕ} (h : RunAt f u e i) where
+  pub runs-more : i < length u → f (getD u i 0) ≡ true → RunAt f u e (i + 1)
   runs-more lt t =
-      let e : length (takeWhile f (drop i u)) ≡ suc (length (takeWhile f (drop (i + 1) u))) = rw (add-one, drop-cons u i 0) (ap length (run-cons f (getD u i 0) (drop (suc i) u) t)) in
-      record { inside = omega arith; left = omega (arith, e, h .left) }
+      let k : length (takeWhile f (drop i u)) ≡ suc (length (takeWhile f (drop (i + 1) u))) = rw (add-one, drop-cons u i 0) (ap length (run-cons f (getD u i 0) (drop (suc i) u) t)) in
+      record { inside = omega arith; left = omega (arith, k, h .left) }
 
-  pub runs-le : i ≤ length (takeWhile f u)
-  runs-le = omega (arith, h .left)
-
-  pub runs-stop : i < length u → f (getD u i 0) ≡ false → i ≡ length (takeWhile f u)
+  pub runs-stop : i < length u → f (getD u i 0) ≡ false → i ≡ e
   runs-stop lt t =
-      let e : length (takeWhile f (drop i u)) ≡ 0 = rw (drop-cons u i 0) (ap length (run-none f (getD u i 0) (drop (suc i) u) t)) in
-      omega (arith, e, h .left)
+      let k : length (takeWhile f (drop i u)) ≡ 0 = rw (drop-cons u i 0) (ap length (run-none f (getD u i 0) (drop (suc i) u) t)) in
+      omega (arith, k, h .left)
 
-  pub runs-out : length u ≤ i → i ≡ length (takeWhile f u)
+  pub runs-out : length u ≤ i → i ≡ e
   runs-out le =
-      let e : length (takeWhile f (drop i u)) ≡ 0 = rw (drop-of-length-le u le) (ap length (run-nil f)) in
-      omega (arith, e, h .left)
+      let k : length (takeWhile f (drop i u)) ≡ 0 = rw (drop-of-length-le u le) (ap length (run-nil f)) in
+      omega (arith, k, h .left)
 
 -- what holds at i and is kept by each of n turns holds behind them
 pub turns : (P : ℕ → Type 0) (i n : ℕ) → P i → ((j : ℕ) → j < n → P (i + j) → P (i + j + 1)) → P (i + n)
@@ -108,9 +108,5 @@ turns P i zero h f = let z : i ≡ i + 0 = omega arith in subst P z h
 turns P i (suc n) h f = let z : i + n + 1 ≡ i + suc n = omega arith in subst P z (f n (omega arith) (turns P i n h (λ j q. f j (omega arith))))
 
 -- n bytes that pass, at once
-pub runs-on : (f : ℕ → Bool) (u : List ℕ) (i : ℕ) → RunAt f u i → (n : ℕ) → i + n ≤ length u → ((j : ℕ) → j < n → f (getD u (i + j) 0) ≡ true) → RunAt f u (i + n)
-runs-on f u i h n le t = turns (RunAt f u) i n h (λ j q g. runs-more f u (i + j) g (omega arith) (t j q))
-
--- a scan may start inside the run
-pub runs-from : (f : ℕ → Bool) (u : List ℕ) (n : ℕ) → n ≤ length (takeWhile f u) → RunAt f u n
-runs-from f u n h = rw zero-add at (runs-on f u 0 (runs-start f u) n (omega (arith, run-le f u)) (λ j q. rw zero-add (run-passes f u j (omega arith))))
+pub runs-on : (f : ℕ → Bool) (u : List ℕ) (i : ℕ) {e : ℕ} → RunAt f u e i → (n : ℕ) → i + n ≤ length u → ((j : ℕ) → j < n → f (getD u (i + j) 0) ≡ true) → RunAt f u e (i + n)
+runs-on f u i {e} h n le t = turns (RunAt f u e) i n h (λ j q g. runs-more f u (i + j) g (omega arith) (t j q))

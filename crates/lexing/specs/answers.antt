@@ -1,5 +1,5 @@
 -- What the answers of the code say, as replies of the definitions. An answer is taken with the offset b and the text u that its reader was handed.
-use Prim.Native.Nat.{ℕ, suc, _+_, _-_, _≤_, _<_}
+use Prim.Native.Nat.{ℕ, zero, suc, _+_, _-_, _≤_, _<_}
 use mathlib.Core.Path.{_≡_}
 use mathlib.Core.Bool.{Bool, true, false}
 use mathlib.Core.List.{List}
@@ -17,6 +17,7 @@ use Rattle.lexing.specs.declared.answers.Step.the-variants.{Next, Not}
 use Rattle.lexing.specs.declared.blanks.DocSpan.{DocSpan}
 use Rattle.lexing.specs.declared.blanks.DocSpan.the-variants.{Absent, At}
 use Rattle.lexing.specs.declared.blanks.Blank.{Blank}
+use Rattle.lexing.specs.declared.blanks.Run.{Run}
 use Rattle.lexing.specs.declared.blanks.Gap.{Gap}
 use Rattle.lexing.specs.declared.blanks.Gap.the-variants.{Passed, NoGap}
 use Rattle.lexing.specs.declared.blanks.Group.{Group}
@@ -112,6 +113,19 @@ pub record BlankTo (r : Blank) (b : ℕ) (u : List ℕ) : Type 0 where
   pub up : b ≤ r .next
   pub inside : r .next ≤ b + length u
 
+-- the same in plain numbers: the doc comment is its text's offset, 0 where there is none, and its length
+abbrev pub docBy : ℕ → ℕ → Doc
+docBy zero n = no-doc
+docBy (suc o) n = doc-at (suc o) n
+
+abbrev pub runReply : Run → ℕ → List ℕ → Reply Doc
+runReply r b u = reply (got (docBy (r .doc) (r .size)) (r .next)) b u
+
+pub record RunTo (r : Run) (b : ℕ) (u : List ℕ) : Type 0 where
+  pub reads : runReply r b u ≡ whitespace0 b u
+  pub up : b ≤ r .next
+  pub inside : r .next ≤ b + length u
+
 abbrev pub gapAnswer : Gap → Answer Doc
 gapAnswer (Passed r) = got (docOf (r .doc)) (r .next)
 gapAnswer (NoGap l) = lost l
@@ -167,6 +181,11 @@ BlankAt r b u c = SkipsAt whitespace0 (Next r) b u c
 -- `preceded` by blanks
 abbrev pub behind-blanks : {A : Type 0} → Parser A → Parser A
 behind-blanks p = whitespace0 >> p
+
+-- a word from an offset c of a part
+pub record WordAt (m : Parser Word) (r : Step) (b : ℕ) (u : List ℕ) (c : ℕ) : Type 0 where
+  pub at : Rest b u c (drop (c - b) u)
+  pub reads : wordReply r c (drop (c - b) u) ≡ m c (drop (c - b) u)
 
 -- an integer from an offset c of a part
 pub record NumberAt (m : Parser ℕ) (r : Number) (b : ℕ) (u : List ℕ) (c : ℕ) : Type 0 where

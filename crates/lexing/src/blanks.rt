@@ -6,8 +6,8 @@ ghost use lib.ListN.{length, drop, getD};
 ghost use Rattle.lexing.specs.bytes.{slash, isSpace, inLine, takeWhile};
 ghost use Rattle.lexing.specs.integers.{u64-max};
 ghost use Rattle.lexing.specs.blanks.{until-close, whitespace-group, one-blank, whitespace1};
-ghost use Rattle.lexing.specs.inner.blanks.{isClose, endUntil, docBy, turnReply};
-ghost use Rattle.lexing.specs.answers.{groupReply, docOf, BlankTo, gapReply, gapLost};
+ghost use Rattle.lexing.specs.inner.blanks.{isClose, endUntil, turnReply};
+ghost use Rattle.lexing.specs.answers.{groupReply, docOf, BlankTo, docBy, RunTo, gapReply, gapLost};
 use crate::answers::Lost;
 use crate::bytes::is_in_line;
 use crate::bytes::is_space;
@@ -48,11 +48,11 @@ enum End {
     Open,
 }
 
-// A run of blanks so far: the offset behind it, and the offset and the length of the doc comment's text, offset 0 where there is none.
-struct Run {
-    next: usize,
-    doc: usize,
-    size: usize,
+// A run of blanks in plain numbers: the offset behind it, and the offset and the length of the doc comment's text, offset 0 where there is none.
+pub struct Run {
+    pub next: usize,
+    pub doc: usize,
+    pub size: usize,
 }
 
 // One turn of a run of blanks.
@@ -220,12 +220,22 @@ fn doc_by(doc: usize, size: usize) -> DocSpan
     DocSpan::At(doc, size)
 }
 
+// A run as an answer.
+fn blank_by(r: Run) -> Blank
+    ensures { λ x. ⌜ (x .next ≡ r .next) × (docOf (x .doc) ≡ docBy (r .doc) (r .size)) ⌝ }
+{
+    Blank {
+        next: r.next,
+        doc: doc_by(r.doc, r.size),
+    }
+}
+
 // Blanks from behind the white space at the front on: comments with the white space behind each. The run is carried in plain numbers, since
 // an enum in it would be copied at each turn.
-fn more_blanks(part: &[u8], base: usize, from: usize) -> Blank
+fn more_blanks(part: &[u8], base: usize, from: usize) -> Run
     requires { ⌜ base + length (now part) ≤ u64-max ⌝ }
     requires { ⌜ from ≡ base + length (takeWhile isSpace (now part)) ⌝ }
-    ensures { λ r. ⌜ BlankTo r base (now (part .entry)) ⌝ }
+    ensures { λ r. ⌜ RunTo r base (now (part .entry)) ⌝ }
 {
     let mut b = Run {
         next: from,
@@ -235,10 +245,7 @@ fn more_blanks(part: &[u8], base: usize, from: usize) -> Blank
     loop {
         let t = one_blank(part, base, b);
         let Turn::Again(c) = t else {
-            return Blank {
-                next: b.next,
-                doc: doc_by(b.doc, b.size),
-            };
+            return b;
         };
         b = Run {
             next: skip_white(part, base, c.next),
@@ -249,19 +256,20 @@ fn more_blanks(part: &[u8], base: usize, from: usize) -> Blank
 }
 
 // Any number of blanks, without a test for the common cases first. It is called at several places, so that it stays a function of its own and what is left
-// of its callers, `whitespace0` and the steps behind blanks, is short.
-pub fn blank_run(part: &[u8], base: usize) -> Blank
+// of its callers, `whitespace0` and the steps behind blanks, is short. It answers in plain numbers, since an enum that a call has just written is slow to copy.
+pub fn blank_run(part: &[u8], base: usize) -> Run
     requires { ⌜ base + length (now part) ≤ u64-max ⌝ }
-    ensures { λ r. ⌜ BlankTo r base (now (part .entry)) ⌝ }
+    ensures { λ r. ⌜ RunTo r base (now (part .entry)) ⌝ }
 {
     let n = white_length(part);
     let next = base + n;
     if peek(part, n) == b'/' {
         return more_blanks(part, base, next);
     }
-    Blank {
+    Run {
         next,
-        doc: DocSpan::Absent,
+        doc: 0,
+        size: 0,
     }
 }
 
@@ -278,7 +286,7 @@ pub fn whitespace0(part: &[u8], base: usize) -> Blank
         };
     }
     if x != b' ' {
-        return blank_run(part, base);
+        return blank_by(blank_run(part, base));
     }
     if b'/' < peek(part, 1) {
         return Blank {
@@ -286,7 +294,7 @@ pub fn whitespace0(part: &[u8], base: usize) -> Blank
             doc: DocSpan::Absent,
         };
     }
-    blank_run(part, base)
+    blank_by(blank_run(part, base))
 }
 
 // At least one blank.

@@ -16,8 +16,8 @@ use crate::steps::blank_at;
 use crate::steps::gap_at;
 use crate::steps::integer_behind;
 use crate::steps::tag_behind;
+use crate::words::id_at;
 use crate::words::keyword;
-use crate::words::parse_id;
 use crate::words::tag;
 
 // Where a name starts and ends, and the offset behind all that was read.
@@ -35,13 +35,13 @@ pub fn named_lost(r: Named) -> Lost
     }
 }
 
-// Blanks and a name.
-fn blank_word(part: &[u8], base: usize) -> Named
-    requires { ⌜ base + length (now part) ≤ u64-max ⌝ }
-    ensures { λ r. ⌜ NamedTo blank-word r base (now (part .entry)) ⌝ }
+// Blanks and a name, from an offset of a part.
+pub fn word_behind(part: &[u8], base: usize, c: usize) -> Named
+    requires { ⌜ ((base ≤ c) × (c ≤ base + length (now part))) × (base + length (now part) ≤ u64-max) ⌝ }
+    ensures { λ r. ⌜ NamedAt blank-word r base (now (part .entry)) c ⌝ }
 {
-    let c1 = blank_at(part, base, base);
-    let name = parse_id(rest_at(part, base, c1), c1);
+    let c1 = blank_at(part, base, c);
+    let name = id_at(part, base, c1);
     let Step::Next(c2) = name else {
         return Named::NoName(step_lost(name));
     };
@@ -49,34 +49,19 @@ fn blank_word(part: &[u8], base: usize) -> Named
 }
 
 // At least one blank and a name.
-fn gap_word(part: &[u8], base: usize) -> Named
-    requires { ⌜ base + length (now part) ≤ u64-max ⌝ }
-    ensures { λ r. ⌜ NamedTo gap-word r base (now (part .entry)) ⌝ }
-{
-    let gap = gap_at(part, base, base);
-    let Step::Next(c1) = gap else {
-        return Named::NoName(step_lost(gap));
-    };
-    let name = parse_id(rest_at(part, base, c1), c1);
-    let Step::Next(c2) = name else {
-        return Named::NoName(step_lost(name));
-    };
-    Named::Name(c1, c2, c2)
-}
-
-// Both from an offset of a part.
-pub fn word_behind(part: &[u8], base: usize, c: usize) -> Named
-    requires { ⌜ ((base ≤ c) × (c ≤ base + length (now part))) × (base + length (now part) ≤ u64-max) ⌝ }
-    ensures { λ r. ⌜ NamedAt blank-word r base (now (part .entry)) c ⌝ }
-{
-    blank_word(rest_at(part, base, c), c)
-}
-
 pub fn word_apart(part: &[u8], base: usize, c: usize) -> Named
     requires { ⌜ ((base ≤ c) × (c ≤ base + length (now part))) × (base + length (now part) ≤ u64-max) ⌝ }
     ensures { λ r. ⌜ NamedAt gap-word r base (now (part .entry)) c ⌝ }
 {
-    gap_word(rest_at(part, base, c), c)
+    let gap = gap_at(part, base, c);
+    let Step::Next(c1) = gap else {
+        return Named::NoName(step_lost(gap));
+    };
+    let name = id_at(part, base, c1);
+    let Step::Next(c2) = name else {
+        return Named::NoName(step_lost(name));
+    };
+    Named::Name(c1, c2, c2)
 }
 
 // A keyword and the name behind it.
@@ -92,7 +77,7 @@ pub fn keyword_name(part: &[u8], base: usize, key: &[u8]) -> Named
     let Step::Next(c2) = gap else {
         return Named::NoName(step_lost(gap));
     };
-    let name = parse_id(rest_at(part, base, c2), c2);
+    let name = id_at(part, base, c2);
     let Step::Next(c3) = name else {
         return Named::NoName(step_lost(name));
     };
@@ -165,7 +150,7 @@ pub fn type_behind(part: &[u8], base: usize) -> Named
         return Named::NoName(step_lost(colon));
     };
     let c2 = blank_at(part, base, c1);
-    let name = parse_id(rest_at(part, base, c2), c2);
+    let name = id_at(part, base, c2);
     let Step::Next(c3) = name else {
         return Named::NoName(step_lost(name));
     };

@@ -1,12 +1,11 @@
 // Words, keywords and tags.
 ghost use mathlib.Core.Path.{_≡_};
-ghost use Prim.Native.Nat.{_+_, _≤_};
+ghost use Prim.Native.Nat.{_+_, _-_, _≤_};
 ghost use lib.ListN.{length};
-ghost use Rattle.lexing.specs.bytes.{isWord, takeWhile};
 ghost use Rattle.lexing.specs.integers.{u64-max};
 ghost use Rattle.lexing.specs.words.{parse-id, keyword, tag};
-ghost use Rattle.lexing.specs.answers.{wordReply, tagReply};
-ghost use Rattle.lexing.specs.inner.words.{isKeyByte, HasKey};
+ghost use Rattle.lexing.specs.answers.{wordReply, WordAt, tagReply};
+ghost use Rattle.lexing.specs.inner.words.{wordEnd, isKeyByte, HasKey};
 use crate::answers::Lost;
 use crate::answers::Step;
 use crate::bytes::is_between;
@@ -16,11 +15,12 @@ use crate::eights::eight_at;
 use crate::eights::non_letters;
 use crate::parts::peek;
 
-// How many letters stand at the front, counted eight at a time; bytes of a word may follow.
-fn letters(part: &[u8]) -> usize
-    ensures { λ r. ⌜ r ≤ length (takeWhile isWord (now (part .entry))) ⌝ }
+// The place behind the letters from a place on, which are passed eight at a time; bytes of a word may follow.
+fn letters(part: &[u8], from: usize) -> usize
+    requires { ⌜ from ≤ length (now part) ⌝ }
+    ensures { λ r. ⌜ (r ≤ length (now (part .entry))) × (wordEnd (now (part .entry)) from ≡ wordEnd (now (part .entry)) r) ⌝ }
 {
-    let mut i = 0;
+    let mut i = from;
     while 8 <= part.len() - i {
         let m = non_letters(eight_at(part, i));
         if m != 0 {
@@ -31,10 +31,10 @@ fn letters(part: &[u8]) -> usize
     i
 }
 
-// How many bytes of a word stand at the front, where the first n are such bytes.
+// The place behind the bytes of a word from a place on, which are passed one by one.
 fn word_tail(part: &[u8], n: usize) -> usize
-    requires { ⌜ n ≤ length (takeWhile isWord (now part)) ⌝ }
-    ensures { λ r. ⌜ r ≡ length (takeWhile isWord (now (part .entry))) ⌝ }
+    requires { ⌜ n ≤ length (now part) ⌝ }
+    ensures { λ r. ⌜ r ≡ wordEnd (now (part .entry)) n ⌝ }
 {
     let mut i = n;
     while i < part.len() {
@@ -46,33 +46,43 @@ fn word_tail(part: &[u8], n: usize) -> usize
     i
 }
 
-// How many bytes of a word stand at the front.
-fn word_length(part: &[u8]) -> usize
-    ensures { λ r. ⌜ r ≡ length (takeWhile isWord (now (part .entry))) ⌝ }
+// The same, with the letters passed first.
+fn word_end(part: &[u8], i: usize) -> usize
+    requires { ⌜ i ≤ length (now part) ⌝ }
+    ensures { λ r. ⌜ r ≡ wordEnd (now (part .entry)) i ⌝ }
 {
-    word_tail(part, letters(part))
+    word_tail(part, letters(part, i))
 }
 
-// The word at the front, of n bytes.
-fn word_by_size(part: &[u8], base: usize, n: usize) -> Step
-    requires { ⌜ base + length (now part) ≤ u64-max ⌝ }
-    requires { ⌜ n ≡ length (takeWhile isWord (now part)) ⌝ }
-    ensures { λ r. ⌜ wordReply r base (now (part .entry)) ≡ parse-id base (now (part .entry)) ⌝ }
+// The word at an offset of a part, where it ends at place e.
+fn word_by_end(part: &[u8], base: usize, c: usize, e: usize) -> Step
+    requires { ⌜ ((base ≤ c) × (c ≤ base + length (now part))) × (base + length (now part) ≤ u64-max) ⌝ }
+    requires { ⌜ e ≡ wordEnd (now part) (c - base) ⌝ }
+    ensures { λ r. ⌜ WordAt parse-id r base (now (part .entry)) c ⌝ }
 {
-    if n == 0 {
-        return Step::Not(Lost::Fail(base));
+    let i = c - base;
+    if e == i {
+        return Step::Not(Lost::Fail(c));
     }
-    if is_digit(part[0]) {
-        return Step::Not(Lost::Fail(base));
+    if is_digit(part[i]) {
+        return Step::Not(Lost::Fail(c));
     }
-    Step::Next(base + n)
+    Step::Next(base + e)
+}
+
+// A name at an offset of a part. No slice of the rest is made for it.
+pub fn id_at(part: &[u8], base: usize, c: usize) -> Step
+    requires { ⌜ ((base ≤ c) × (c ≤ base + length (now part))) × (base + length (now part) ≤ u64-max) ⌝ }
+    ensures { λ r. ⌜ WordAt parse-id r base (now (part .entry)) c ⌝ }
+{
+    word_by_end(part, base, c, word_end(part, c - base))
 }
 
 pub fn parse_id(part: &[u8], base: usize) -> Step
     requires { ⌜ base + length (now part) ≤ u64-max ⌝ }
     ensures { λ r. ⌜ wordReply r base (now (part .entry)) ≡ parse-id base (now (part .entry)) ⌝ }
 {
-    word_by_size(part, base, word_length(part))
+    id_at(part, base, base)
 }
 
 // Whether a byte is one of a word and, in lower case, the keyword's byte k. Where k is a constant, all but the comparisons of x are known.
@@ -123,7 +133,7 @@ pub fn keyword(part: &[u8], base: usize, key: &[u8]) -> Step
     if is_word(peek(part, n)) {
         return Step::Not(Lost::Fail(base));
     }
-    word_by_size(part, base, n)
+    word_by_end(part, base, base, n)
 }
 
 // One given byte.

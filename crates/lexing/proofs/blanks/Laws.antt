@@ -12,13 +12,12 @@ use borrow.Author.Tests.{eq-eqb, ne-eqb, eqb-true}
 use Rattle.lexing.specs.bytes.{slash, star, isSpace, inLine, takeWhile, dropWhile}
 use Rattle.lexing.specs.reply.{ok, fail, ret, _>>=_, catch, keep, position, failAt, pick}
 use Rattle.lexing.specs.blanks.{Whitespace, white, plain, doc-comment, line-comment, Until, found, never, one-more, until-close, comment-kind, closed, block-comment, multispace1, whitespace-group, Doc, no-doc, doc-at, after, one-blank, whitespace0, whitespace1}
-use Rattle.lexing.specs.answers.{Rest, LacksIf, groupReply, blankReply, BlankTo, docOf}
-use Rattle.lexing.specs.inner.blanks.{isClose, endUntil, docBy, turnReply}
+use Rattle.lexing.specs.answers.{Rest, LacksIf, groupReply, blankReply, BlankTo, docOf, docBy, RunTo}
+use Rattle.lexing.specs.inner.blanks.{isClose, endUntil, turnReply}
 use Rattle.lexing.specs.declared.blanks.End.{End}
 use Rattle.lexing.specs.declared.blanks.End.the-variants.{Closed, Open}
 use Rattle.lexing.specs.declared.blanks.Group.{Group}
 use Rattle.lexing.specs.declared.blanks.Group.the-variants.{Nothing, White, Plain, DocComment}
-use Rattle.lexing.specs.declared.blanks.DocSpan.{DocSpan}
 use Rattle.lexing.specs.declared.blanks.DocSpan.the-variants.{Absent}
 use Rattle.lexing.specs.declared.blanks.Blank.{Blank}
 use Rattle.lexing.specs.declared.blanks.Run.{Run}
@@ -377,18 +376,25 @@ module _ (b : ℕ) (u : List ℕ) (t : Run) (i : BlanksAt b u t) (r : Turn) (h :
         let w = white-passed b u (c .next) _ (blanks-comment .0) n k in
         (record { run = w .run; behind = w .behind }, omega (arith, blanks-comment .1, w .up))
 
-  pub blanks-end : (d : DocSpan) → docOf d ≡ docBy (t .doc) (t .size) → r ≡ Done → BlankTo (record { next = t .next; doc = d }) b u
+  pub blanks-end : r ≡ Done → RunTo t b u
   unfolding keep whitespace0
-  blanks-end d k e = record { reads = rw k (iter-ends one-blank-consumes (i .run) (t .next) (sym (turned Done e))); up = i .run .from; inside = i .run .inside }
+  blanks-end e = record { reads = iter-ends one-blank-consumes (i .run) (t .next) (sym (turned Done e)); up = i .run .from; inside = i .run .inside }
+
+-- a run as an answer; one without a doc comment
+pub run-blank : {t : Run} {b : ℕ} {u : List ℕ} → RunTo t b u → (x : Blank) → x .next ≡ t .next → docOf (x .doc) ≡ docBy (t .doc) (t .size) → BlankTo x b u
+run-blank h x n d = record { reads = rw (n, d) (h .reads); up = rw n (h .up); inside = rw n (h .inside) }
+
+without-doc : {n b : ℕ} {u : List ℕ} → RunTo (record { next = n; doc = 0; size = 0 }) b u → BlankTo (record { next = n; doc = Absent }) b u
+without-doc {n} h = run-blank h (record { next = n; doc = Absent }) refl refl
 
 -- white space alone
-pub blanks-alone : (b : ℕ) (u : List ℕ) (n : ℕ) → n ≡ length (takeWhile isSpace u) → (x : ℕ) → x ≡ getD u n 0 → (x ≡ slash → ⊥) → BlankTo (record { next = b + n; doc = Absent }) b u
+pub blanks-alone : (b : ℕ) (u : List ℕ) (n : ℕ) → n ≡ length (takeWhile isSpace u) → (x : ℕ) → x ≡ getD u n 0 → (x ≡ slash → ⊥) → RunTo (record { next = b + n; doc = 0; size = 0 }) b u
 blanks-alone b u n e x ex ne =
     let i = blanks-start b u (b + n) (ap (λ (m : ℕ). b + m) e) in
     let q = rest-from b (b + n) u (i .run .from) (i .run .inside) in
     let z : b + n - b ≡ n = omega arith in
     let y : x ≡ getD (drop (b + n - b) u) 0 0 = ex ∙ sym (first-of (b + n - b) u ∙ ap (λ (m : ℕ). getD u m 0) z) in
-    blanks-end b u (record { next = b + n; doc = 0; size = 0 }) i Done (turn-other b u (b + n) (drop (b + n - b) u) q no-doc (i .behind) x y ne) Absent refl refl
+    blanks-end b u (record { next = b + n; doc = 0; size = 0 }) i Done (turn-other b u (b + n) (drop (b + n - b) u) q no-doc (i .behind) x y ne) refl
 
 -- no byte above the slash starts a blank, and behind a single space none ends the run
 above-slash : (x : ℕ) → slash < x → isSpace x ≡ false
@@ -396,7 +402,7 @@ unfolding isSpace
 above-slash x h = rw (ne-eqb x 32 (λ e. omega (arith, e)), ne-eqb x 9 (λ e. omega (arith, e)), ne-eqb x 10 (λ e. omega (arith, e)), ne-eqb x 13 (λ e. omega (arith, e))) refl
 
 pub blanks-none : (b : ℕ) (u : List ℕ) (x : ℕ) → x ≡ getD u 0 0 → slash < x → BlankTo (record { next = b; doc = Absent }) b u
-blanks-none b u x e h = let z : b + 0 ≡ b = omega arith in rw z at (blanks-alone b u 0 (no-run u (rw e at h)) x e (λ q. omega arith))
+blanks-none b u x e h = let z : b + 0 ≡ b = omega arith in rw z at (without-doc (blanks-alone b u 0 (no-run u (rw e at h)) x e (λ q. omega arith)))
   where
     no-run : (u : List ℕ) → slash < getD u 0 0 → 0 ≡ length (takeWhile isSpace u)
     no-run [] h = absurd (omega arith)
@@ -404,7 +410,7 @@ blanks-none b u x e h = let z : b + 0 ≡ b = omega arith in rw z at (blanks-alo
 
 pub blanks-one : (b : ℕ) (u : List ℕ) (x y : ℕ) → x ≡ getD u 0 0 → y ≡ getD u 1 0 → x ≡ 32 → slash < y → BlankTo (record { next = b + 1; doc = Absent }) b u
 unfolding isSpace
-blanks-one b u x y ex ey e h = blanks-alone b u 1 (one-space u (sym ex ∙ e) (rw ey at h)) y ey (λ q. omega arith)
+blanks-one b u x y ex ey e h = without-doc (blanks-alone b u 1 (one-space u (sym ex ∙ e) (rw ey at h)) y ey (λ q. omega arith))
   where
     one-space : (u : List ℕ) → getD u 0 0 ≡ 32 → slash < getD u 1 0 → 1 ≡ length (takeWhile isSpace u)
     one-space [] e h = absurd (omega arith)

@@ -57,7 +57,7 @@ radix-pos false = omega arith
 -- the digits that a loop has passed, with their value
 pub record DigitsAt (h : Bool) (u : List ℕ) (v i : ℕ) : Type 0 where
   pub fits : v ≤ u64-max
-  pub run : RunAt (digitTest h) u i
+  pub run : RunAt (digitTest h) u (length (takeWhile (digitTest h) u)) i
   pub left : number (radix h) v (takeWhile (digitTest h) (drop i u)) ≡ number (radix h) 0 (takeWhile (digitTest h) u)
 
 pub digits-start : (h : Bool) (u : List ℕ) → DigitsAt h u 0 0

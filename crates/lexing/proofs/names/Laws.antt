@@ -1,14 +1,14 @@
 -- Names and codes as steps of a sequence.
 use mathlib.Core.Path.{_≡_, refl, sym, ap, _∙_, subst}
 use mathlib.Core.List.{List}
-use Prim.Native.Nat.{ℕ, _+_, _-_, _≤_, _<_}
+use Prim.Native.Nat.{ℕ, _-_, _≤_, _<_}
 use native.Mathlib.Omega.{arith}
-use lib.ListN.{length, drop}
+use lib.ListN.{drop}
 use Rattle.lexing.specs.reply.{Parser, ok, _>>_}
 use Rattle.lexing.specs.words.{Word, parse-id}
 use Rattle.lexing.specs.integers.{positive-integer}
 use Rattle.lexing.specs.blanks.{whitespace0}
-use Rattle.lexing.specs.answers.{Rest, lostReply, numberLost, numberReply, NameIn, NumberAt, wordBetween}
+use Rattle.lexing.specs.answers.{Rest, lostReply, numberLost, numberReply, NameIn, NumberAt, wordAt, wordBetween}
 use Rattle.lexing.specs.declared.answers.Lost.{Lost}
 use Rattle.lexing.specs.declared.integers.Number.{Number}
 use Rattle.lexing.specs.declared.integers.Number.the-variants.{Value, NoNumber}
@@ -18,7 +18,7 @@ use Rattle.lexing.proofs.Slicing.{Took, took, on, walks, rebase, told-v
 use Rattle.lexing.specs.names.{NamedIn, NamedTo, NamedAt, namedLost, blank-word, gap-word, keyword-name, name-behind, named-after, keyword-number, type-behind, equals-code}
 use Rattle.lexing.specs.declared.names.Named.{Named}
 use Rattle.lexing.specs.declared.names.Named.the-variants.{Name, NoName}
-use Rattle.lexing.proofs.AnswerLaws.{read-within, read-took, read-lost}
+use Rattle.lexing.proofs.AnswerLaws.{read-is, read-not, read-within, read-took, read-lost}
 use Rattle.lexing.proofs.Composed.{onward-ret, onward-bind, onward-then}
 use Rattle.lexing.proofs.WordBetween.{word-moved}
 
@@ -101,14 +101,21 @@ module _ {b n : ℕ} {u : List ℕ} {m : Parser ℕ} where
     pub number-at-not : {l l' : Lost} → l' ≡ numberLost a → a ≡ NoNumber l → NumberAt m (NoNumber l') b u n
     number-at-not e d = record { at = h .at; reads = number-at-lost e d }
 
--- a name from an offset of a part: read there, taken and lost
-module _ {b n : ℕ} {u : List ℕ} {m : Parser Word} {a : Named} where
-  pub named-at : {r : List ℕ} → Rest b u n r → NamedTo m a n r → NamedAt m a b u n
-  named-at q h = record { at = record { from = q .from; same = refl; size = ap (λ v. n + length v) (sym (q .same)) ∙ q .size }; named = subst (λ v. NamedTo m a n v) (q .same) h }
+-- a name from an offset of a part: taken, and lost
+module _ {b n : ℕ} {u : List ℕ} {m : Parser Word} {a : Named} (h : NamedAt m a b u n) where
+  pub named-at-took : {x e c : ℕ} → a ≡ Name x e c → Onward m → Took m b u n (wordBetween b u x e) c
+  named-at-took d w = named-took (h .named) d w (h .at)
 
-  module _ (h : NamedAt m a b u n) where
-    pub named-at-took : {x e c : ℕ} → a ≡ Name x e c → Onward m → Took m b u n (wordBetween b u x e) c
-    named-at-took d w = named-took (h .named) d w (h .at)
+  pub named-at-lost : {l l' : Lost} → l' ≡ namedLost a → a ≡ NoName l → lostReply l' ≡ m n (drop (n - b) u)
+  named-at-lost e d = read-lost (h .named) d namedLost e refl
 
-    pub named-at-lost : {l l' : Lost} → l' ≡ namedLost a → a ≡ NoName l → lostReply l' ≡ m n (drop (n - b) u)
-    named-at-lost e d = read-lost (h .named) d namedLost e refl
+-- read there: a word behind a step that was read
+module _ {b n : ℕ} {u : List ℕ} (q : Rest b u n (drop (n - b) u)) {A : Type 0} where
+  pub name-missed : (k : Parser A) (l : Lost) → lostReply l ≡ (k >> parse-id) n (drop (n - b) u) → NamedAt (k >> parse-id) (NoName l) b u n
+  name-missed k l e = record { at = q; named = read-not l refl tt e }
+
+  pub name-read : {k : Parser A} {a : A} {c e : ℕ} → Took k b u n a c → Took parse-id b u c (wordAt c (drop (c - b) u) e) e → NamedAt (k >> parse-id) (Name c e e) b u n
+  name-read {c = c} {e = e} t s =
+      let w = ap (λ (x : Word). ok x e (drop (e - n) (drop (n - b) u))) (word-moved b n u (drop (n - b) u) c e q (t .up)) in
+      let r = ap (λ (v : List ℕ). ok (wordBetween b u c e) e v) (rebase b n e u (q .from) (omega (arith, t .up, s .up))) in
+      record { at = q; named = read-is refl (w ∙ (r ∙ on parse-id t (sym (s .goes)))) (record { from = t .up; up = s .up; inside = omega arith }, name-more s) }

@@ -12,12 +12,13 @@ use Rattle.lexing.specs.reply.{ok, Parser, ret, _>>=_, _>>_, position, f
 use Rattle.lexing.specs.words.{keyword, tag}
 use Rattle.lexing.specs.integers.{positive-integer}
 use Rattle.lexing.specs.blanks.{Doc, no-doc, whitespace0, whitespace1}
-use Rattle.lexing.specs.answers.{Rest, BlankTo, docOf, lostOf, lostReply, numberAnswer, numberLost, numberReply, tagReply, wordReply, Skips, SkipsAt, BlankAt, NumberAt}
+use Rattle.lexing.specs.answers.{Rest, BlankTo, docOf, docBy, RunTo, lostOf, lostReply, numberAnswer, numberLost, numberReply, tagReply, wordReply, Skips, SkipsAt, BlankAt, NumberAt}
 use Rattle.lexing.specs.declared.answers.Lost.{Lost}
 use Rattle.lexing.specs.declared.answers.Lost.the-variants.{Fail}
 use Rattle.lexing.specs.declared.answers.Step.{Step}
 use Rattle.lexing.specs.declared.answers.Step.the-variants.{Next, Not}
 use Rattle.lexing.specs.declared.blanks.Blank.{Blank}
+use Rattle.lexing.specs.declared.blanks.Run.{Run}
 use Rattle.lexing.specs.declared.blanks.DocSpan.the-variants.{Absent}
 use Rattle.lexing.specs.declared.integers.Number.{Number}
 use Rattle.lexing.specs.declared.integers.Number.the-variants.{Value, NoNumber}
@@ -49,6 +50,9 @@ module _ {b c : ℕ} {u r : List ℕ} (q : Rest b u c r) where
 
   pub blank-is : {t : Blank} → BlankTo t c r → BlankAt (t .next) b u c
   blank-is h = skips-at (blank-skips h)
+
+  pub run-is : {t : Run} → RunTo t c r → BlankAt (t .next) b u c
+  run-is {t} h = skips-at (record { value = docBy (t .doc) (t .size); reads = h .reads })
 
   module _ {n : ℕ} (h : Skips whitespace0 (Next n) c r) where
     pub gap-is : (n ≡ c → ⊥) → SkipsAt whitespace1 (Next n) b u c

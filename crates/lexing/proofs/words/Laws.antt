@@ -11,12 +11,17 @@ use lib.ListN.{length, drop, getD}
 use borrow.Author.Count.{below-none, below-more}
 use borrow.Author.Tests.{eq-eqb, ne-eqb, eqb-false, le-leb, ltb-true, ltb-false}
 use Rattle.lexing.specs.bytes.{within, isLetter, isDigit, isWord, lower, takeWhile, dropWhile}
-use Rattle.lexing.specs.reply.{Reply, ok, fail, stop, ret, _>>=_, position, failAt, pick}
+use Rattle.lexing.specs.reply.{Reply, ok, fail, stop, Parser, ret, _>>=_, position, failAt, pick}
 use Rattle.lexing.specs.words.{Word, word, bytesOf, parse-id, isKeyword, keyword, tag}
-use Rattle.lexing.specs.answers.{wordAt}
+use Rattle.lexing.specs.answers.{Rest, lostOf, lostReply, wordAt, wordReply, WordAt}
 use Rattle.lexing.specs.inner.eights.{pack, bytesFrom, failing, isAlpha}
-use Rattle.lexing.specs.inner.words.{isKeyByte, Agree, KeyAt, HasKey}
-use Rattle.lexing.proofs.Scans.{take-run, drop-run, run-cons, run-le, run-byte, run-stops, run-passes, RunAt, runs-on, runs-le}
+use Rattle.lexing.specs.inner.words.{wordEnd, isKeyByte, Agree, KeyAt, HasKey}
+use Rattle.lexing.specs.declared.answers.Lost.{Lost}
+use Rattle.lexing.specs.declared.answers.Lost.the-variants.{Fail}
+use Rattle.lexing.specs.declared.answers.Step.{Step}
+use Rattle.lexing.specs.declared.answers.Step.the-variants.{Next, Not}
+use Rattle.lexing.proofs.Scans.{first-of, take-run, drop-run, run-cons, run-le, run-byte, run-stops, run-passes, RunAt, runs-on}
+use Rattle.lexing.proofs.Slicing.{Took, rest-from, word-took, step-lost}
 use Rattle.lexing.proofs.eights.Laws.{Bytes, no-bits, passing}
 use Rattle.lexing.proofs.Tests.{eq-of, and-left, and-right, false-if, within-of, digit-no-letter}
 
@@ -235,15 +240,12 @@ module _ (x k : ℕ) where
         go false q = q ∙ no-key (λ l w. none (eqb-false x (k - 32) q) l (lower-either x))
 
 -- the letters at the front of eight bytes, told by the number of the bytes
-module _ (u : List ℕ) (i w m : ℕ) (b : Bytes (λ j. getD u j 0)) (e : w ≡ pack 8 (bytesFrom u i)) (d : m ≡ failing isAlpha w) (le : i + 8 ≤ length u) (r : RunAt isWord u i) where
-  letters-at : RunAt isWord u (i + trailingZeros 64 m / 8)
-  letters-at = runs-on isWord u i r (trailingZeros 64 m / 8) (omega (arith, trailing-le 64 m)) (λ j h. alpha-word _ (passing isAlpha u i w m b e d j h))
+module _ (u : List ℕ) (i w m : ℕ) (b : Bytes (λ j. getD u j 0)) (e : w ≡ pack 8 (bytesFrom u i)) (d : m ≡ failing isAlpha w) (le : i + 8 ≤ length u) {to : ℕ} (r : RunAt isWord u to i) where
+  pub letters-some : RunAt isWord u to (i + trailingZeros 64 m / 8)
+  letters-some = runs-on isWord u i r (trailingZeros 64 m / 8) (omega (arith, trailing-le 64 m)) (λ j h. alpha-word _ (passing isAlpha u i w m b e d j h))
 
-  pub letters-some : i + trailingZeros 64 m / 8 ≤ length (takeWhile isWord u)
-  letters-some = runs-le isWord u (i + trailingZeros 64 m / 8) letters-at
-
-  pub letters-all : m ≡ 0 → RunAt isWord u (i + 8)
-  letters-all z = rw (no-bits z) at letters-at
+  pub letters-all : m ≡ 0 → RunAt isWord u to (i + 8)
+  letters-all z = rw (no-bits z) at letters-some
 
 -- a run goes on behind its first n bytes where the next byte is one of it
 run-longer : (u : List ℕ) (n : ℕ) → n ≤ length (takeWhile isWord u) → isWord (getD u n 0) ≡ true → n < length (takeWhile isWord u)
@@ -260,15 +262,45 @@ run-shorter u n e = go (ltb n (length (takeWhile isWord u))) refl
     go true q = absurd (false≢true (sym e ∙ run-passes isWord u n (ltb-true _ _ q)))
     go false q = ltb-false _ _ q
 
--- a word by the length of the run
-pub parse-id-empty : (b n : ℕ) (u : List ℕ) → n ≡ length (takeWhile isWord u) → n ≡ 0 → fail b ≡ parse-id b u
-parse-id-empty b n u h z = parse-id-no b u (false-if _ (λ e. omega (arith, run-longer u 0 zero-le (letter-word _ e))))
+-- a word at an offset, by the place where it ends
+module _ (b c : ℕ) (u : List ℕ) (at : (b ≤ c) × (c ≤ b + length u)) (e : ℕ) (h : e ≡ wordEnd u (c - b)) where
+  rest : Rest b u c (drop (c - b) u)
+  rest = rest-from b c u (at .0) (at .1)
 
-pub parse-id-digit : (b : ℕ) (u : List ℕ) → isDigit (getD u 0 0) ≡ true → fail b ≡ parse-id b u
-parse-id-digit b u d = parse-id-no b u (digit-no-letter _ d)
+  none : isLetter (getD u (c - b) 0) ≡ false → WordAt parse-id (Not (Fail c)) b u c
+  none d = record { at = rest; reads = parse-id-no c (drop (c - b) u) (ap isLetter (first-of (c - b) u) ∙ d) }
 
-pub parse-id-some : (b n : ℕ) (u : List ℕ) → n ≡ length (takeWhile isWord u) → (n ≡ 0 → ⊥) → isDigit (getD u 0 0) ≡ false → ok (wordAt b u (b + n)) (b + n) (drop (b + n - b) u) ≡ parse-id b u
-parse-id-some b n u h some d = parse-id-yes b u n (word-letter _ (run-passes isWord u 0 (omega arith)) d) h
+  pub word-inside : e ≤ length u
+  word-inside = omega (arith, run-le isWord (drop (c - b) u), rest .size)
+
+  pub word-empty : e ≡ c - b → WordAt parse-id (Not (Fail c)) b u c
+  word-empty z = none (false-if _ (λ d. omega (arith, run-longer (drop (c - b) u) 0 zero-le (letter-word _ (ap isLetter (first-of (c - b) u) ∙ d)))))
+
+  pub word-digit : isDigit (getD u (c - b) 0) ≡ true → WordAt parse-id (Not (Fail c)) b u c
+  word-digit d = none (digit-no-letter _ d)
+
+  pub word-some : (e ≡ c - b → ⊥) → isDigit (getD u (c - b) 0) ≡ false → WordAt parse-id (Next (b + e)) b u c
+  word-some some d =
+      let n = length (takeWhile isWord (drop (c - b) u)) in
+      let z : b + e ≡ c + n = omega (arith, at .0) in
+      let w = word-letter _ (run-passes isWord (drop (c - b) u) 0 (pos (c - b) n h some)) (ap isDigit (first-of (c - b) u) ∙ d) in
+      record { at = rest; reads = rw z (parse-id-yes c (drop (c - b) u) n w refl) }
+    where
+      pos : (i n : ℕ) → e ≡ i + n → (e ≡ i → ⊥) → 0 < n
+      pos i zero q k = absurd (k (omega arith))
+      pos i (suc n) q k = omega arith
+
+-- at the part's own offset
+pub word-self : {m : Parser Word} (r : Step) (b : ℕ) (u : List ℕ) → WordAt m r b u b → wordReply r b u ≡ m b u
+word-self r b u h = let z : b - b ≡ 0 = omega arith in rw z at (h .reads)
+
+-- as a step of a sequence: taken, and lost
+module _ {b n : ℕ} {u : List ℕ} {a : Step} where
+  pub word-at-took : {c : ℕ} → a ≡ Next c → WordAt parse-id a b u n → Took parse-id b u n (wordAt n (drop (n - b) u) c) c
+  word-at-took e h = word-took (h .at) e (h .reads)
+
+  pub word-at-lost : {m : Parser Word} {l l' : Lost} → l' ≡ lostOf a → a ≡ Not l → WordAt m a b u n → lostReply l' ≡ m n (drop (n - b) u)
+  word-at-lost e d h = step-lost (wordAt _ _) e d _ _ _ (h .reads)
 
 -- the comparison
 pub key-start : (k u : List ℕ) → length k ≤ length u → KeyAt k u 0
@@ -317,8 +349,11 @@ module _ (k u : List ℕ) (h : KeyAt k u (length k)) where
   key-longer w b = not-keyword k b u λ e. omega (arith, word-agrees _ _ e .0, run-longer u (length k) (h .word) w)
 
   module _ (w : isWord (getD u (length k) 0) ≡ false) where
-    pub key-size : length k ≡ length (takeWhile isWord u)
+    key-size : length k ≡ length (takeWhile isWord u)
     key-size = omega (arith, h .word, run-shorter u (length k) w)
+
+    pub key-end-at : (b : ℕ) → length k ≡ wordEnd u (b - b)
+    key-end-at b = let z : b - b ≡ 0 = omega arith in rw z (omega (arith, key-size))
 
     pub key-whole : (b : ℕ) → parse-id b u ≡ keyword k b u
     key-whole b = go (isLetter (getD u 0 0)) refl

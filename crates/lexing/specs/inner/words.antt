@@ -1,13 +1,17 @@
 -- What the private functions of the readers of words promise.
-use Prim.Native.Nat.{ℕ, _≤_, _<_}
+use Prim.Native.Nat.{ℕ, _+_, _≤_, _<_}
 use mathlib.Core.Path.{_≡_}
 use mathlib.Core.Bool.{Bool, true, false, _&&_}
 use mathlib.Core.List.{List}
 use lib.Dec.{eqb}
-use lib.ListN.{length, getD}
+use lib.ListN.{length, drop, getD}
 use Rattle.lexing.specs.bytes.{isWord, lower, takeWhile}
 use Rattle.lexing.specs.reply.{fail}
 use Rattle.lexing.specs.words.{keyword}
+
+-- the place behind the bytes of a word that stand from place i on
+abbrev pub wordEnd : List ℕ → ℕ → ℕ
+wordEnd u i = i + length (takeWhile isWord (drop i u))
 
 -- a byte of a word that is, in lower case, the keyword's byte k
 unfoldable pub isKeyByte : ℕ → ℕ → Bool

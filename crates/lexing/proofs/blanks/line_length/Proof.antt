@@ -5,11 +5,11 @@ use borrow.Author.Tests.{not-true, not-false}
 use mathlib.Core.Path.{sym, _∙_}
 use Prim.Native.Nat.{_-_}
 use lib.ListN.{length}
-use Rattle.lexing.specs.bytes.{inLine}
+use Rattle.lexing.specs.bytes.{inLine, takeWhile}
 use Rattle.lexing.proofs.Scans.{RunAt, runs-start, runs-more, runs-stop, runs-out}
 
 abbrev Inv-loop : tie.InvT-loop
-Inv-loop part i₀ i = RunAt inLine part i
+Inv-loop part i₀ i = RunAt inLine part (length (takeWhile inLine part)) i
 
 abbrev μ-loop : tie.MeasureT-loop
 μ-loop part i₀ i = length part - i

@@ -24,11 +24,8 @@ enum-known-t c = c .match .keys1
 enum-told : tie.Need-enum-told Inv-loop μ-loop
 enum-told c = c .match .keys2
 
-doc-by-requires : tie.Need-doc-by-requires Inv-loop μ-loop
-doc-by-requires c κs = tt
-
 returns : tie.Need-returns Inv-loop μ-loop
-returns c = blanks-end _ _ _ (c .before .before .before .before .loop .inv) _ (c .before .before .before .one-blank .ensures) _ (c .doc-by .ensures) (c .before .enum-told .given .1)
+returns c = blanks-end _ _ _ (c .before .before .before .loop .inv) _ (c .before .before .one-blank .ensures) (c .enum-told .given .1)
 
 skip-white-requires : tie.Need-skip-white-requires Inv-loop μ-loop
 skip-white-requires c κs = let h = blanks-comment (c .before .before .before .before .before .before .args .base) (now (c .before .before .before .before .before .before .args .part)) _ (c .before .before .before .before .loop .inv) _ (c .before .before .before .one-blank .ensures) _ (c .before .t .given .1) .0 in (h .from, (h .inside, c .before .before .before .before .before .before .pre .0))
@@ -49,7 +46,6 @@ more-blanks-spec =
     one-blank-requires
     enum-known-t
     enum-told
-    doc-by-requires
     returns
     skip-white-requires
     loop-less

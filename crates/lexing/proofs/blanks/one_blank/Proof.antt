@@ -4,7 +4,7 @@ use Rattle.lexing.proofs.blanks.one_blank.Tie as tie
 use mathlib.Core.Path.{sym, _∙_}
 use native.Mathlib.Omega.{arith}
 use denote.Ref.{now}
-use Rattle.lexing.specs.inner.blanks.{docBy}
+use Rattle.lexing.specs.answers.{docBy}
 use Rattle.lexing.proofs.blanks.Laws.{turn-other, turn-done, turn-white, turn-plain, turn-doc, white-fits, plain-fits, doc-fits}
 
 rest-at-requires : tie.Need-rest-at-requires

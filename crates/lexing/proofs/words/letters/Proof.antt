@@ -6,17 +6,18 @@ use Prim.Native.Nat.{_-_}
 use lib.Count.{trailing-le}
 use lib.ListN.{length}
 use Rattle.lexing.specs.bytes.{isWord}
-use Rattle.lexing.proofs.Scans.{RunAt, runs-start, runs-le}
+use Rattle.lexing.specs.inner.words.{wordEnd}
+use Rattle.lexing.proofs.Scans.{RunAt, runs-from}
 use Rattle.lexing.proofs.words.Laws.{letters-some, letters-all}
 
 abbrev Inv-loop : tie.InvT-loop
-Inv-loop part i₀ i = RunAt isWord part i
+Inv-loop part from i₀ i = RunAt isWord part (wordEnd part from) i
 
 abbrev μ-loop : tie.MeasureT-loop
-μ-loop part i₀ i = length part - i
+μ-loop part from i₀ i = length part - i
 
 loop-holds : tie.Need-loop-holds Inv-loop μ-loop
-loop-holds c = runs-start _ _
+loop-holds c = runs-from _ _ _ (c .before .pre)
 
 sub-loop : tie.Need-sub-loop Inv-loop μ-loop
 sub-loop c = omega (arith, c .loop .inv .inside)
@@ -34,7 +35,7 @@ add-result : tie.Need-add-result Inv-loop μ-loop
 add-result c = omega (arith, trailing-le 64 (c .before .non-letters .result))
 
 returns : tie.Need-returns Inv-loop μ-loop
-returns c = letters-some _ _ _ _ (λ j. c .before .before .before .before .before .shared-slice-known .given j .fits) (c .before .before .eight-at .ensures) (c .before .non-letters .ensures) (omega (arith, c .before .before .before .loop-test .taken)) (c .before .before .before .before .loop .inv)
+returns c = let h = letters-some _ _ _ _ (λ j. c .before .before .before .before .before .shared-slice-known .given j .fits) (c .before .before .eight-at .ensures) (c .before .non-letters .ensures) (omega (arith, c .before .before .before .loop-test .taken)) (c .before .before .before .before .loop .inv) in (h .inside, h .left)
 
 add-i : tie.Need-add-i Inv-loop μ-loop
 add-i c = search needs
@@ -46,7 +47,7 @@ loop-again : tie.Need-loop-again Inv-loop μ-loop
 loop-again c = letters-all _ _ _ _ (λ j. c .before .before .before .before .before .shared-slice-known .given j .fits) (c .before .before .eight-at .ensures) (c .before .non-letters .ensures) (omega (arith, c .before .before .before .loop-test .taken)) (c .before .before .before .before .loop .inv) (c .if1 .left)
 
 returns-2 : tie.Need-returns-2 Inv-loop μ-loop
-returns-2 c = runs-le _ _ _ (c .before .loop .inv)
+returns-2 c = (c .before .loop .inv .inside, c .before .loop .inv .left)
 
 pub letters-spec : {M : Type 1} → statement M
 letters-spec =

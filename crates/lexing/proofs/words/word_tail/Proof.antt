@@ -6,10 +6,11 @@ use mathlib.Core.Path.{sym, _∙_}
 use Prim.Native.Nat.{_-_}
 use lib.ListN.{length}
 use Rattle.lexing.specs.bytes.{isWord}
+use Rattle.lexing.specs.inner.words.{wordEnd}
 use Rattle.lexing.proofs.Scans.{RunAt, runs-from, runs-more, runs-stop, runs-out}
 
 abbrev Inv-loop : tie.InvT-loop
-Inv-loop part n i₀ i = RunAt isWord part i
+Inv-loop part n i₀ i = RunAt isWord part (wordEnd part n) i
 
 abbrev μ-loop : tie.MeasureT-loop
 μ-loop part n i₀ i = length part - i
