@@ -1,5 +1,6 @@
 // Clusters: their members, each by the kind that its first word says.
 ghost use mathlib.Core.Path.{_≡_};
+ghost use mathlib.Core.Bool.{cond};
 ghost use mathlib.Core.List.{[], _∷_};
 ghost use Prim.Native.Nat.{_+_, _≤_, _<_};
 ghost use lib.ListN.{length};
@@ -11,6 +12,7 @@ ghost use Rattle.lexing.specs.declared.answers.Step.the-variants.{Next};
 ghost use Rattle.lexing.specs.blanks.{no-doc, whitespace0};
 ghost use Rattle.items.specs.layout.{text-limit, layout-20, catalogue-bytes};
 ghost use Rattle.lexing.specs.buffers.{put, each};
+ghost use Rattle.items.specs.declared.clusters.MemberKind.the-variants.{Command, Event};
 ghost use Rattle.items.specs.inner.clusters.{found, thirdLetterKind, MemberFrom, KindTo, member-try, countRaised, member-behind, members-rest, unhoisted, MemberWritten, MembersWritten, revisionWrote, cluster-first};
 ghost use Rattle.items.specs.entries.{braces};
 ghost use Rattle.items.specs.clusters.{parse-revision, member-tries, parse-cluster-member, cluster-members, side, cluster-after-doc-maturity};
@@ -124,6 +126,17 @@ fn third_letter_kind(y: u8) -> MemberKind
     MemberKind::Struct
 }
 
+// The kind that a first word leaves, where events start with a keyword and commands with others.
+fn event_or_command(part: &[u8], base: usize, key: &[u8]) -> MemberKind
+    requires { ⌜ base + length (now part) ≤ text-limit ⌝ }
+    ensures { λ r. ⌜ r ≡ cond (found (any-keyword (now (key .entry) ∷ []) base (now (part .entry)))) Event Command ⌝ }
+{
+    if starts(part, base, key) {
+        return MemberKind::Event;
+    }
+    MemberKind::Command
+}
+
 // The kind that a first word other than `shared` leaves. Its first letter says it, but for four letters with which words of several kinds begin.
 fn word_kind(part: &[u8], base: usize) -> MemberKind
     requires { ⌜ base + length (now part) ≤ text-limit ⌝ }
@@ -133,27 +146,17 @@ fn word_kind(part: &[u8], base: usize) -> MemberKind
 {
     let x = lower_of(peek(part, 0));
     match x {
-        b'a' => MemberKind::Attribute,
+        b'a' | b'n' | b'w' => MemberKind::Attribute,
         b'b' => MemberKind::Bitmap,
-        b'c' => {
-            if starts(part, base, b"critical") {
-                return MemberKind::Event;
-            }
-            MemberKind::Command
-        }
-        b'd' => MemberKind::Event,
+        b'c' => event_or_command(part, base, b"critical"),
+        b'd' | b'i' => MemberKind::Event,
         b'e' => MemberKind::Enum,
         b'f' => {
             if starts(part, base, b"fabric_scoped") {
                 return MemberKind::Struct;
             }
-            if starts(part, base, b"fabric_sensitive") {
-                return MemberKind::Event;
-            }
-            MemberKind::Command
+            event_or_command(part, base, b"fabric_sensitive")
         }
-        b'i' => MemberKind::Event,
-        b'n' => MemberKind::Attribute,
         b'r' => third_letter_kind(lower_of(peek(part, 2))),
         b's' => MemberKind::Struct,
         b't' => {
@@ -162,7 +165,6 @@ fn word_kind(part: &[u8], base: usize) -> MemberKind
             }
             MemberKind::Command
         }
-        b'w' => MemberKind::Attribute,
         _ => MemberKind::Unknown,
     }
 }

@@ -36,6 +36,7 @@ use lexing::names::Named;
 use lexing::names::code_behind;
 use lexing::names::named_lost;
 use lexing::names::type_behind;
+use lexing::names::word_behind;
 use lexing::parts::peek;
 use lexing::parts::rest_at;
 use lexing::steps::blank_at;
@@ -287,26 +288,25 @@ pub fn event_head(part: &[u8], base: usize) -> EventHeadRead
     let EventQualitiesRead::EventQualities(q, c1) = qualities else {
         return EventHeadRead::NoEventHead(event_qualities_lost(qualities));
     };
-    let c2 = blank_at(part, base, c1);
-    let id = parse_id(rest_at(part, base, c2), c2);
-    let Step::Next(c3) = id else {
-        return EventHeadRead::NoEventHead(step_lost(id));
+    let named = word_behind(part, base, c1);
+    let Named::Name(name, end, c2) = named else {
+        return EventHeadRead::NoEventHead(named_lost(named));
     };
-    let number = code_behind(part, base, c3);
-    let Number::Value(code, c4) = number else {
+    let number = code_behind(part, base, c2);
+    let Number::Value(code, c3) = number else {
         return EventHeadRead::NoEventHead(number_lost(number));
     };
-    let c5 = blank_at(part, base, c4);
+    let c4 = blank_at(part, base, c3);
     EventHeadRead::EventHead(
         EventHeadParts {
             sensitive: q.sensitive,
             rank: q.rank,
             privilege: q.privilege,
-            name: c2,
-            end: c3,
+            name,
+            end,
             code,
         },
-        c5,
+        c4,
     )
 }
 
@@ -347,19 +347,18 @@ pub fn command_head(part: &[u8], base: usize) -> CommandHeadRead
     };
     let access = access_to(rest_at(part, base, c2), c2, b"invoke", 1);
     let c3 = access.next;
-    let c4 = blank_at(part, base, c3);
-    let id = parse_id(rest_at(part, base, c4), c4);
-    let Step::Next(c5) = id else {
-        return CommandHeadRead::NoCommandHead(step_lost(id));
+    let named = word_behind(part, base, c3);
+    let Named::Name(name, end, c4) = named else {
+        return CommandHeadRead::NoCommandHead(named_lost(named));
     };
     CommandHeadRead::CommandHead(
         CommandHeadParts {
             qualities: q.flags,
             privilege: access.level,
-            name: c4,
-            end: c5,
+            name,
+            end,
         },
-        c5,
+        c4,
     )
 }
 

@@ -1,9 +1,9 @@
 -- Members of clusters: which try a first word leaves.
 use mathlib.Core.Path.{_≡_, refl, sym, ap, _∙_, subst}
-use mathlib.Core.Logic.{inl, inr}
+use mathlib.Core.Logic.{_⊎_, inl, inr}
 use mathlib.Core.Bool.{Bool, true, false, cond, _&&_, _||_, true≢false, false≢true}
 use mathlib.Core.Option.{none, some}
-use mathlib.Core.List.{List, [], _∷_}
+use mathlib.Core.List.{List, [], _∷_, _++_}
 use Prim.Native.Nat.{ℕ, zero, suc, _+_, _-_, _*_, _≤_, _<_, max}
 use native.Mathlib.Omega.{arith}
 use borrow.Author.Tests.{eqb-true}
@@ -328,6 +328,37 @@ from-start b u s Unknown = tt
 pub from-kind : {j k : MemberKind} (f b : ℕ) (u : List ℕ) → j ≡ k → MemberFrom j f b u → MemberFrom k f b u
 from-kind f b u e h = subst (λ (x : MemberKind). MemberFrom x f b u) e h
 
+-- a letter is one of those of an arm; it is of none of some arms
+abbrev Among : List ℕ → ℕ → Type 0
+Among [] x = ⊥
+Among (y ∷ []) x = x ≡ y
+Among (y ∷ z ∷ ys) x = (x ≡ y) ⊎ Among (z ∷ ys) x
+
+abbrev NoneAmong : List (List ℕ) → ℕ → Type 0
+NoneAmong [] x = Unit {0}
+NoneAmong (ys ∷ yss) x = NoneAmong yss x × (Among ys x → ⊥)
+
+abbrev joined : List (List ℕ) → List ℕ
+joined [] = []
+joined (ys ∷ yss) = ys ++ joined yss
+
+none-more : (ys zs : List ℕ) (x : ℕ) → (Among ys x → ⊥) → NoneOf zs x → NoneOf (ys ++ zs) x
+none-more [] zs x n m = m
+none-more (y ∷ []) zs x n m = (m, n)
+none-more (y ∷ z ∷ ys) zs x n m = (none-more (z ∷ ys) zs x (λ o. n (inr o)) m, λ e. n (inl e))
+
+none-among : (yss : List (List ℕ)) (x : ℕ) → NoneAmong yss x → NoneOf (joined yss) x
+none-among [] x n = tt
+none-among (ys ∷ yss) x n = none-more ys (joined yss) x (n .1) (none-among yss x (n .0))
+
+-- a first letter leaves no other kind, and so do all of some
+abbrev leaves : MemberKind → ℕ → Bool
+leaves j y = all-of (λ k. same-kind k j || all-out ((0, y) ∷ []) (ascii "shared" ∷ []) (first-words k)) kinds
+
+abbrev each-out : MemberKind → List ℕ → Bool
+each-out j [] = true
+each-out j (y ∷ ys) = leaves j y && each-out j ys
+
 -- the first word leaves the try of its kind
 module _ (b : ℕ) (u : List ℕ) (clear : whitespace0 b u ≡ ok no-doc b u) where
   at-start : (k : MemberKind) → fails-at b b k ≡ b
@@ -351,9 +382,25 @@ module _ (b : ℕ) (u : List ℕ) (clear : whitespace0 b u ≡ ok no-doc b u) wh
   pub at-letters : (j : MemberKind) (ls : List (ℕ × ℕ)) (js : List (List ℕ)) → all-of (λ k. same-kind k j || all-out ls (ascii "shared" ∷ js) (first-words k)) kinds ≡ true → Letters u ls → Frees b u js → keyword (ascii "shared") b u ≡ fail b → KindTo (record { kind = j; floor = b; from = b }) b u
   at-letters j ls js t l f s = at-free j (λ k e. outs-free b u ls l (ascii "shared" ∷ js) (s, f) (first-words k) (rw e at (every (λ k. same-kind k j || all-out ls (ascii "shared" ∷ js) (first-words k)) t k))) s
 
+  -- the first letter is one of some, each of which leaves no other kind
+  pub at-letter : (j : MemberKind) (ys : List ℕ) → each-out j ys ≡ true → (x : ℕ) → Among ys x → lower (getD u 0 0) ≡ x → keyword (ascii "shared") b u ≡ fail b → KindTo (record { kind = j; floor = b; from = b }) b u
+  at-letter j [] t x o h s = absurd o
+  at-letter j (y ∷ []) t x o h s = at-letters j ((0, y) ∷ []) [] (and-left (leaves j y) true t) (h ∙ o, tt) tt s
+  at-letter j (y ∷ z ∷ ys) t x (inl o) h s = at-letters j ((0, y) ∷ []) [] (and-left (leaves j y) (each-out j (z ∷ ys)) t) (h ∙ o, tt) tt s
+  at-letter j (y ∷ z ∷ ys) t x (inr o) h s = at-letter j (z ∷ ys) (and-right (leaves j y) (each-out j (z ∷ ys)) t) x o h s
+
+  -- one of two kinds is left, by whether a word stands there
+  pub at-either : (j j' : MemberKind) (k : List ℕ) (y : ℕ) (js : List (List ℕ)) → all-of (λ i. same-kind i j || disjoint (k ∷ []) (first-words i)) kinds ≡ true → all-of (λ i. same-kind i j' || all-out ((0, y) ∷ []) (ascii "shared" ∷ k ∷ js) (first-words i)) kinds ≡ true
+      → lower (getD u 0 0) ≡ y → Frees b u js → keyword (ascii "shared") b u ≡ fail b → {r : MemberKind} → r ≡ cond (found (any-keyword (k ∷ []) b u)) j j' → KindTo (record { kind = r; floor = b; from = b }) b u
+  at-either j j' k y js t t' h f s e = subst (λ (x : MemberKind). KindTo (record { kind = x; floor = b; from = b }) b u) (sym e) (go (found (any-keyword (k ∷ []) b u)) refl)
+    where
+      go : (x : Bool) → found (any-keyword (k ∷ []) b u) ≡ x → KindTo (record { kind = cond x j j'; floor = b; from = b }) b u
+      go true q = at-word j (k ∷ []) t (starts-any (k ∷ []) b u q) s
+      go false q = at-letters j' ((0, y) ∷ []) (k ∷ js) t' (h, tt) (frees-all (k ∷ []) b u q .0, f) s
+
   -- a first letter with which no kind's words begin
-  pub at-other-letter : (ys : List ℕ) → all-of (λ k. all-begin ys (first-words k)) kinds ≡ true → (x : ℕ) → NoneOf ys x → lower (getD u 0 0) ≡ x → keyword (ascii "shared") b u ≡ fail b → KindTo (record { kind = Unknown; floor = b; from = b }) b u
-  at-other-letter ys t x n h s = at-free Unknown (λ k e. initials-free b u ys x n h (first-words k) (every (λ k. all-begin ys (first-words k)) t k)) s
+  pub at-other-letter : (ys : List (List ℕ)) → all-of (λ k. all-begin (joined ys) (first-words k)) kinds ≡ true → (x : ℕ) → NoneAmong ys x → lower (getD u 0 0) ≡ x → keyword (ascii "shared") b u ≡ fail b → KindTo (record { kind = Unknown; floor = b; from = b }) b u
+  at-other-letter ys t x n h s = at-free Unknown (λ k e. initials-free b u (joined ys) x (none-among ys x n) h (first-words k) (every (λ k. all-begin (joined ys) (first-words k)) t k)) s
 
   pub at-third-letter : (y : ℕ) → lower (getD u 0 0) ≡ byte "r" → lower (getD u 2 0) ≡ y → keyword (ascii "shared") b u ≡ fail b → KindTo (record { kind = thirdLetterKind y; floor = b; from = b }) b u
   unfolding same-bytes

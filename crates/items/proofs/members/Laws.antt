@@ -12,7 +12,7 @@ use Rattle.lexing.specs.bytes.{ascii}
 use Rattle.lexing.specs.reply.{Reply, ok, fail, stop, Parser, ret, _>>=_, _>>_, opt, position, failAt, pick}
 use Rattle.lexing.specs.words.{Word, parse-id, keyword, tag}
 use Rattle.lexing.specs.blanks.{Doc, no-doc, whitespace0, whitespace1}
-use Rattle.lexing.specs.answers.{Rest, lostReply, lostOf, wordAt, wordReply, docOf, wordBetween, Skips, SkipsAt, optionalStep}
+use Rattle.lexing.specs.answers.{Rest, lostReply, lostOf, wordAt, wordReply, docOf, wordBetween, Skips, SkipsAt, optionalStep, NameIn}
 use Rattle.lexing.specs.word_sets.{bit}
 use Rattle.lexing.specs.declared.answers.Lost.{Lost}
 use Rattle.lexing.specs.declared.answers.Lost.the-variants.{Fail, Stop}
@@ -245,12 +245,12 @@ event-headed = record {
 }
 
 -- commands, up to the name
-pub command-head-is : (q z v : ℕ) (o : Option ℕ) (b n c : ℕ) (u : List ℕ) → q < 4 → v < 4 → b ≤ n → n ≤ c → or-else z o ≡ v
-    → ok (record { qualities = q; privilege = or-else z o; id = wordBetween b u n c }) c (drop (c - b) u) ≡ command-head b u → CommandHeadTo (CommandHead (record { qualities = q; privilege = v; name = n; end = c }) c) b u
-command-head-is q z v o b n c u f g h i d e =
+pub command-head-is : (q z v : ℕ) (o : Option ℕ) (b n e c : ℕ) (u : List ℕ) {m : ℕ} → q < 4 → v < 4 → b ≤ m → NameIn m n e c → or-else z o ≡ v
+    → ok (record { qualities = q; privilege = or-else z o; id = wordBetween b u n e }) c (drop (c - b) u) ≡ command-head b u → CommandHeadTo (CommandHead (record { qualities = q; privilege = v; name = n; end = e }) c) b u
+command-head-is q z v o b n e c u f g h w d k =
     record {
-      reads = subst (λ (x : ℕ). ok (record { qualities = q; privilege = x; id = wordBetween b u n c }) c (drop (c - b) u) ≡ command-head b u) d e;
-      within = record { qualities = f; privilege = g; name-from = h; name-to = i; before = omega arith };
+      reads = subst (λ (x : ℕ). ok (record { qualities = q; privilege = x; id = wordBetween b u n e }) c (drop (c - b) u) ≡ command-head b u) d k;
+      within = record { qualities = f; privilege = g; name-from = omega (arith, h, w .from); name-to = w .up; before = w .inside };
     }
 
 -- an optional word; it is absent where it is empty

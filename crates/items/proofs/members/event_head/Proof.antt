@@ -2,16 +2,15 @@ use borrow.Author.Needs.{needs}
 use Rattle.items.proofs.members.event_head.Statement.{statement}
 use Rattle.items.proofs.members.event_head.Tie as tie
 use Rattle.items.specs.members.{event-head}
+use Rattle.lexing.proofs.names.Laws.{named-in, named-at-took, named-at-lost, blank-word-on, code-behind-on, number-at-took, number-at-lost}
 use Rattle.items.proofs.members.Laws.{event-qualities-small}
 use mathlib.Core.Path.{refl}
 use native.Mathlib.Omega.{arith}
-use Rattle.lexing.specs.answers.{wordAt}
-use Rattle.lexing.proofs.Slicing.{walks, rest-self, begin, go, on, lose, done, word-took, step-lost}
+use Rattle.lexing.proofs.Slicing.{walks, rest-self, begin, go, on, lose, done}
 use Rattle.lexing.proofs.AnswerLaws.{read-is, read-not, read-lost, read-took}
-use Rattle.lexing.proofs.Pairs.{four-go, four-lose}
+use Rattle.lexing.proofs.Pairs.{pair-go, pair-lose, four-go, four-lose}
 use Rattle.items.proofs.Locality.{event-qualities-inside}
 use Rattle.lexing.proofs.steps.Laws.{blank-at-took}
-use Rattle.lexing.proofs.names.Laws.{code-behind-on, number-at-took, number-at-lost}
 use Rattle.lexing.proofs.Locality.{chain-inside}
 use Rattle.items.specs.answers.members.{eventQualitiesLost}
 
@@ -31,30 +30,24 @@ returns : tie.Need-returns
 unfolding event-head
 returns c = read-not _ refl tt (begin (event-head) _ _ (lose _ _ (c .event-qualities-lost .result) (rest-self _ _) (read-lost (c .before .before .before .event-qualities .ensures) (c .before .enum-told .given .1) eventQualitiesLost (c .event-qualities-lost .ensures) refl)))
 
-blank-at-requires : tie.Need-blank-at-requires
-blank-at-requires c κs = let t = read-took (c .before .before .before .event-qualities .ensures) (c .before .qualities .given .1) (walks (chain-inside event-qualities-inside)) (rest-self _ _) refl in omega (arith, t .up, t .inside, c .before .before .before .before .before .pre)
+word-behind-requires : tie.Need-word-behind-requires
+word-behind-requires c κs = let t = read-took (c .before .before .before .event-qualities .ensures) (c .before .qualities .given .1) (walks (chain-inside event-qualities-inside)) (rest-self _ _) refl in omega (arith, t .up, t .inside, c .before .before .before .before .before .pre)
 
-rest-at-requires : tie.Need-rest-at-requires
-rest-at-requires c κs = let t = blank-at-took (c .blank-at .ensures) in omega (arith, t .up, t .inside, c .blank-at .ensures .at .from)
-
-parse-id-requires : tie.Need-parse-id-requires
-parse-id-requires c κs = omega (arith, c .rest-at .ensures .size, c .before .before .before .before .before .before .before .pre)
-
-enum-known-id : tie.Need-enum-known-id
-enum-known-id c = c .match2 .keys1
+enum-known-named : tie.Need-enum-known-named
+enum-known-named c = c .match2 .keys1
 
 enum-told-2 : tie.Need-enum-told-2
 enum-told-2 c = c .match2 .keys2
 
-step-lost-requires : tie.Need-step-lost-requires
-step-lost-requires c κs = tt
+named-lost-requires : tie.Need-named-lost-requires
+named-lost-requires c κs = tt
 
 returns-2 : tie.Need-returns-2
 unfolding event-head
-returns-2 c = read-not _ refl tt (begin (event-head) _ _ (go _ (read-took (c .before .before .before .before .before .before .before .before .before .event-qualities .ensures) (c .before .before .before .before .before .before .before .qualities .given .1) (walks (chain-inside event-qualities-inside)) (rest-self _ _) refl) (on _ (blank-at-took (c .before .before .before .before .before .blank-at .ensures)) (lose _ _ (c .step-lost .result) (c .before .before .before .before .rest-at .ensures) (step-lost (wordAt _ _) (c .step-lost .ensures) (c .before .enum-told2 .given .1) _ _ _ (c .before .before .before .parse-id .ensures))))))
+returns-2 c = read-not _ refl tt (begin (event-head) _ _ (go _ (read-took (c .before .before .before .before .before .before .before .event-qualities .ensures) (c .before .before .before .before .before .qualities .given .1) (walks (chain-inside event-qualities-inside)) (rest-self _ _) refl) (pair-lose _ _ _ (c .named-lost .result) (c .before .before .before .word-behind .ensures .at) (named-at-lost (c .before .before .before .word-behind .ensures) (c .named-lost .ensures) (c .before .enum-told2 .given .1)))))
 
 code-behind-requires : tie.Need-code-behind-requires
-code-behind-requires c κs = let t = word-took (c .before .before .before .before .rest-at .ensures) (c .before .id .given .1) (c .before .before .before .parse-id .ensures) in omega (arith, t .up, t .inside, c .before .before .before .before .rest-at .ensures .from, c .before .before .before .before .before .before .before .before .before .before .before .pre)
+code-behind-requires c κs = let t = named-at-took (c .before .before .before .word-behind .ensures) (c .before .named .given .1) blank-word-on in omega (arith, t .up, t .inside, c .before .before .before .word-behind .ensures .at .from, c .before .before .before .before .before .before .before .before .before .pre)
 
 enum-known-number : tie.Need-enum-known-number
 enum-known-number c = c .match3 .keys1
@@ -67,14 +60,14 @@ number-lost-requires c κs = tt
 
 returns-3 : tie.Need-returns-3
 unfolding event-head
-returns-3 c = read-not _ refl tt (begin (event-head) _ _ (go _ (read-took (c .before .before .before .before .before .before .before .before .before .before .before .before .before .event-qualities .ensures) (c .before .before .before .before .before .before .before .before .before .before .before .qualities .given .1) (walks (chain-inside event-qualities-inside)) (rest-self _ _) refl) (on _ (blank-at-took (c .before .before .before .before .before .before .before .before .before .blank-at .ensures)) (go _ (word-took (c .before .before .before .before .before .before .before .before .rest-at .ensures) (c .before .before .before .before .before .id .given .1) (c .before .before .before .before .before .before .before .parse-id .ensures)) (four-lose _ _ _ _ _ (c .number-lost .result) (c .before .before .before .code-behind .ensures .at) (number-at-lost (c .before .before .before .code-behind .ensures) (c .number-lost .ensures) (c .before .enum-told3 .given .1)))))))
+returns-3 c = read-not _ refl tt (begin (event-head) _ _ (go _ (read-took (c .before .before .before .before .before .before .before .before .before .before .before .event-qualities .ensures) (c .before .before .before .before .before .before .before .before .before .qualities .given .1) (walks (chain-inside event-qualities-inside)) (rest-self _ _) refl) (pair-go _ _ _ (named-at-took (c .before .before .before .before .before .before .before .word-behind .ensures) (c .before .before .before .before .before .named .given .1) blank-word-on) (four-lose _ _ _ _ _ (c .number-lost .result) (c .before .before .before .code-behind .ensures .at) (number-at-lost (c .before .before .before .code-behind .ensures) (c .number-lost .ensures) (c .before .enum-told3 .given .1))))))
 
-blank-at-requires-2 : tie.Need-blank-at-requires-2
-blank-at-requires-2 c κs = let t = number-at-took (c .before .before .before .code-behind .ensures) code-behind-on (c .before .number .given .1) in omega (arith, t .up, t .inside, c .before .before .before .code-behind .ensures .at .from, c .before .before .before .before .before .before .before .before .before .before .before .before .before .before .before .pre)
+blank-at-requires : tie.Need-blank-at-requires
+blank-at-requires c κs = let t = number-at-took (c .before .before .before .code-behind .ensures) code-behind-on (c .before .number .given .1) in omega (arith, t .up, t .inside, c .before .before .before .code-behind .ensures .at .from, c .before .before .before .before .before .before .before .before .before .before .before .before .before .pre)
 
 returns-4 : tie.Need-returns-4
 unfolding event-head
-returns-4 c = read-is refl (begin (event-head) _ _ (go _ (read-took (c .before .before .before .before .before .before .before .before .before .before .before .before .before .before .event-qualities .ensures) (c .before .before .before .before .before .before .before .before .before .before .before .before .qualities .given .1) (walks (chain-inside event-qualities-inside)) (rest-self _ _) refl) (on _ (blank-at-took (c .before .before .before .before .before .before .before .before .before .before .blank-at .ensures)) (go _ (word-took (c .before .before .before .before .before .before .before .before .before .rest-at .ensures) (c .before .before .before .before .before .before .id .given .1) (c .before .before .before .before .before .before .before .before .parse-id .ensures)) (four-go _ _ _ _ _ (number-at-took (c .before .before .before .before .code-behind .ensures) code-behind-on (c .before .before .number .given .1)) (on _ (blank-at-took (c .blank-at2 .ensures)) (done _ _ _ _))))))) (let w = event-qualities-small (c .before .before .before .before .before .before .before .before .before .before .before .before .before .before .event-qualities .ensures) (c .before .before .before .before .before .before .before .before .before .before .before .before .qualities .given .1) in record { sensitive = w .sensitive; rank = w .rank; privilege = w .privilege; name-from = omega (arith, (read-took (c .before .before .before .before .before .before .before .before .before .before .before .before .before .before .event-qualities .ensures) (c .before .before .before .before .before .before .before .before .before .before .before .before .qualities .given .1) (walks (chain-inside event-qualities-inside)) (rest-self _ _) refl) .up, (blank-at-took (c .before .before .before .before .before .before .before .before .before .before .blank-at .ensures)) .up); name-to = (word-took (c .before .before .before .before .before .before .before .before .before .rest-at .ensures) (c .before .before .before .before .before .before .id .given .1) (c .before .before .before .before .before .before .before .before .parse-id .ensures)) .up; before = omega (arith, (number-at-took (c .before .before .before .before .code-behind .ensures) code-behind-on (c .before .before .number .given .1)) .up, (blank-at-took (c .blank-at2 .ensures)) .up) })
+returns-4 c = read-is refl (begin (event-head) _ _ (go _ (read-took (c .before .before .before .before .before .before .before .before .before .before .before .before .event-qualities .ensures) (c .before .before .before .before .before .before .before .before .before .before .qualities .given .1) (walks (chain-inside event-qualities-inside)) (rest-self _ _) refl) (pair-go _ _ _ (named-at-took (c .before .before .before .before .before .before .before .before .word-behind .ensures) (c .before .before .before .before .before .before .named .given .1) blank-word-on) (four-go _ _ _ _ _ (number-at-took (c .before .before .before .before .code-behind .ensures) code-behind-on (c .before .before .number .given .1)) (on _ (blank-at-took (c .blank-at .ensures)) (done _ _ _ _)))))) (let w = event-qualities-small (c .before .before .before .before .before .before .before .before .before .before .before .before .event-qualities .ensures) (c .before .before .before .before .before .before .before .before .before .before .qualities .given .1) in let n = (named-in (c .before .before .before .before .before .before .before .before .word-behind .ensures .named) (c .before .before .before .before .before .before .named .given .1)) in record { sensitive = w .sensitive; rank = w .rank; privilege = w .privilege; name-from = omega (arith, (read-took (c .before .before .before .before .before .before .before .before .before .before .before .before .event-qualities .ensures) (c .before .before .before .before .before .before .before .before .before .before .qualities .given .1) (walks (chain-inside event-qualities-inside)) (rest-self _ _) refl) .up, n .from); name-to = n .up; before = omega (arith, n .inside, (number-at-took (c .before .before .before .before .code-behind .ensures) code-behind-on (c .before .before .number .given .1)) .up, (blank-at-took (c .blank-at .ensures)) .up) })
 
 pub event-head-spec : {M : Type 1} → statement M
 event-head-spec =
@@ -85,17 +78,15 @@ event-head-spec =
     enum-told
     event-qualities-lost-requires
     returns
-    blank-at-requires
-    rest-at-requires
-    parse-id-requires
-    enum-known-id
+    word-behind-requires
+    enum-known-named
     enum-told-2
-    step-lost-requires
+    named-lost-requires
     returns-2
     code-behind-requires
     enum-known-number
     enum-told-3
     number-lost-requires
     returns-3
-    blank-at-requires-2
+    blank-at-requires
     returns-4)
