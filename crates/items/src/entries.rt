@@ -26,13 +26,16 @@ use lexing::answers::step_lost;
 use lexing::buffers::put_two;
 use lexing::integers::Number;
 use lexing::integers::number_lost;
+use lexing::names::Named;
 use lexing::names::code_behind;
+use lexing::names::named_lost;
+use lexing::names::word_behind;
 use lexing::optional::optional;
 use lexing::parts::rest_at;
 use lexing::steps::blank_at;
 use lexing::steps::tag_behind;
 use lexing::strings::quoted_string;
-use lexing::words::parse_id;
+use lexing::words::id_at;
 use lexing::words::tag;
 
 // An entry: its maturity, the offsets of its name and behind it, and its code.
@@ -59,10 +62,9 @@ pub fn constant_annotation(part: &[u8], base: usize) -> Step
     requires { ⌜ base + length (now part) ≤ text-limit ⌝ }
     ensures { λ r. ⌜ Skips constant-annotation r base (now (part .entry)) ⌝ }
 {
-    let c0 = blank_at(part, base, base);
-    let key = parse_id(rest_at(part, base, c0), c0);
-    let Step::Next(c1) = key else {
-        return Step::Not(step_lost(key));
+    let key = word_behind(part, base, base);
+    let Named::Name(_, _, c1) = key else {
+        return Step::Not(named_lost(key));
     };
     let equals = tag_behind(part, base, c1, b'=');
     let Step::Next(c2) = equals else {
@@ -74,11 +76,7 @@ pub fn constant_annotation(part: &[u8], base: usize) -> Step
         return Step::Not(step_lost(value));
     };
     let c5 = blank_at(part, base, c4);
-    let comma = optional_comma(rest_at(part, base, c5), c5);
-    let Step::Next(c6) = comma else {
-        return Step::Not(step_lost(comma));
-    };
-    Step::Next(c6)
+    optional_comma(rest_at(part, base, c5), c5)
 }
 
 // An annotation reads the blanks before it itself.
@@ -108,11 +106,7 @@ fn annotations_in_brackets(part: &[u8], base: usize) -> Step
     let Step::Next(c2) = run else {
         return Step::Not(step_lost(run));
     };
-    let close = tag_behind(part, base, c2, b']');
-    let Step::Next(c3) = close else {
-        return Step::Not(step_lost(close));
-    };
-    Step::Next(c3)
+    tag_behind(part, base, c2, b']')
 }
 
 // The annotations of an entry are read and dropped.
@@ -133,11 +127,7 @@ fn entry_end(part: &[u8], base: usize) -> Step
     let Step::Next(c2) = notes else {
         return Step::Not(step_lost(notes));
     };
-    let semicolon = tag_behind(part, base, c2, b';');
-    let Step::Next(c3) = semicolon else {
-        return Step::Not(step_lost(semicolon));
-    };
-    Step::Next(c3)
+    tag_behind(part, base, c2, b';')
 }
 
 pub fn constant_entry(part: &[u8], base: usize) -> EntryRead
@@ -146,7 +136,7 @@ pub fn constant_entry(part: &[u8], base: usize) -> EntryRead
 {
     let m = maturity_between(part, base);
     let start = m.next;
-    let name = parse_id(rest_at(part, base, start), start);
+    let name = id_at(part, base, start);
     let Step::Next(end) = name else {
         return EntryRead::NoEntry(step_lost(name));
     };

@@ -1,13 +1,14 @@
 -- Annotations and entries.
-use mathlib.Core.Path.{_≡_, refl, ap, _∙_}
+use mathlib.Core.Path.{_≡_, refl, sym, ap, _∙_}
 use mathlib.Core.List.{List, [], _∷_, map}
 use Prim.Native.Nat.{ℕ, _+_, _-_, _≤_, _<_}
 use native.Mathlib.Omega.{arith}
 use lib.ListN.{length, drop}
-use Rattle.lexing.specs.reply.{ok, Parser, opt, many0}
+use Rattle.lexing.specs.reply.{Parser, ret, _>>_, opt, many0}
 use Rattle.lexing.specs.words.{Word, word, tag}
 use Rattle.lexing.specs.strings.{span, annotation-escape, quoted-string}
-use Rattle.lexing.specs.answers.{Rest, lostReply, lostOf, spanTo, stringReply, numberReply, NumberAt, Skips}
+use Rattle.lexing.specs.blanks.{whitespace0}
+use Rattle.lexing.specs.answers.{Rest, reply, stepAnswer, lostReply, lostOf, spanTo, stringReply, numberReply, NumberAt, Skips, SkipsAt}
 use Rattle.lexing.specs.declared.answers.Lost.{Lost}
 use Rattle.lexing.specs.declared.answers.Step.{Step}
 use Rattle.lexing.specs.declared.answers.Step.the-variants.{Next, Not}
@@ -15,7 +16,10 @@ use Rattle.lexing.specs.declared.integers.Number.{Number}
 use Rattle.lexing.proofs.Onward.{Onward}
 use Rattle.lexing.proofs.Locality.{Consumes, chain-ret, chain-many0, chain-opt, chain-then, consumes-then-right}
 use Rattle.lexing.proofs.TokenLocality.{whitespace0-chain}
-use Rattle.lexing.proofs.Slicing.{Took, took, walks, rest-self, told-next, step-lost, string-took}
+use Rattle.lexing.proofs.Slicing.{Took, took, walks, rest-self, told-next, step-lost, string-took, on, fall, done}
+use Rattle.lexing.proofs.Pairs.{pair-on, pair-fall}
+use Rattle.lexing.proofs.optional.Laws.{skip-took}
+use Rattle.lexing.proofs.steps.Laws.{tag-behind-took}
 use Rattle.items.specs.entries.{Annotation, constant-annotation, blank-annotation, constant-annotations-list, Entry, constant-entry, blank-entry, constant-entries}
 use Rattle.items.specs.records.{Record, value, entry-record, plain}
 use Rattle.lexing.specs.buffers.{each, words-bytes, put}
@@ -34,6 +38,22 @@ use Rattle.items.proofs.WordBetween.{extent-between}
 use Rattle.items.proofs.RecordWords.{map-elementwise}
 use Rattle.items.proofs.counts.Laws.{Counting, counting-more}
 use Rattle.items.proofs.writing.Laws.{Writing, writing-fits, writing-more, writing-ends}
+
+-- the last step of a sequence, whose answer is the sequence's
+pub record Last {B : Type 0} (k : Parser B) (v : B) (a : Step) (b : ℕ) (u : List ℕ) (n : ℕ) : Type 0 where
+  pub goes : k n (drop (n - b) u) ≡ reply (stepAnswer (λ c. v) a) b u
+
+module _ {B : Type 0} {v : B} {b n : ℕ} {u : List ℕ} where
+  pub last-skips : {A : Type 0} {m : Parser A} → Onward m → (a : Step) {r : List ℕ} → Rest b u n r → Skips m a n r → Last (m >> ret v) v a b u n
+  last-skips {A} {m} w (Next c) q h = record { goes = sym (on (ret v) (skip-took w q refl h) (done v b c u)) }
+  last-skips {A} {m} w (Not l) q h = record { goes = sym (fall m (ret v) l q (h .reads)) }
+
+  pub last-pair : (t : ℕ) (a : Step) → SkipsAt (whitespace0 >> tag t) a b u n → Last (whitespace0 >> (tag t >> ret v)) v a b u n
+  last-pair t (Next c) h = record { goes = sym (pair-on whitespace0 (tag t) (ret v) (tag-behind-took t refl h) (done v b c u)) }
+  last-pair t (Not l) h = record { goes = sym (pair-fall whitespace0 (tag t) (ret v) l (h .at) (h .skips .reads)) }
+
+pub skip-all : {A : Type 0} {m : Parser A} (v : A) (a : Step) {b : ℕ} {u : List ℕ} → reply (stepAnswer (λ c. v) a) b u ≡ m b u → Skips m a b u
+skip-all v a e = record { value = v; reads = e }
 
 -- annotations
 pub no-annotation : Annotation
@@ -67,8 +87,8 @@ pub annotations-list-onward : Onward constant-annotations-list
 annotations-list-onward = walks (constant-annotations-list-inside .on-chain)
 
 -- the end of an entry
-pub end-is : (b c : ℕ) (u : List ℕ) → ((e : Entry) → ok e c (drop (c - b) u) ≡ entry-end e b u) → EndTo (Next c) b u
-end-is b c u h = record { reads = h }
+pub end-is : (a : Step) (b : ℕ) (u : List ℕ) → ((e : Entry) → reply (stepAnswer (λ c. e) a) b u ≡ entry-end e b u) → EndTo a b u
+end-is a b u h = record { reads = h }
 
 pub end-not : (l : Lost) (b : ℕ) (u : List ℕ) → ((e : Entry) → lostReply l ≡ entry-end e b u) → EndTo (Not l) b u
 end-not l b u h = record { reads = h }

@@ -3,13 +3,12 @@ use Rattle.items.proofs.entries.annotations_in_brackets.Statement.{stat
 use Rattle.items.proofs.entries.annotations_in_brackets.Tie as tie
 use mathlib.Core.List.{[]}
 use Rattle.items.specs.entries.{annotations-in-brackets}
-use Rattle.lexing.proofs.Dropping.{skip-is, skip-not}
+use Rattle.lexing.proofs.Dropping.{skip-not}
+use Rattle.items.proofs.entries.Laws.{skip-all, last-pair, annotations-onward}
+use mathlib.Core.Path.{sym}
 use native.Mathlib.Omega.{arith}
-use Rattle.lexing.proofs.Slicing.{rest-self, begin, go, on, lose, fall, done, tag-took, step-lost}
-use Rattle.lexing.proofs.Pairs.{pair-on, pair-fall}
-use Rattle.lexing.proofs.steps.Laws.{tag-behind-took, skips-lost}
+use Rattle.lexing.proofs.Slicing.{rest-self, begin, go, on, lose, fall, tag-took, step-lost}
 use Rattle.lexing.proofs.optional.Laws.{skip-took, skip-lost}
-use Rattle.items.proofs.entries.Laws.{annotations-onward}
 
 tag-requires : tie.Need-tag-requires
 tag-requires c κs = search needs
@@ -49,22 +48,24 @@ returns-2 c = skip-not _ [] _ _ _ (begin (annotations-in-brackets) _ _ (on _ (ta
 tag-behind-requires : tie.Need-tag-behind-requires
 tag-behind-requires c κs = let t = skip-took annotations-onward (c .before .before .before .before .rest-at .ensures) (c .before .run .given .1) (c .before .before .before .annotations .ensures) in omega (arith, t .up, t .inside, c .before .before .before .before .rest-at .ensures .from, c .before .before .before .before .before .before .before .before .before .before .pre)
 
-enum-known-close : tie.Need-enum-known-close
-enum-known-close c = c .match3 .keys1
-
-enum-told-3 : tie.Need-enum-told-3
-enum-told-3 c = c .match3 .keys2
-
-step-lost-requires-3 : tie.Need-step-lost-requires-3
-step-lost-requires-3 c κs = tt
-
 returns-3 : tie.Need-returns-3
 unfolding annotations-in-brackets
-returns-3 c = skip-not _ [] _ _ _ (begin (annotations-in-brackets) _ _ (on _ (tag-took (rest-self _ _) (c .before .before .before .before .before .before .before .before .before .before .bracket .given .1) 91 (c .before .before .before .before .before .before .before .before .before .before .before .before .tag .ensures)) (go _ (skip-took annotations-onward (c .before .before .before .before .before .before .before .before .rest-at .ensures) (c .before .before .before .before .before .run .given .1) (c .before .before .before .before .before .before .before .annotations .ensures)) (pair-fall _ _ _ (c .step-lost3 .result) (c .before .before .before .tag-behind .ensures .at) (skips-lost (c .step-lost3 .ensures) (c .before .enum-told3 .given .1) (c .before .before .before .tag-behind .ensures))))))
-
-returns-4 : tie.Need-returns-4
-unfolding annotations-in-brackets
-returns-4 c = skip-is _ _ _ _ _ (begin (annotations-in-brackets) _ _ (on _ (tag-took (rest-self _ _) (c .before .before .before .before .before .before .before .before .before .before .bracket .given .1) 91 (c .before .before .before .before .before .before .before .before .before .before .before .before .tag .ensures)) (go _ (skip-took annotations-onward (c .before .before .before .before .before .before .before .before .rest-at .ensures) (c .before .before .before .before .before .run .given .1) (c .before .before .before .before .before .before .before .annotations .ensures)) (pair-on _ _ _ (tag-behind-took 93 (c .before .close .given .1) (c .before .before .before .tag-behind .ensures)) (done _ _ _ _)))))
+returns-3 c = skip-all _ _ (begin (annotations-in-brackets) _ _ (on _ (tag-took (rest-self _ _) (c .before .before .before .before .before .before .before .bracket .given .1) 91 (c .before .before .before .before .before .before .before .before .before .tag .ensures)) (go _ (skip-took annotations-onward (c .before .before .before .before .before .rest-at .ensures) (c .before .before .run .given .1) (c .before .before .before .before .annotations .ensures)) (sym ((last-pair 93 (c .tag-behind .result) (c .tag-behind .ensures)) .goes)))))
 
 pub annotations-in-brackets-spec : {M : Type 1} → statement M
-annotations-in-brackets-spec = tie.close (tie.spec tag-requires enum-known-bracket enum-told step-lost-requires returns rest-at-requires annotations-requires enum-known-run enum-told-2 step-lost-requires-2 returns-2 tag-behind-requires enum-known-close enum-told-3 step-lost-requires-3 returns-3 returns-4)
+annotations-in-brackets-spec =
+    tie.close
+    (tie.spec
+    tag-requires
+    enum-known-bracket
+    enum-told
+    step-lost-requires
+    returns
+    rest-at-requires
+    annotations-requires
+    enum-known-run
+    enum-told-2
+    step-lost-requires-2
+    returns-2
+    tag-behind-requires
+    returns-3)

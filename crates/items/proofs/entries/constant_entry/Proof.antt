@@ -6,21 +6,18 @@ use Rattle.items.specs.inner.entries.{entry-end}
 use Rattle.items.proofs.entries.Laws.{end-up, end-took, end-none, number-here}
 use mathlib.Core.Path.{refl, sym}
 use native.Mathlib.Omega.{arith}
-use Rattle.lexing.specs.answers.{wordAt}
-use Rattle.lexing.proofs.Slicing.{rest-self, begin, go, lose, word-took, step-lost, integer-lost}
+use Rattle.lexing.proofs.Slicing.{rest-self, begin, go, lose, integer-lost}
 use Rattle.lexing.proofs.AnswerLaws.{read-is, read-not, last-lost}
 use Rattle.lexing.proofs.Pairs.{four-go, four-lose, between-go}
 use Rattle.items.proofs.maturity.Laws.{between-took}
+use Rattle.lexing.proofs.words.Laws.{word-at-took, word-at-lost}
 use Rattle.lexing.proofs.names.Laws.{number-took, code-behind-on}
 
 maturity-between-requires : tie.Need-maturity-between-requires
 maturity-between-requires c κs = search needs
 
-rest-at-requires : tie.Need-rest-at-requires
-rest-at-requires c κs = let t = between-took (rest-self _ _) (c .maturity-between .ensures) in omega (arith, t .up, t .inside)
-
-parse-id-requires : tie.Need-parse-id-requires
-parse-id-requires c κs = omega (arith, c .rest-at .ensures .size, c .before .before .before .pre)
+id-at-requires : tie.Need-id-at-requires
+id-at-requires c κs = let t = between-took (rest-self _ _) (c .maturity-between .ensures) in omega (arith, t .up, t .inside, c .before .before .pre)
 
 enum-known-name : tie.Need-enum-known-name
 enum-known-name c = c .match .keys1
@@ -33,13 +30,13 @@ step-lost-requires c κs = tt
 
 returns : tie.Need-returns
 unfolding constant-entry entry-end
-returns c = read-not _ refl tt (begin (constant-entry) _ _ (between-go _ _ _ _ (between-took (rest-self _ _) (c .before .before .before .before .before .maturity-between .ensures)) (lose _ _ (c .step-lost .result) (c .before .before .before .before .rest-at .ensures) (step-lost (wordAt _ _) (c .step-lost .ensures) (c .before .enum-told .given .1) _ _ _ (c .before .before .before .parse-id .ensures)))))
+returns c = read-not _ refl tt (begin (constant-entry) _ _ (between-go _ _ _ _ (between-took (rest-self _ _) (c .before .before .before .before .maturity-between .ensures)) (lose _ _ (c .step-lost .result) (c .before .before .before .id-at .ensures .at) (word-at-lost (c .step-lost .ensures) (c .before .enum-told .given .1) (c .before .before .before .id-at .ensures)))))
 
-rest-at-requires-2 : tie.Need-rest-at-requires-2
-rest-at-requires-2 c κs = let t = word-took (c .before .before .before .before .rest-at .ensures) (c .before .name .given .1) (c .before .before .before .parse-id .ensures) in omega (arith, t .up, t .inside, c .before .before .before .before .rest-at .ensures .from)
+rest-at-requires : tie.Need-rest-at-requires
+rest-at-requires c κs = let t = word-at-took (c .before .name .given .1) (c .before .before .before .id-at .ensures) in omega (arith, t .up, t .inside, c .before .before .before .id-at .ensures .at .from)
 
 code-behind-requires : tie.Need-code-behind-requires
-code-behind-requires c κs = omega (arith, c .rest-at2 .ensures .size, c .before .before .before .before .before .before .before .before .pre)
+code-behind-requires c κs = omega (arith, c .rest-at .ensures .size, c .before .before .before .before .before .before .before .pre)
 
 enum-known-value : tie.Need-enum-known-value
 enum-known-value c = c .match2 .keys1
@@ -52,13 +49,13 @@ number-lost-requires c κs = tt
 
 returns-2 : tie.Need-returns-2
 unfolding constant-entry entry-end
-returns-2 c = read-not _ refl tt (begin (constant-entry) _ _ (between-go _ _ _ _ (between-took (rest-self _ _) (c .before .before .before .before .before .before .before .before .before .before .maturity-between .ensures)) (go _ (word-took (c .before .before .before .before .before .before .before .before .before .rest-at .ensures) (c .before .before .before .before .before .before .name .given .1) (c .before .before .before .before .before .before .before .before .parse-id .ensures)) (four-lose _ _ _ _ _ (c .number-lost .result) (c .before .before .before .before .rest-at2 .ensures) (integer-lost (c .number-lost .ensures) (c .before .enum-told2 .given .1) _ _ _ (number-here (c .before .before .before .code-behind .ensures)))))))
+returns-2 c = read-not _ refl tt (begin (constant-entry) _ _ (between-go _ _ _ _ (between-took (rest-self _ _) (c .before .before .before .before .before .before .before .before .before .maturity-between .ensures)) (go _ (word-at-took (c .before .before .before .before .before .before .name .given .1) (c .before .before .before .before .before .before .before .before .id-at .ensures)) (four-lose _ _ _ _ _ (c .number-lost .result) (c .before .before .before .before .rest-at .ensures) (integer-lost (c .number-lost .ensures) (c .before .enum-told2 .given .1) _ _ _ (number-here (c .before .before .before .code-behind .ensures)))))))
 
-rest-at-requires-3 : tie.Need-rest-at-requires-3
-rest-at-requires-3 c κs = let t = number-took code-behind-on (c .before .before .before .before .rest-at2 .ensures) (c .before .value .given .1) (number-here (c .before .before .before .code-behind .ensures)) in omega (arith, t .up, t .inside, c .before .before .before .before .rest-at2 .ensures .from)
+rest-at-requires-2 : tie.Need-rest-at-requires-2
+rest-at-requires-2 c κs = let t = number-took code-behind-on (c .before .before .before .before .rest-at .ensures) (c .before .value .given .1) (number-here (c .before .before .before .code-behind .ensures)) in omega (arith, t .up, t .inside, c .before .before .before .before .rest-at .ensures .from)
 
 entry-end-requires : tie.Need-entry-end-requires
-entry-end-requires c κs = omega (arith, c .rest-at3 .ensures .size, c .before .before .before .before .before .before .before .before .before .before .before .before .before .pre)
+entry-end-requires c κs = omega (arith, c .rest-at2 .ensures .size, c .before .before .before .before .before .before .before .before .before .before .before .before .pre)
 
 enum-known-last : tie.Need-enum-known-last
 enum-known-last c = c .match3 .keys1
@@ -71,30 +68,29 @@ step-lost-requires-2 c κs = tt
 
 returns-3 : tie.Need-returns-3
 unfolding constant-entry entry-end
-returns-3 c = read-not _ refl tt (begin (constant-entry) _ _ (between-go _ _ _ _ (between-took (rest-self _ _) (c .before .before .before .before .before .before .before .before .before .before .before .before .before .before .before .maturity-between .ensures)) (go _ (word-took (c .before .before .before .before .before .before .before .before .before .before .before .before .before .before .rest-at .ensures) (c .before .before .before .before .before .before .before .before .before .before .before .name .given .1) (c .before .before .before .before .before .before .before .before .before .before .before .before .before .parse-id .ensures)) (four-go _ _ _ _ _ (number-took code-behind-on (c .before .before .before .before .before .before .before .before .before .rest-at2 .ensures) (c .before .before .before .before .before .before .value .given .1) (number-here (c .before .before .before .before .before .before .before .before .code-behind .ensures))) (last-lost (entry-end _) (c .step-lost2 .result) (c .before .before .before .before .rest-at3 .ensures) (end-none _ (c .step-lost2 .ensures) (c .before .enum-told3 .given .1) (c .before .before .before .entry-end .ensures)))))))
+returns-3 c = read-not _ refl tt (begin (constant-entry) _ _ (between-go _ _ _ _ (between-took (rest-self _ _) (c .before .before .before .before .before .before .before .before .before .before .before .before .before .before .maturity-between .ensures)) (go _ (word-at-took (c .before .before .before .before .before .before .before .before .before .before .before .name .given .1) (c .before .before .before .before .before .before .before .before .before .before .before .before .before .id-at .ensures)) (four-go _ _ _ _ _ (number-took code-behind-on (c .before .before .before .before .before .before .before .before .before .rest-at .ensures) (c .before .before .before .before .before .before .value .given .1) (number-here (c .before .before .before .before .before .before .before .before .code-behind .ensures))) (last-lost (entry-end _) (c .step-lost2 .result) (c .before .before .before .before .rest-at2 .ensures) (end-none _ (c .step-lost2 .ensures) (c .before .enum-told3 .given .1) (c .before .before .before .entry-end .ensures)))))))
 
 returns-4 : tie.Need-returns-4
 unfolding constant-entry entry-end
-returns-4 c = read-is refl (begin (constant-entry) _ _ (between-go _ _ _ _ (between-took (rest-self _ _) (c .before .before .before .before .before .before .before .before .before .before .before .before .before .before .before .maturity-between .ensures)) (go _ (word-took (c .before .before .before .before .before .before .before .before .before .before .before .before .before .before .rest-at .ensures) (c .before .before .before .before .before .before .before .before .before .before .before .name .given .1) (c .before .before .before .before .before .before .before .before .before .before .before .before .before .parse-id .ensures)) (four-go _ _ _ _ _ (number-took code-behind-on (c .before .before .before .before .before .before .before .before .before .rest-at2 .ensures) (c .before .before .before .before .before .before .value .given .1) (number-here (c .before .before .before .before .before .before .before .before .code-behind .ensures))) (sym ((end-took _ (c .before .before .before .before .rest-at3 .ensures) (c .before .last .given .1) (c .before .before .before .entry-end .ensures)) .goes)))))) (record { from = c .before .before .before .before .before .before .before .before .before .before .before .before .before .before .before .maturity-between .ensures .up; up = (word-took (c .before .before .before .before .before .before .before .before .before .before .before .before .before .before .rest-at .ensures) (c .before .before .before .before .before .before .before .before .before .before .before .name .given .1) (c .before .before .before .before .before .before .before .before .before .before .before .before .before .parse-id .ensures)) .up; inside = omega (arith, (number-took code-behind-on (c .before .before .before .before .before .before .before .before .before .rest-at2 .ensures) (c .before .before .before .before .before .before .value .given .1) (number-here (c .before .before .before .before .before .before .before .before .code-behind .ensures))) .up, end-up (c .before .last .given .1) (c .before .before .before .entry-end .ensures)); small = c .before .before .before .before .before .before .before .before .before .before .before .before .before .before .before .maturity-between .ensures .small })
+returns-4 c = read-is refl (begin (constant-entry) _ _ (between-go _ _ _ _ (between-took (rest-self _ _) (c .before .before .before .before .before .before .before .before .before .before .before .before .before .before .maturity-between .ensures)) (go _ (word-at-took (c .before .before .before .before .before .before .before .before .before .before .before .name .given .1) (c .before .before .before .before .before .before .before .before .before .before .before .before .before .id-at .ensures)) (four-go _ _ _ _ _ (number-took code-behind-on (c .before .before .before .before .before .before .before .before .before .rest-at .ensures) (c .before .before .before .before .before .before .value .given .1) (number-here (c .before .before .before .before .before .before .before .before .code-behind .ensures))) (sym ((end-took _ (c .before .before .before .before .rest-at2 .ensures) (c .before .last .given .1) (c .before .before .before .entry-end .ensures)) .goes)))))) (record { from = c .before .before .before .before .before .before .before .before .before .before .before .before .before .before .maturity-between .ensures .up; up = (word-at-took (c .before .before .before .before .before .before .before .before .before .before .before .name .given .1) (c .before .before .before .before .before .before .before .before .before .before .before .before .before .id-at .ensures)) .up; inside = omega (arith, (number-took code-behind-on (c .before .before .before .before .before .before .before .before .before .rest-at .ensures) (c .before .before .before .before .before .before .value .given .1) (number-here (c .before .before .before .before .before .before .before .before .code-behind .ensures))) .up, end-up (c .before .last .given .1) (c .before .before .before .entry-end .ensures)); small = c .before .before .before .before .before .before .before .before .before .before .before .before .before .before .maturity-between .ensures .small })
 
 pub constant-entry-spec : {M : Type 1} → statement M
 constant-entry-spec =
     tie.close
     (tie.spec
     maturity-between-requires
-    rest-at-requires
-    parse-id-requires
+    id-at-requires
     enum-known-name
     enum-told
     step-lost-requires
     returns
-    rest-at-requires-2
+    rest-at-requires
     code-behind-requires
     enum-known-value
     enum-told-2
     number-lost-requires
     returns-2
-    rest-at-requires-3
+    rest-at-requires-2
     entry-end-requires
     enum-known-last
     enum-told-3

@@ -1,11 +1,11 @@
 use Rattle.items.proofs.entries.entry_end.Statement.{statement}
 use Rattle.items.proofs.entries.entry_end.Tie as tie
 use Rattle.items.specs.inner.entries.{entry-end}
-use Rattle.items.proofs.entries.Laws.{end-is, end-not, annotations-list-onward}
+use Rattle.items.proofs.entries.Laws.{end-is, end-not, last-pair, annotations-list-onward}
+use mathlib.Core.Path.{sym}
 use native.Mathlib.Omega.{arith}
-use Rattle.lexing.proofs.Slicing.{begin, on, fall, done}
-use Rattle.lexing.proofs.Pairs.{pair-on, pair-fall}
-use Rattle.lexing.proofs.steps.Laws.{blank-at-took, tag-behind-took, skips-lost}
+use Rattle.lexing.proofs.Slicing.{begin, on, fall}
+use Rattle.lexing.proofs.steps.Laws.{blank-at-took}
 use Rattle.lexing.proofs.optional.Laws.{skip-took, skip-lost}
 
 blank-at-requires : tie.Need-blank-at-requires
@@ -33,22 +33,20 @@ returns c = end-not _ _ _ λ e. (begin (entry-end e) _ _ (on _ (blank-at-took (c
 tag-behind-requires : tie.Need-tag-behind-requires
 tag-behind-requires c κs = let t = skip-took annotations-list-onward (c .before .before .before .before .rest-at .ensures) (c .before .notes .given .1) (c .before .before .before .constant-annotations-list .ensures) in omega (arith, t .up, t .inside, c .before .before .before .before .rest-at .ensures .from, c .before .before .before .before .before .before .before .pre)
 
-enum-known-semicolon : tie.Need-enum-known-semicolon
-enum-known-semicolon c = c .match2 .keys1
-
-enum-told-2 : tie.Need-enum-told-2
-enum-told-2 c = c .match2 .keys2
-
-step-lost-requires-2 : tie.Need-step-lost-requires-2
-step-lost-requires-2 c κs = tt
-
 returns-2 : tie.Need-returns-2
 unfolding entry-end
-returns-2 c = end-not _ _ _ λ e. (begin (entry-end e) _ _ (on _ (blank-at-took (c .before .before .before .before .before .before .before .before .before .blank-at .ensures)) (on _ (skip-took annotations-list-onward (c .before .before .before .before .before .before .before .before .rest-at .ensures) (c .before .before .before .before .before .notes .given .1) (c .before .before .before .before .before .before .before .constant-annotations-list .ensures)) (pair-fall _ _ _ (c .step-lost2 .result) (c .before .before .before .tag-behind .ensures .at) (skips-lost (c .step-lost2 .ensures) (c .before .enum-told2 .given .1) (c .before .before .before .tag-behind .ensures))))))
-
-returns-3 : tie.Need-returns-3
-unfolding entry-end
-returns-3 c = end-is _ _ _ λ e. (begin (entry-end e) _ _ (on _ (blank-at-took (c .before .before .before .before .before .before .before .before .before .blank-at .ensures)) (on _ (skip-took annotations-list-onward (c .before .before .before .before .before .before .before .before .rest-at .ensures) (c .before .before .before .before .before .notes .given .1) (c .before .before .before .before .before .before .before .constant-annotations-list .ensures)) (pair-on _ _ _ (tag-behind-took 59 (c .before .semicolon .given .1) (c .before .before .before .tag-behind .ensures)) (done _ _ _ _)))))
+returns-2 c = end-is _ _ _ λ e. (begin (entry-end e) _ _ (on _ (blank-at-took (c .before .before .before .before .before .before .blank-at .ensures)) (on _ (skip-took annotations-list-onward (c .before .before .before .before .before .rest-at .ensures) (c .before .before .notes .given .1) (c .before .before .before .before .constant-annotations-list .ensures)) (sym ((last-pair 59 (c .tag-behind .result) (c .tag-behind .ensures)) .goes)))))
 
 pub entry-end-spec : {M : Type 1} → statement M
-entry-end-spec = tie.close (tie.spec blank-at-requires rest-at-requires constant-annotations-list-requires enum-known-notes enum-told step-lost-requires returns tag-behind-requires enum-known-semicolon enum-told-2 step-lost-requires-2 returns-2 returns-3)
+entry-end-spec =
+    tie.close
+    (tie.spec
+    blank-at-requires
+    rest-at-requires
+    constant-annotations-list-requires
+    enum-known-notes
+    enum-told
+    step-lost-requires
+    returns
+    tag-behind-requires
+    returns-2)
