@@ -3,16 +3,16 @@ ghost use mathlib.Core.Path.{_≡_};
 ghost use mathlib.Core.List.{[], _∷_, map};
 ghost use Prim.Native.Nat.{_+_, _≤_};
 ghost use lib.ListN.{length, take};
-ghost use Rattle.lexing.specs.words.{isLower};
+ghost use Rattle.lexing.specs.words.{isLower, keyword, any-keyword};
 ghost use Rattle.lexing.specs.answers.{numberReply, docOf};
 ghost use Rattle.items.specs.layout.{text-limit, layout-20, catalogue-bytes};
 ghost use Rattle.lexing.specs.buffers.{put};
 ghost use Rattle.items.specs.records.{field-record, struct-records};
-ghost use Rattle.items.specs.structs.{max-length, parse-struct-field, closed-field, fields-run, struct-fields, response-code, parse-struct-after-doc-maturity};
+ghost use Rattle.items.specs.structs.{max-length, parse-struct-field, closed-field, fields-run, struct-fields, response-code, struct-kind, parse-struct-after-doc-maturity};
 ghost use Rattle.items.specs.members.{or-else};
 ghost use Rattle.items.specs.answers.{optionOf, CountTo, FrontFits, Room, Written};
 ghost use Rattle.items.specs.answers.structs.{FieldTo, fieldLost, StructFieldBetween, StructFieldTo, structFieldLost, StructFrom, HeadBetween, StructHeadTo, headLost, StructCountTo};
-ghost use Rattle.items.specs.inner.structs.{optionalLength, lengthLost, MarkerTo, kindBy, StructWordTo, codeReply, responseReply, typeBy, field-parts, kindNumber, responseNumber, struct-first};
+ghost use Rattle.items.specs.inner.structs.{optionalLength, lengthLost, MarkerTo, kindBy, struct-words, StructWordTo, codeReply, responseReply, typeBy, field-parts, kindNumber, responseNumber, struct-first};
 use crate::counts::Count;
 use crate::counts::closed;
 use crate::counts::count_end;
@@ -28,9 +28,9 @@ use crate::writing::span_word;
 use lexing::answers::Lost;
 use lexing::answers::Step;
 use lexing::answers::step_lost;
-use lexing::blanks::whitespace0;
 use lexing::buffers::put_four;
 use lexing::buffers::put_three;
+use lexing::bytes::lower_of;
 use lexing::integers::Number;
 use lexing::integers::number_lost;
 use lexing::names::Named;
@@ -39,6 +39,7 @@ use lexing::names::keyword_name;
 use lexing::names::named_lost;
 use lexing::names::word_apart;
 use lexing::names::word_behind;
+use lexing::parts::peek;
 use lexing::parts::rest_at;
 use lexing::steps::blank_at;
 use lexing::steps::integer_behind;
@@ -173,17 +174,12 @@ fn list_marker(part: &[u8], base: usize) -> Marker
     let Step::Next(c1) = bracket else {
         return absent;
     };
-    let w1 = whitespace0(rest_at(part, base, c1), c1);
-    let c2 = w1.next;
-    let close = tag(rest_at(part, base, c2), c2, b']');
-    let Step::Next(c3) = close else {
+    let close = tag_behind(part, base, c1, b']');
+    let Step::Next(c2) = close else {
         return absent;
     };
-    let w2 = whitespace0(rest_at(part, base, c3), c3);
-    Marker {
-        list: true,
-        next: w2.next,
-    }
+    let next = blank_at(part, base, c2);
+    Marker { list: true, next }
 }
 
 pub fn parse_field(part: &[u8], base: usize) -> FieldRead
@@ -321,31 +317,38 @@ fn kind_by(part: &[u8], n: usize, kind: StructKind) -> StructKind
     StructKind::Regular
 }
 
-// The word before a struct, which may be absent, and its blanks; those of `shared` the caller has read.
+// One keyword before a struct, which may be absent, and its blanks.
+fn struct_word_by(part: &[u8], base: usize, key: &[u8], kind: StructKind) -> StructWord
+    requires { ⌜ base + length (now part) ≤ text-limit ⌝ }
+    requires { ⌜ struct-kind (now key) ≡ typeBy kind ⌝ }
+    ensures { λ r. ⌜ StructWordTo (keyword (now (key .entry))) r base (now (part .entry)) ⌝ }
+{
+    let word = keyword(part, base, key);
+    let Step::Next(c) = word else {
+        return StructWord {
+            kind: StructKind::Regular,
+            next: blank_at(part, base, base),
+        };
+    };
+    let said = kind_by(part, c - base, kind);
+    let next = blank_at(part, base, c);
+    StructWord { kind: said, next }
+}
+
+// The word before a struct, which may be absent, and its blanks; those of `shared` the caller has read. The third letter leaves one of the others.
 fn struct_word(part: &[u8], base: usize, from: usize) -> StructWord
     requires { ⌜ base + length (now part) ≤ text-limit ⌝ }
     requires { ⌜ StructFrom from base (now part) ⌝ }
-    ensures { λ r. ⌜ StructWordTo r base (now (part .entry)) ⌝ }
+    ensures { λ r. ⌜ StructWordTo (any-keyword struct-words) r base (now (part .entry)) ⌝ }
 {
     if base < from {
         let kind = kind_by(part, 6, StructKind::Shared);
         return StructWord { kind, next: from };
     }
-    let request = keyword(part, base, b"request");
-    if let Step::Next(c) = request {
-        let kind = kind_by(part, c - base, StructKind::Request);
-        let next = blank_at(part, base, c);
-        return StructWord { kind, next };
-    }
-    let response = keyword(part, base, b"response");
-    if let Step::Next(c) = response {
-        let kind = kind_by(part, c - base, StructKind::Response);
-        let next = blank_at(part, base, c);
-        return StructWord { kind, next };
-    }
-    StructWord {
-        kind: StructKind::Regular,
-        next: blank_at(part, base, base),
+    let x = lower_of(peek(part, 2));
+    match x {
+        b'q' => struct_word_by(part, base, b"request", StructKind::Request),
+        _ => struct_word_by(part, base, b"response", StructKind::Response),
     }
 }
 
@@ -384,15 +387,14 @@ pub fn struct_head(part: &[u8], base: usize, from: usize) -> StructHeadRead
     let kind = word.kind;
     let start = word.next;
     let set = keywords_set(rest_at(part, base, start), start, 1);
-    let c1 = set.next;
-    let c2 = blank_at(part, base, c1);
-    let named = keyword_name(rest_at(part, base, c2), c2, b"struct");
-    let Named::Name(name, end, c3) = named else {
+    let c1 = blank_at(part, base, set.next);
+    let named = keyword_name(rest_at(part, base, c1), c1, b"struct");
+    let Named::Name(name, end, c2) = named else {
         return StructHeadRead::NoHead(named_lost(named));
     };
-    let c4 = blank_at(part, base, c3);
-    let number = struct_code(rest_at(part, base, c4), c4, kind);
-    let Number::Value(code, c5) = number else {
+    let c3 = blank_at(part, base, c2);
+    let number = struct_code(rest_at(part, base, c3), c3, kind);
+    let Number::Value(code, c4) = number else {
         return StructHeadRead::NoHead(number_lost(number));
     };
     StructHeadRead::Head(
@@ -403,7 +405,7 @@ pub fn struct_head(part: &[u8], base: usize, from: usize) -> StructHeadRead
             end,
             code,
         },
-        c5,
+        c4,
     )
 }
 

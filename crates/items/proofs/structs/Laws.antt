@@ -6,11 +6,12 @@ use mathlib.Core.List.{List, [], _∷_, map}
 use Prim.Native.Nat.{ℕ, suc, _+_, _-_, _*_, _≤_, _<_}
 use native.Mathlib.Omega.{arith}
 use lib.Dec.{eqb}
-use lib.ListN.{length, take, drop}
+use borrow.Author.Tests.{ltb-true}
+use lib.ListN.{length, take, drop, getD}
 use lib.Seq.{length-take-le}
 use Rattle.lexing.specs.bytes.{ascii, within, lower}
-use Rattle.lexing.specs.reply.{ok, fail, Parser, ret, opt, pick, many0}
-use Rattle.lexing.specs.words.{Word, bytesOf, isKeyword, isLower, keyword, any-keyword, tag}
+use Rattle.lexing.specs.reply.{Reply, ok, fail, stop, Parser, ret, _or_, further, opt, pick, many0}
+use Rattle.lexing.specs.words.{Word, bytesOf, isKeyword, isLower, keyword, any-keyword}
 use Rattle.lexing.specs.word_sets.{same-bytes, bit}
 use Rattle.lexing.specs.answers.{Rest, lostReply, wordAt, wordReply, numberReply, numberLost, BlankAt, behind-blanks, wordBetween}
 use Rattle.lexing.specs.declared.answers.Lost.{Lost}
@@ -24,7 +25,8 @@ use Rattle.lexing.proofs.TokenLocality.{any-keyword-chain, whitespace0-chain}
 use Rattle.lexing.proofs.Composed.{onward-then}
 use Rattle.lexing.proofs.Onward.{Onward}
 use Rattle.lexing.proofs.Slicing.{Took, took, walks, reads-in, rest-self, keyword-took}
-use Rattle.lexing.proofs.words.Laws.{keyword-says}
+use Rattle.lexing.proofs.FirstWord.{free-keywords}
+use Rattle.lexing.proofs.words.Laws.{keyword-says, key-differs}
 use Rattle.lexing.proofs.word_sets.Laws.{same-eq, like-keyword}
 use Rattle.items.specs.entries.{present}
 use Rattle.items.specs.structs.{StructField as StructFieldOf, max-length, list-marker, parse-field, parse-struct-field, closed-field, fields-run, struct-fields, regular, response-code, struct-kind, struct-type-of, struct-head, parse-struct-after-doc-maturity}
@@ -60,9 +62,10 @@ use Rattle.lexing.proofs.WordBetween.{word-moved}
 use Rattle.items.proofs.WordBetween.{extent-between}
 use Rattle.items.proofs.writing.Laws.{plain-bytes, documented-put, Writing, writing-fits, writing-more, writing-ends}
 use Rattle.items.proofs.counts.Laws.{Counting, counting-more}
-use Rattle.items.proofs.Calm.{calm-tag}
-use Rattle.items.proofs.Choice.{or-lost}
-use Rattle.items.proofs.Tries.{shared-any}
+use Rattle.items.proofs.Calm.{Calm, calm-absent, calm-ret, calm-then, calm-tag, calm-blanks}
+use Rattle.items.proofs.Choice.{or-fail, or-keep}
+use Rattle.items.proofs.Letters.{outs-free}
+use Rattle.items.proofs.Tries.{opt-none, opt-some, shared-any}
 use Rattle.lexing.proofs.optional.Laws.{opt-ok, opt-fail, opt-stop}
 use Rattle.lexing.proofs.steps.Laws.{blank-at-took}
 
@@ -99,9 +102,12 @@ module _ (n : ℕ) (r : List ℕ) (a : Number) {x : MaxLength} (h : numberReply 
       ap (λ (y : Lost). lostReply y) z ∙ subst (λ (y : MaxLength). lengthReply y n r ≡ opt max-length n r) f length-reads
 
 -- the two ways of a list's marker
-pub marker-none : (t n : ℕ) (r : List ℕ) (l : Lost) (b : ℕ) (u : List ℕ) → lostReply l ≡ tag t n r → lostReply l ≡ list-marker b u → MarkerTo (record { list = false; next = b }) b u
-marker-none t n r (Fail p) b u h e = let z : b - b ≡ 0 = omega arith in record { reads = rw z (opt-fail list-marker b u p e); up = omega arith; inside = omega arith }
-marker-none t n r (Stop i p) b u h e = absurd (rw (← h) at (calm-tag t .runs n r))
+calm-marker : Calm list-marker
+unfolding list-marker
+calm-marker = calm-then (calm-tag 91) (calm-then calm-blanks (calm-then (calm-tag 93) (calm-then calm-blanks (calm-ret tt))))
+
+pub marker-none : (l : Lost) {b : ℕ} {u : List ℕ} → lostReply l ≡ list-marker b u → MarkerTo (record { list = false; next = b }) b u
+marker-none l e = record { reads = calm-absent calm-marker l e; up = omega arith; inside = omega arith }
 
 pub marker-is : (b c : ℕ) (u : List ℕ) → ok tt c (drop (c - b) u) ≡ list-marker b u → MarkerTo (record { list = true; next = c }) b u
 marker-is b c u e =
@@ -218,24 +224,52 @@ keyword-bytes k u {b} {c} e = rw (← e) at (keyword-says k b u)
 
 -- the keyword k, which says the kind x, and the blanks behind it
 pub word-is : (k : List ℕ) (x t : StructKind) {b c n : ℕ} {u : List ℕ} → ok (wordAt b u c) c (drop (c - b) u) ≡ keyword k b u → struct-kind k ≡ typeBy x
-    → t ≡ kindBy (isLower (take (c - b) u)) x → ok (wordAt b u c) c (drop (c - b) u) ≡ any-keyword struct-words b u → BlankAt n b u c → StructWordTo (record { kind = t; next = n }) b u
+    → t ≡ kindBy (isLower (take (c - b) u)) x → BlankAt n b u c → StructWordTo (keyword k) (record { kind = t; next = n }) b u
 unfolding struct-type-of bytesOf
-word-is k x t {b} {c} {n} {u} z s d r g = record {
+word-is k x t {b} {c} {n} {u} z s d g = record {
   read = some (wordAt b u c);
   end = c;
-  reads = opt-ok (any-keyword struct-words) b u (wordAt b u c) c (drop (c - b) u) r;
+  reads = opt-ok (keyword k) b u (wordAt b u c) c (drop (c - b) u) z;
   means = rw d (kind-means (take (c - b) u) k x (keyword-bytes k u z) s);
   blanks = g;
 }
 
 -- and none
-pub word-none : {b n : ℕ} {u : List ℕ} → fail b ≡ keyword (ascii "request") b u → fail b ≡ keyword (ascii "response") b u → fail b ≡ keyword (ascii "shared") b u → BlankAt n b u b
-    → StructWordTo (record { kind = Regular; next = n }) b u
-unfolding any-keyword struct-type-of typeBy
-word-none {b} {n} {u} x y z g =
-    let e = sym (or-lost _ _ (sym x) (or-lost _ _ (sym y) (or-lost _ _ (sym z) refl))) in
+pub word-none : (k : List ℕ) {b n : ℕ} {u : List ℕ} → fail b ≡ keyword k b u → BlankAt n b u b → StructWordTo (keyword k) (record { kind = Regular; next = n }) b u
+unfolding struct-type-of typeBy
+word-none k {b} {n} {u} e g =
     let o : b - b ≡ 0 = omega arith in
-    record { read = none; end = b; reads = rw o (opt-fail (any-keyword struct-words) b u _ e); means = refl; blanks = g }
+    record { read = none; end = b; reads = rw o (opt-fail (keyword k) b u b e); means = refl; blanks = g }
+
+-- an optional choice, where one of its two sides fails: the place does not count
+opt-further : {A : Type 0} (m k : Parser A) (p : ℕ) {b : ℕ} {u : List ℕ} → k b u ≡ further p (m b u) → opt m b u ≡ opt k b u
+unfolding further
+opt-further {A} m k p {b} {u} h = go (m b u) refl
+  where
+    go : (x : Reply A) → m b u ≡ x → opt m b u ≡ opt k b u
+    go (ok a c r) e = opt-some m e ∙ sym (opt-some k (h ∙ ap (further p) e))
+    go (fail q) e = opt-none m e ∙ sym (opt-none k (h ∙ ap (further p) e))
+    go (stop n q) e = sym (opt-stop m b u n q (sym e)) ∙ opt-stop k b u n q (sym (h ∙ ap (further p) e))
+
+-- the word among those that may stand there
+word-among : {m k : Parser Word} {b : ℕ} {u : List ℕ} {t : StructWord} → opt m b u ≡ opt k b u → StructWordTo m t b u → StructWordTo k t b u
+word-among e h = record { read = h .read; end = h .end; reads = h .reads ∙ e; means = h .means; blanks = h .blanks }
+
+module _ {b : ℕ} {u : List ℕ} {t : StructWord} (s : fail b ≡ keyword (ascii "shared") b u) where
+  pub request-left : lower (getD u 2 0) ≡ 113 → StructWordTo (keyword (ascii "request")) t b u → StructWordTo (any-keyword struct-words) t b u
+  unfolding any-keyword
+  request-left l h =
+      let f = outs-free b u ((2, 113) ∷ []) (l, tt) [] tt (ascii "response" ∷ []) refl in
+      word-among (opt-further _ _ b (or-keep _ _ (free-keywords b u (ascii "response" ∷ ascii "shared" ∷ []) (f .0, (sym s, tt))))) h
+
+  pub response-left : (lower (getD u 2 0) ≡ 113 → ⊥) → StructWordTo (keyword (ascii "response")) t b u → StructWordTo (any-keyword struct-words) t b u
+  unfolding any-keyword
+  response-left n h =
+      let e = key-differs (ascii "request") b u 2 (ltb-true 2 7 refl) (λ o w. n o) in
+      let last = any-keyword (ascii "shared" ∷ []) in
+      let two = keyword (ascii "response") or last in
+      let f : opt (keyword (ascii "response")) b u ≡ opt two b u = opt-further _ _ b (or-keep _ last (free-keywords b u (ascii "shared" ∷ []) (sym s, tt))) in
+      word-among {m = two} (opt-further two _ b (or-fail _ two (sym e))) (word-among f h)
 
 -- `shared`, whose blanks were read
 keyword-size : (w k : List ℕ) → isKeyword w k ≡ true → length w ≡ length k
@@ -267,17 +301,18 @@ module _ {f b : ℕ} {u : List ℕ} where
   pub shared-fits : StructFrom f b u → b < f → 6 ≤ length u
   shared-fits h l = let s = shared-word h l in omega (arith, s .six, s .inside)
 
-  pub word-shared : StructFrom f b u → b < f → {t : StructKind} → t ≡ kindBy (isLower (take 6 u)) Shared → StructWordTo (record { kind = t; next = f }) b u
+  pub word-shared : StructFrom f b u → b < f → {t : StructKind} → t ≡ kindBy (isLower (take 6 u)) Shared → StructWordTo (any-keyword struct-words) (record { kind = t; next = f }) b u
   word-shared h l {t} d =
       let s = shared-word h l in
-      word-is (ascii "shared") Shared t (s .word) shared-kind (rw (s .six) d) (sym (shared-any b u (sym (s .word)))) (s .blanks)
+      let e = shared-any b u (sym (s .word)) in
+      word-among (opt-some _ (sym (s .word)) ∙ sym (opt-some _ e)) (word-is (ascii "shared") Shared t (s .word) shared-kind (rw (s .six) d) (s .blanks))
 
   -- nor is it there where a struct goes on at its start
   pub word-unshared : StructFrom f b u → f ≤ b → fail b ≡ keyword (ascii "shared") b u
   word-unshared (behind-shared c k g) l = let s = six-bytes c k g in absurd (omega (arith, s .six, blank-at-took (s .blanks) .up, l))
   word-unshared (not-shared e k) l = sym k
 
-pub struct-word-took : {b n : ℕ} {u r : List ℕ} {t : StructWord} → Rest b u n r → (h : StructWordTo t n r) → Took (opt (any-keyword struct-words)) b u n (h .read) (h .end)
+pub struct-word-took : {b n : ℕ} {u r : List ℕ} {t : StructWord} → Rest b u n r → (h : StructWordTo (any-keyword struct-words) t n r) → Took (opt (any-keyword struct-words)) b u n (h .read) (h .end)
 struct-word-took q h = took (walks (chain-opt (any-keyword-chain struct-words))) q (h .reads)
 
 -- the code of a struct that has none

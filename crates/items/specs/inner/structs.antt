@@ -7,7 +7,7 @@ use mathlib.Core.List.{List, [], _∷_}
 use lib.ListN.{length}
 use Rattle.lexing.specs.bytes.{ascii}
 use Rattle.lexing.specs.reply.{Reply, Parser, ret, opt}
-use Rattle.lexing.specs.words.{Word, any-keyword}
+use Rattle.lexing.specs.words.{Word}
 use Rattle.lexing.specs.answers.{Answer, got, lost, reply, docOf, BlankAt}
 use Rattle.lexing.specs.declared.answers.Lost.{Lost}
 use Rattle.lexing.specs.declared.answers.Lost.the-variants.{Fail, Stop}
@@ -68,11 +68,11 @@ typeBy Shared = ret shared
 abbrev pub struct-words : List (List ℕ)
 struct-words = ascii "request" ∷ ascii "response" ∷ ascii "shared" ∷ []
 
--- the word before a struct, by the kind that it says, and the blanks behind it
-pub record StructWordTo (r : StructWord) (b : ℕ) (u : List ℕ) : Type 0 where
+-- the word before a struct, which m reads, by the kind that it says, and the blanks behind it
+pub record StructWordTo (m : Parser Word) (r : StructWord) (b : ℕ) (u : List ℕ) : Type 0 where
   pub read : Option Word
   pub end : ℕ
-  pub reads : reply (got read end) b u ≡ opt (any-keyword struct-words) b u
+  pub reads : reply (got read end) b u ≡ opt m b u
   pub means : struct-type-of read ≡ typeBy (r .kind)
   pub blanks : BlankAt (r .next) b u end
 
