@@ -38,7 +38,6 @@ use lexing::names::code_at;
 use lexing::names::keyword_name;
 use lexing::names::named_lost;
 use lexing::names::word_apart;
-use lexing::names::word_behind;
 use lexing::parts::peek;
 use lexing::parts::rest_at;
 use lexing::steps::blank_at;
@@ -46,6 +45,7 @@ use lexing::steps::integer_behind;
 use lexing::steps::tag_behind;
 use lexing::word_sets::is_lower;
 use lexing::word_sets::keywords_set;
+use lexing::words::id_at;
 use lexing::words::keyword;
 use lexing::words::tag;
 
@@ -186,11 +186,15 @@ pub fn parse_field(part: &[u8], base: usize) -> FieldRead
     requires { ⌜ base + length (now part) ≤ text-limit ⌝ }
     ensures { λ r. ⌜ FieldTo r base (now (part .entry)) ⌝ }
 {
-    let typed = word_behind(part, base, base);
-    let Named::Name(type_at, type_end, c1) = typed else {
-        return FieldRead::NoField(named_lost(typed));
+    let type_at = blank_at(part, base, base);
+    let typed = id_at(part, base, type_at);
+    let Step::Next(type_end) = typed else {
+        return FieldRead::NoField(step_lost(typed));
     };
-    let length = optional_length(max_length(rest_at(part, base, c1), c1), c1);
+    let length = optional_length(
+        max_length(rest_at(part, base, type_end), type_end),
+        type_end,
+    );
     let MaxLength::Length(has_maximum, maximum, c2) = length else {
         return FieldRead::NoField(length_lost(length));
     };
