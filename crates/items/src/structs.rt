@@ -186,6 +186,7 @@ pub fn parse_field(part: &[u8], base: usize) -> FieldRead
     requires { ⌜ base + length (now part) ≤ text-limit ⌝ }
     ensures { λ r. ⌜ FieldTo r base (now (part .entry)) ⌝ }
 {
+    // In place, and not by `word_behind`, which stays a function of its own, since it is called at several places.
     let type_at = blank_at(part, base, base);
     let typed = id_at(part, base, type_at);
     let Step::Next(type_end) = typed else {
