@@ -82,13 +82,10 @@ module _ (k j : List ℕ) (b : ℕ) (u : List ℕ) where
           h' ∙ (z ∙ (ap fail m ∙ rw (f, z, any-keyword, _or_) refl))
       go (stop n p) z = absurd (rw z at (keyword-says j b u))
 
-  pub either-took : {n c : ℕ} {r : List ℕ} {a : Step} → Rest b u n r → a ≡ Next c → wordReply a n r ≡ any-keyword (k ∷ j ∷ []) n r → Took (any-keyword (k ∷ j ∷ [])) b u n (wordAt n r c) c
-  either-took {n} {c} {r} {a} q e h = took (walks (any-keyword-chain (k ∷ j ∷ []))) q (told-next (wordAt n r) a c n r (any-keyword (k ∷ j ∷ []) n r) e h)
-
 -- the word of a side, and the gap behind it
 module _ {b : ℕ} {u : List ℕ} {a : Step} (h : wordReply a b u ≡ any-keyword (ascii "client" ∷ ascii "server" ∷ []) b u) where
   pub side-word : {c : ℕ} → a ≡ Next c → Took (any-keyword (ascii "client" ∷ ascii "server" ∷ [])) b u b (wordAt b u c) c
-  side-word e = either-took (ascii "client") (ascii "server") b u (rest-self b u) e h
+  side-word {c} e = took (walks (any-keyword-chain (ascii "client" ∷ ascii "server" ∷ []))) (rest-self b u) (told-next (wordAt b u) a c b u _ e h)
 
   pub side-not : {l : Lost} → a ≡ Not l → Skips side a b u
   unfolding side
