@@ -185,14 +185,15 @@ fn shared_kind(part: &[u8], base: usize, c1: usize) -> Candidate
             from,
         };
     }
-    if starts(rest_at(part, base, from), from, b"bitmap") {
+    let rest = rest_at(part, base, from);
+    if starts(rest, from, b"bitmap") {
         return Candidate {
             kind: MemberKind::Bitmap,
             floor: from,
             from,
         };
     }
-    if starts(rest_at(part, base, from), from, b"enum") {
+    if starts(rest, from, b"enum") {
         return Candidate {
             kind: MemberKind::Enum,
             floor: from,
@@ -351,14 +352,10 @@ fn side(part: &[u8], base: usize) -> Step
     ensures { λ r. ⌜ Skips side r base (now (part .entry)) ⌝ }
 {
     let word = either(part, base, b"client", b"server");
-    let Step::Next(c1) = word else {
-        return Step::Not(step_lost(word));
+    let Step::Next(c) = word else {
+        return word;
     };
-    let gap = gap_at(part, base, c1);
-    let Step::Next(c2) = gap else {
-        return Step::Not(step_lost(gap));
-    };
-    Step::Next(c2)
+    gap_at(part, base, c)
 }
 
 pub fn cluster_head(part: &[u8], base: usize) -> ClusterHeadRead

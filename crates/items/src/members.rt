@@ -12,7 +12,7 @@ ghost use Rattle.items.specs.members.{access-privilege, event-priority, 
 ghost use Rattle.items.specs.answers.{FrontFits, Room, Written};
 ghost use Rattle.items.specs.answers.members.{levelLost, LevelTo, LevelAt, access-opening, colon-privilege, PrivilegeTo, eventQualitiesLost, EventQualitiesTo, eventHeadLost, EventHeadTo, EventCountTo, commandHeadLost, CommandHeadTo, commandTypesLost, CommandTypesTo, EventHeadBetween, CommandBetween, CommandTo, CommandCountTo, command-records};
 ghost use Rattle.items.specs.answers.members.{numbered};
-ghost use Rattle.items.specs.inner.members.{event-word, OptionalIdTo, extentIf, command-parts, event-first};
+ghost use Rattle.items.specs.inner.members.{event-word, OptionalIdAt, extentIf, command-parts, event-first};
 use crate::counts::Count;
 use crate::structs::struct_fields;
 use crate::structs::write_struct_fields;
@@ -44,8 +44,8 @@ use lexing::steps::gap_at;
 use lexing::steps::keyword_behind;
 use lexing::steps::tag_behind;
 use lexing::word_sets::keywords_set;
+use lexing::words::id_at;
 use lexing::words::keyword;
-use lexing::words::parse_id;
 use lexing::words::tag;
 
 // The number of a keyword out of at most four and the offset behind it, or why there is none.
@@ -371,14 +371,14 @@ pub fn command_head_lost(r: CommandHeadRead) -> Lost
     }
 }
 
-// The offset behind a name that may be absent.
-fn optional_id(part: &[u8], base: usize) -> usize
-    requires { ⌜ base + length (now part) ≤ text-limit ⌝ }
-    ensures { λ r. ⌜ OptionalIdTo r base (now (part .entry)) ⌝ }
+// The offset behind a name that may be absent, from an offset of a part.
+fn optional_id(part: &[u8], base: usize, c: usize) -> usize
+    requires { ⌜ ((base ≤ c) × (c ≤ base + length (now part))) × (base + length (now part) ≤ text-limit) ⌝ }
+    ensures { λ r. ⌜ OptionalIdAt r base (now (part .entry)) c ⌝ }
 {
-    let id = parse_id(part, base);
+    let id = id_at(part, base, c);
     let Step::Next(end) = id else {
-        return base;
+        return c;
     };
     end
 }
@@ -393,7 +393,7 @@ pub fn command_types(part: &[u8], base: usize) -> CommandTypesRead
         return CommandTypesRead::NoCommandTypes(step_lost(opening));
     };
     let input = blank_at(part, base, c1);
-    let input_end = optional_id(rest_at(part, base, input), input);
+    let input_end = optional_id(part, base, input);
     let closing = tag_behind(part, base, input_end, b')');
     let Step::Next(c2) = closing else {
         return CommandTypesRead::NoCommandTypes(step_lost(closing));

@@ -8,8 +8,8 @@ use lib.ListN.{length, drop}
 use Rattle.lexing.specs.bytes.{ascii}
 use Rattle.lexing.specs.reply.{Reply, ok, fail, stop, Parser, ret, _>>_, catch, failAt, _or_, further, opt, many0}
 use Rattle.lexing.specs.words.{Word, keyword, any-keyword, tag}
-use Rattle.lexing.specs.blanks.{Doc, whitespace0}
-use Rattle.lexing.specs.answers.{Rest, wordAt, wordReply, lostReply, NameIn}
+use Rattle.lexing.specs.blanks.{Doc, whitespace0, whitespace1}
+use Rattle.lexing.specs.answers.{Rest, wordAt, wordReply, lostReply, NameIn, Skips, SkipsAt}
 use Rattle.lexing.specs.declared.answers.Lost.{Lost}
 use Rattle.lexing.specs.declared.answers.Lost.the-variants.{Fail, Stop}
 use Rattle.lexing.specs.declared.answers.Step.{Step}
@@ -22,7 +22,9 @@ use Rattle.lexing.proofs.TokenLocality.{any-keyword-chain, whitespace0-chain}
 use Rattle.lexing.proofs.FirstWord.{Frees, free-keywords}
 use Rattle.lexing.proofs.Repetition.{many0-step, many0-ends}
 use Rattle.lexing.proofs.words.Laws.{keyword-says}
-use Rattle.lexing.proofs.Slicing.{Took, took, walks, told-next, or-here, begin, go, on, done, fall, rest-self, rest-from}
+use Rattle.lexing.proofs.Slicing.{Took, took, walks, told-next, told-not, or-here, begin, go, on, done, lose, fall, rest-self, rest-from}
+use Rattle.lexing.proofs.Dropping.{skip-is, skip-not, no-word}
+use Rattle.lexing.proofs.steps.Laws.{gap-at-took, skips-lost}
 use Rattle.items.specs.entries.{enclosed, where-missing, braces, api-maturity, choice-after-doc-maturity, parse-enum-after-doc-maturity, parse-bitmap-after-doc-maturity}
 use Rattle.items.specs.structs.{parse-struct-after-doc-maturity}
 use Rattle.items.specs.members.{parse-event-after-doc-maturity, parse-command-after-doc-maturity, parse-attribute-after-doc-maturity}
@@ -80,8 +82,19 @@ module _ (k j : List ℕ) (b : ℕ) (u : List ℕ) where
           h' ∙ (z ∙ (ap fail m ∙ rw (f, z, any-keyword, _or_) refl))
       go (stop n p) z = absurd (rw z at (keyword-says j b u))
 
-  pub either-took : {n c : ℕ} {r : List ℕ} {a : Step} → Rest b u n r → a ≡ Next c → wordReply a n r ≡ any-keyword (k ∷ j ∷ []) n r → Took (any-keyword (k ∷ j ∷ [])) b u n (wordAt n r c) c
-  either-took {n} {c} {r} {a} q e h = took (walks (any-keyword-chain (k ∷ j ∷ []))) q (told-next (wordAt n r) a c n r (any-keyword (k ∷ j ∷ []) n r) e h)
+-- the word of a side, and the gap behind it
+module _ {b : ℕ} {u : List ℕ} {a : Step} (h : wordReply a b u ≡ any-keyword (ascii "client" ∷ ascii "server" ∷ []) b u) where
+  pub side-word : {c : ℕ} → a ≡ Next c → Took (any-keyword (ascii "client" ∷ ascii "server" ∷ [])) b u b (wordAt b u c) c
+  side-word {c} e = took (walks (any-keyword-chain (ascii "client" ∷ ascii "server" ∷ []))) (rest-self b u) (told-next (wordAt b u) a c b u _ e h)
+
+  pub side-not : {l : Lost} → a ≡ Not l → Skips side a b u
+  unfolding side
+  side-not {l} e = subst (λ (x : Step). Skips side x b u) (sym e) (skip-not side no-word l b u (begin side b u (lose _ _ l (rest-self b u) (told-not (wordAt b u) a l b u _ e h))))
+
+  pub side-is : {c : ℕ} → a ≡ Next c → (r : Step) → SkipsAt whitespace1 r b u c → Skips side r b u
+  unfolding side
+  side-is e (Next d) k = skip-is side _ b d u (begin side b u (go _ (side-word e) (on _ (gap-at-took refl k) (done _ _ _ _))))
+  side-is e (Not l) k = skip-not side no-word l b u (begin side b u (go _ (side-word e) (fall _ _ l (k .at) (skips-lost refl refl k))))
 
 pub side-on : Onward (opt side)
 side-on = walks (chain-opt (side-local .on-chain))

@@ -4,11 +4,12 @@ use mathlib.Core.Bool.{Bool, true, false}
 use mathlib.Core.Path.{_≡_}
 use mathlib.Core.List.{List, [], _∷_}
 use lib.Dec.{ltb}
+use lib.ListN.{drop}
 use Rattle.lexing.specs.bytes.{ascii}
 use Rattle.lexing.specs.reply.{Parser, _>>_, opt}
 use Rattle.lexing.specs.words.{parse-id, keyword}
 use Rattle.lexing.specs.blanks.{Doc, whitespace1}
-use Rattle.lexing.specs.answers.{got, reply, docOf}
+use Rattle.lexing.specs.answers.{Rest, got, reply, docOf}
 use Rattle.items.specs.records.{Extent, absent, at, Record, bits, value, spanned, flag, documented}
 use Rattle.items.specs.answers.members.{optionalBetween}
 use Rattle.items.specs.declared.members.EventHeadParts.{EventHeadParts}
@@ -27,6 +28,11 @@ event-word = do
 -- a name that may be absent ends at r
 abbrev pub OptionalIdTo : ℕ → ℕ → List ℕ → Type 0
 OptionalIdTo r b u = reply (got (optionalBetween b u b r) r) b u ≡ opt parse-id b u
+
+-- the same from an offset c of a part
+pub record OptionalIdAt (r b : ℕ) (u : List ℕ) (c : ℕ) : Type 0 where
+  pub at : Rest b u c (drop (c - b) u)
+  pub reads : OptionalIdTo r c (drop (c - b) u)
 
 -- the first record of an event, by offsets
 abbrev pub event-first : FrontParts → EventHeadParts → Record

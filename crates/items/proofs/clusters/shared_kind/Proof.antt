@@ -28,20 +28,17 @@ starts-requires c κs = omega (arith, c .before .rest-at2 .ensures .size, c .bef
 returns-2 : tie.Need-returns-2
 returns-2 c = kind-bitmap _ _ (c .before .before .before .before .before .before .before .before .pre .1 .0) _ (c .before .before .before .before .before .before .before .before .pre .1 .1) (c .before .before .before .before .before .before .rest-at .ensures) _ (c .before .before .before .before .before .whitespace0 .ensures) (c .before .before .before .before .if1 .left) (rest-starts (c .before .before .before .rest-at2 .ensures) (ascii "bitmap") (c .before .starts .ensures) (c .if2 .taken))
 
-rest-at-requires-3 : tie.Need-rest-at-requires-3
-rest-at-requires-3 c κs = omega (arith, (blank-took (c .before .before .before .before .before .before .rest-at .ensures) (c .before .before .before .before .before .whitespace0 .ensures)) .up, (blank-took (c .before .before .before .before .before .before .rest-at .ensures) (c .before .before .before .before .before .whitespace0 .ensures)) .inside, c .before .before .before .before .before .before .rest-at .ensures .from)
-
 slice-aggregate-starts-2 : tie.Need-slice-aggregate-starts-2
 slice-aggregate-starts-2 c = search needs
 
 starts-requires-2 : tie.Need-starts-requires-2
-starts-requires-2 c κs = omega (arith, c .before .rest-at3 .ensures .size, c .before .before .before .before .before .before .before .before .before .before .pre .0)
+starts-requires-2 c κs = omega (arith, c .before .before .before .before .rest-at2 .ensures .size, c .before .before .before .before .before .before .before .before .before .pre .0)
 
 returns-3 : tie.Need-returns-3
-returns-3 c = kind-enum _ _ (c .before .before .before .before .before .before .before .before .before .before .before .before .pre .1 .0) _ (c .before .before .before .before .before .before .before .before .before .before .before .before .pre .1 .1) (c .before .before .before .before .before .before .before .before .before .before .rest-at .ensures) _ (c .before .before .before .before .before .before .before .before .before .whitespace0 .ensures) (c .before .before .before .before .before .before .before .before .if1 .left) (rest-starts (c .before .before .before .rest-at3 .ensures) (ascii "enum") (c .before .starts2 .ensures) (c .if3 .taken))
+returns-3 c = kind-enum _ _ (c .before .before .before .before .before .before .before .before .before .before .before .pre .1 .0) _ (c .before .before .before .before .before .before .before .before .before .before .before .pre .1 .1) (c .before .before .before .before .before .before .before .before .before .rest-at .ensures) _ (c .before .before .before .before .before .before .before .before .whitespace0 .ensures) (c .before .before .before .before .before .before .before .if1 .left) (rest-starts (c .before .before .before .before .before .before .rest-at2 .ensures) (ascii "enum") (c .before .starts2 .ensures) (c .if3 .taken))
 
 returns-4 : tie.Need-returns-4
-returns-4 c = kind-struct _ _ (c .before .before .before .before .before .before .before .before .before .before .before .before .pre .1 .0) _ (c .before .before .before .before .before .before .before .before .before .before .before .before .pre .1 .1) (c .before .before .before .before .before .before .before .before .before .before .rest-at .ensures) _ (c .before .before .before .before .before .before .before .before .before .whitespace0 .ensures) (c .before .before .before .before .before .before .before .before .if1 .left) (rest-frees (c .before .before .before .before .before .before .before .rest-at2 .ensures) (ascii "bitmap") (c .before .before .before .before .before .starts .ensures) (c .before .before .before .before .if2 .left)) (rest-frees (c .before .before .before .rest-at3 .ensures) (ascii "enum") (c .before .starts2 .ensures) (c .if3 .left))
+returns-4 c = kind-struct _ _ (c .before .before .before .before .before .before .before .before .before .before .before .pre .1 .0) _ (c .before .before .before .before .before .before .before .before .before .before .before .pre .1 .1) (c .before .before .before .before .before .before .before .before .before .rest-at .ensures) _ (c .before .before .before .before .before .before .before .before .whitespace0 .ensures) (c .before .before .before .before .before .before .before .if1 .left) (rest-frees (c .before .before .before .before .before .before .rest-at2 .ensures) (ascii "bitmap") (c .before .before .before .before .starts .ensures) (c .before .before .before .if2 .left)) (rest-frees (c .before .before .before .before .before .before .rest-at2 .ensures) (ascii "enum") (c .before .starts2 .ensures) (c .if3 .left))
 
 pub shared-kind-spec : {M : Type 1} → statement M
 shared-kind-spec =
@@ -54,7 +51,6 @@ shared-kind-spec =
     slice-aggregate-starts
     starts-requires
     returns-2
-    rest-at-requires-3
     slice-aggregate-starts-2
     starts-requires-2
     returns-3

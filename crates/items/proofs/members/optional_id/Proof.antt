@@ -3,8 +3,8 @@ use Rattle.items.proofs.members.optional_id.Statement.{statement}
 use Rattle.items.proofs.members.optional_id.Tie as tie
 use Rattle.items.proofs.members.Laws.{id-there, id-absent}
 
-parse-id-requires : tie.Need-parse-id-requires
-parse-id-requires c κs = search needs
+id-at-requires : tie.Need-id-at-requires
+id-at-requires c κs = search needs
 
 enum-known-id : tie.Need-enum-known-id
 enum-known-id c = c .match .keys1
@@ -13,10 +13,10 @@ enum-told : tie.Need-enum-told
 enum-told c = c .match .keys2
 
 returns : tie.Need-returns
-returns c = id-absent _ _ (c .before .before .parse-id .ensures) (c .enum-told .given .1)
+returns c = record { at = c .before .before .id-at .ensures .at; reads = id-absent _ _ (c .before .before .id-at .ensures .reads) (c .enum-told .given .1) }
 
 returns-2 : tie.Need-returns-2
-returns-2 c = id-there _ _ (c .before .before .before .parse-id .ensures) (c .before .id .given .1)
+returns-2 c = record { at = c .before .before .before .id-at .ensures .at; reads = id-there _ _ (c .before .before .before .id-at .ensures .reads) (c .before .id .given .1) }
 
 pub optional-id-spec : {M : Type 1} → statement M
-optional-id-spec = tie.close (tie.spec parse-id-requires enum-known-id enum-told returns returns-2)
+optional-id-spec = tie.close (tie.spec id-at-requires enum-known-id enum-told returns returns-2)
