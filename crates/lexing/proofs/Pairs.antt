@@ -99,15 +99,15 @@ bind-same-at g h e (ok a c r) n v = e a c r
 bind-same-at g h e (fail q) n v = refl
 bind-same-at g h e (stop i q) n v = refl
 
-bind-same : {A B : Type 0} (m : Parser A) (g h : A → Parser B) → ((a : A) (n : ℕ) (v : List ℕ) → g a n v ≡ h a n v) → (n : ℕ) (v : List ℕ) → (m >>= g) n v ≡ (m >>= h) n v
+pub bind-same : {A B : Type 0} (m : Parser A) (g h : A → Parser B) → ((a : A) (n : ℕ) (v : List ℕ) → g a n v ≡ h a n v) → (n : ℕ) (v : List ℕ) → (m >>= g) n v ≡ (m >>= h) n v
 unfolding _>>=_
 bind-same m g h e n v = bind-same-at g h e (m n v) n v
 
-bind-assoc : {A B C : Type 0} (m : Parser A) (g : A → Parser B) (k : B → Parser C) (n : ℕ) (v : List ℕ) → ((m >>= g) >>= k) n v ≡ (m >>= (λ a. g a >>= k)) n v
+pub bind-assoc : {A B C : Type 0} (m : Parser A) (g : A → Parser B) (k : B → Parser C) (n : ℕ) (v : List ℕ) → ((m >>= g) >>= k) n v ≡ (m >>= (λ a. g a >>= k)) n v
 unfolding _>>=_
 bind-assoc m g k n v = bind-at g k (m n v) n v
 
-ret-first : {A B : Type 0} (a : A) (k : A → Parser B) (n : ℕ) (v : List ℕ) → (ret a >>= k) n v ≡ k a n v
+pub ret-first : {A B : Type 0} (a : A) (k : A → Parser B) (n : ℕ) (v : List ℕ) → (ret a >>= k) n v ≡ k a n v
 unfolding _>>=_ ret
 ret-first a k n v = refl
 

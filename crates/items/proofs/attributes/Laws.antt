@@ -21,6 +21,7 @@ use Rattle.lexing.proofs.Onward.{Onward}
 use Rattle.lexing.proofs.FirstWord.{blank-clear}
 use Rattle.lexing.proofs.Locality.{OnChain, Consumes, chain-ret, chain-bind, chain-then, chain-inside, chain-opt, consumes-right, consumes-then-left, consumes-then-right}
 use Rattle.lexing.proofs.TokenLocality.{keyword-chain, any-keyword-chain, keyword-consumes, whitespace0-chain, whitespace1-chain, set-flags-chain}
+use Rattle.lexing.proofs.Pairs.{bind-same, bind-assoc, ret-first}
 use Rattle.lexing.proofs.Slicing.{Took, took, walks, reads-in, told-next, rest-self, blank-took, begin, go, on, lose, fall, done, or-here, or-next}
 use Rattle.lexing.proofs.Repetition.{before, many0-more, many0-fail}
 use Rattle.lexing.proofs.blanks.Laws.{blanks-none}
@@ -472,17 +473,10 @@ module _ {a : AttributeHeadRead} {b : ℕ} {u : List ℕ} (h : AttributeHeadTo a
 
 -- steps that are taken together are taken one after the other
 one-by-one : {A B C : Type 0} (m : Parser A) (g : A → Parser B) (k : B → Parser C) (f : A → Parser C) → ((a : A) → f a ≡ (g a >>= k)) → (m >>= f) ≡ ((m >>= g) >>= k)
-unfolding _>>=_
-one-by-one {A} {B} {C} m g k f e = fun-ext λ b. fun-ext λ u. at (m b u) refl
-  where
-    at : {b : ℕ} {u : List ℕ} (x : Reply A) → m b u ≡ x → (m >>= f) b u ≡ ((m >>= g) >>= k) b u
-    at (ok a c r) z = rw (z, _>>=_) (ap (λ (p : Parser C). p c r) (e a))
-    at (fail p) z = rw (z, _>>=_)
-    at (stop n p) z = rw (z, _>>=_)
+one-by-one {A} {B} {C} m g k f e = fun-ext λ n. fun-ext λ v. bind-same m f (λ a. g a >>= k) (λ a c r. ap (λ (p : Parser C). p c r) (e a)) n v ∙ sym (bind-assoc m g k n v)
 
 made : {A B : Type 0} (a : A) (k : A → Parser B) → k a ≡ (ret a >>= k)
-unfolding _>>=_ ret
-made a k = refl
+made a k = fun-ext λ n. fun-ext λ v. sym (ret-first a k n v)
 
 field-steps : {A : Type 0} (k : StructFieldOf → Parser A) → (whitespace0 >> (parse-struct-field >>= λ f. whitespace0 >> (tag (byte ";") >> k f))) ≡ (closed-field >>= k)
 unfolding closed-field _>>_
