@@ -193,7 +193,10 @@ pub fn attribute_access(part: &[u8], base: usize) -> PrivilegesRead
     let grants = entries.grants;
     match grants {
         Grants::Granted(read, write) => PrivilegesRead::Privileges(read, write, c3),
-        Grants::RefusedAt(at) => PrivilegesRead::NoPrivileges(Lost::Stop(6, at)),
+        Grants::RefusedAt(at) => PrivilegesRead::NoPrivileges(Lost {
+            number: 6,
+            place: at,
+        }),
     }
 }
 
@@ -201,7 +204,10 @@ pub fn privileges_lost(r: PrivilegesRead) -> Lost
     ensures { λ x. ⌜ x ≡ privilegesLost r ⌝ }
 {
     match r {
-        PrivilegesRead::Privileges(_, _, c) => Lost::Fail(c),
+        PrivilegesRead::Privileges(_, _, c) => Lost {
+            number: 3,
+            place: c,
+        },
         PrivilegesRead::NoPrivileges(l) => l,
     }
 }
@@ -237,7 +243,10 @@ fn attribute_head_lost(r: AttributeHeadRead) -> Lost
     ensures { λ x. ⌜ x ≡ attributeHeadLost r ⌝ }
 {
     match r {
-        AttributeHeadRead::AttributeHead(_, c) => Lost::Fail(c),
+        AttributeHeadRead::AttributeHead(_, c) => Lost {
+            number: 3,
+            place: c,
+        },
         AttributeHeadRead::NoAttributeHead(l) => l,
     }
 }

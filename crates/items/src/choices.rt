@@ -76,7 +76,10 @@ pub fn choice_head_lost(r: ChoiceHeadRead) -> Lost
     ensures { λ x. ⌜ x ≡ choiceHeadLost r ⌝ }
 {
     match r {
-        ChoiceHeadRead::ChoiceHead(_, c) => Lost::Fail(c),
+        ChoiceHeadRead::ChoiceHead(_, c) => Lost {
+            number: 3,
+            place: c,
+        },
         ChoiceHeadRead::NoChoiceHead(l) => l,
     }
 }

@@ -267,7 +267,10 @@ fn count_member(part: &[u8], base: usize, k: Candidate, doc: DocSpan, maturity: 
         MemberKind::Attribute => parse_attribute_after_doc_maturity(part, base),
         MemberKind::Command => count_command(part, base),
         MemberKind::Event => parse_event_after_doc_maturity(part, base),
-        MemberKind::Unknown => Count::NoCount(Lost::Fail(base)),
+        MemberKind::Unknown => Count::NoCount(Lost {
+            number: 3,
+            place: base,
+        }),
     }
 }
 
@@ -382,7 +385,10 @@ pub fn cluster_head_lost(r: ClusterHeadRead) -> Lost
     ensures { λ x. ⌜ x ≡ clusterHeadLost r ⌝ }
 {
     match r {
-        ClusterHeadRead::ClusterHead(_, c) => Lost::Fail(c),
+        ClusterHeadRead::ClusterHead(_, c) => Lost {
+            number: 3,
+            place: c,
+        },
         ClusterHeadRead::NoClusterHead(l) => l,
     }
 }

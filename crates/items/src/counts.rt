@@ -20,7 +20,10 @@ pub fn count_lost(r: Count) -> Lost
     ensures { λ x. ⌜ x ≡ countLost r ⌝ }
 {
     match r {
-        Count::Words(_, c) => Lost::Fail(c),
+        Count::Words(_, c) => Lost {
+            number: 3,
+            place: c,
+        },
         Count::NoCount(l) => l,
     }
 }
@@ -29,10 +32,10 @@ pub fn count_lost(r: Count) -> Lost
 pub fn count_end(l: Lost, n: usize, c: usize) -> Count
     ensures { λ x. ⌜ x ≡ countEnd l n c ⌝ }
 {
-    match l {
-        Lost::Fail(_) => Count::Words(n, c),
-        Lost::Stop(i, p) => Count::NoCount(Lost::Stop(i, p)),
+    if l.number == 3 {
+        return Count::Words(n, c);
     }
+    Count::NoCount(l)
 }
 
 // A count between braces: behind it stand blanks and the closing brace.

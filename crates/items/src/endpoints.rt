@@ -164,7 +164,10 @@ pub fn attribute_handling_type(part: &[u8], base: usize) -> Level
         b'r' => level_by(part, base, b"ram", 0),
         b'c' => level_by(part, base, b"callback", 1),
         b'p' => level_by(part, base, b"persist", 2),
-        _ => Level::NoLevel(Lost::Fail(base)),
+        _ => Level::NoLevel(Lost {
+            number: 3,
+            place: base,
+        }),
     }
 }
 
@@ -201,8 +204,8 @@ fn value_tries(part: &[u8], base: usize) -> DefaultRead
         return DefaultRead::Read(DefaultValue::Number(v), c);
     }
     let lost = number_lost(number);
-    if let Lost::Stop(n, p) = lost {
-        return DefaultRead::NoDefault(Lost::Stop(n, p));
+    if lost.number != 3 {
+        return DefaultRead::NoDefault(lost);
     }
     let signed = signed_integer(part, base);
     if let SignedNumber::Sized(negative, v, c) = signed {
@@ -234,10 +237,10 @@ fn optional_value(r: DefaultRead, base: usize) -> DefaultRead
     let DefaultRead::NoDefault(l) = r else {
         return r;
     };
-    match l {
-        Lost::Fail(_) => DefaultRead::Read(DefaultValue::Absent, base),
-        Lost::Stop(n, p) => DefaultRead::NoDefault(Lost::Stop(n, p)),
+    if l.number == 3 {
+        return DefaultRead::Read(DefaultValue::Absent, base);
     }
+    DefaultRead::NoDefault(l)
 }
 
 // A blank and a default, or nothing.
@@ -257,7 +260,10 @@ fn default_lost(r: DefaultRead) -> Lost
     ensures { λ x. ⌜ x ≡ defaultLost r ⌝ }
 {
     match r {
-        DefaultRead::Read(_, c) => Lost::Fail(c),
+        DefaultRead::Read(_, c) => Lost {
+            number: 3,
+            place: c,
+        },
         DefaultRead::NoDefault(l) => l,
     }
 }
@@ -350,9 +356,12 @@ fn furthest(p: usize, q: usize) -> usize
 pub fn further(l: Lost, q: usize) -> Lost
     ensures { λ x. ⌜ x ≡ furtherLost l q ⌝ }
 {
-    match l {
-        Lost::Fail(p) => Lost::Fail(furthest(p, q)),
-        Lost::Stop(n, p) => Lost::Stop(n, p),
+    if l.number != 3 {
+        return l;
+    }
+    Lost {
+        number: 3,
+        place: furthest(l.place, q),
     }
 }
 

@@ -162,7 +162,10 @@ pub fn entry_lost(r: EntryRead) -> Lost
     ensures { λ x. ⌜ x ≡ entryLost r ⌝ }
 {
     match r {
-        EntryRead::Read(_, c) => Lost::Fail(c),
+        EntryRead::Read(_, c) => Lost {
+            number: 3,
+            place: c,
+        },
         EntryRead::NoEntry(l) => l,
     }
 }

@@ -133,7 +133,10 @@ fn count_declaration(part: &[u8], s: DeclarationStart) -> Count
         DeclarationKind::Enum => choice_after_doc_maturity(part, base, s.from, b"enum"),
         DeclarationKind::Bitmap => choice_after_doc_maturity(part, base, s.from, b"bitmap"),
         DeclarationKind::Struct => parse_struct_after_doc_maturity(part, base, s.from),
-        DeclarationKind::Unknown => Count::NoCount(Lost::Fail(base)),
+        DeclarationKind::Unknown => Count::NoCount(Lost {
+            number: 3,
+            place: base,
+        }),
     }
 }
 

@@ -132,7 +132,10 @@ pub fn level_by(part: &[u8], base: usize, key: &[u8], level: u8) -> Level
 {
     let word = keyword(part, base, key);
     let Step::Next(c) = word else {
-        return Level::NoLevel(Lost::Fail(base));
+        return Level::NoLevel(Lost {
+            number: 3,
+            place: base,
+        });
     };
     Level::Chosen(level, c)
 }
@@ -148,7 +151,10 @@ pub fn access_privilege(part: &[u8], base: usize) -> Level
         b'o' => level_by(part, base, b"operate", 1),
         b'm' => level_by(part, base, b"manage", 2),
         b'a' => level_by(part, base, b"administer", 3),
-        _ => Level::NoLevel(Lost::Fail(base)),
+        _ => Level::NoLevel(Lost {
+            number: 3,
+            place: base,
+        }),
     }
 }
 
@@ -162,7 +168,10 @@ pub fn event_priority(part: &[u8], base: usize) -> Level
         b'i' => level_by(part, base, b"info", 1),
         b'c' => level_by(part, base, b"critical", 0),
         b'd' => level_by(part, base, b"debug", 2),
-        _ => Level::NoLevel(Lost::Fail(base)),
+        _ => Level::NoLevel(Lost {
+            number: 3,
+            place: base,
+        }),
     }
 }
 
@@ -170,7 +179,10 @@ pub fn level_lost(r: Level) -> Lost
     ensures { λ x. ⌜ x ≡ levelLost r ⌝ }
 {
     match r {
-        Level::Chosen(_, c) => Lost::Fail(c),
+        Level::Chosen(_, c) => Lost {
+            number: 3,
+            place: c,
+        },
         Level::NoLevel(l) => l,
     }
 }
@@ -275,7 +287,10 @@ pub fn event_qualities_lost(r: EventQualitiesRead) -> Lost
     ensures { λ x. ⌜ x ≡ eventQualitiesLost r ⌝ }
 {
     match r {
-        EventQualitiesRead::EventQualities(_, c) => Lost::Fail(c),
+        EventQualitiesRead::EventQualities(_, c) => Lost {
+            number: 3,
+            place: c,
+        },
         EventQualitiesRead::NoEventQualities(l) => l,
     }
 }
@@ -314,7 +329,10 @@ pub fn event_head_lost(r: EventHeadRead) -> Lost
     ensures { λ x. ⌜ x ≡ eventHeadLost r ⌝ }
 {
     match r {
-        EventHeadRead::EventHead(_, c) => Lost::Fail(c),
+        EventHeadRead::EventHead(_, c) => Lost {
+            number: 3,
+            place: c,
+        },
         EventHeadRead::NoEventHead(l) => l,
     }
 }
@@ -366,7 +384,10 @@ pub fn command_head_lost(r: CommandHeadRead) -> Lost
     ensures { λ x. ⌜ x ≡ commandHeadLost r ⌝ }
 {
     match r {
-        CommandHeadRead::CommandHead(_, c) => Lost::Fail(c),
+        CommandHeadRead::CommandHead(_, c) => Lost {
+            number: 3,
+            place: c,
+        },
         CommandHeadRead::NoCommandHead(l) => l,
     }
 }
@@ -417,7 +438,10 @@ pub fn command_types_lost(r: CommandTypesRead) -> Lost
     ensures { λ x. ⌜ x ≡ commandTypesLost r ⌝ }
 {
     match r {
-        CommandTypesRead::CommandTypes(_, c) => Lost::Fail(c),
+        CommandTypesRead::CommandTypes(_, c) => Lost {
+            number: 3,
+            place: c,
+        },
         CommandTypesRead::NoCommandTypes(l) => l,
     }
 }

@@ -146,17 +146,20 @@ fn optional_length(r: Number, base: usize) -> MaxLength
         return MaxLength::Length(true, v, c);
     }
     let l = number_lost(r);
-    match l {
-        Lost::Fail(_) => MaxLength::Length(false, 0, base),
-        Lost::Stop(n, p) => MaxLength::NoLength(Lost::Stop(n, p)),
+    if l.number == 3 {
+        return MaxLength::Length(false, 0, base);
     }
+    MaxLength::NoLength(l)
 }
 
 fn length_lost(r: MaxLength) -> Lost
     ensures { λ x. ⌜ x ≡ lengthLost r ⌝ }
 {
     match r {
-        MaxLength::Length(_, _, c) => Lost::Fail(c),
+        MaxLength::Length(_, _, c) => Lost {
+            number: 3,
+            place: c,
+        },
         MaxLength::NoLength(l) => l,
     }
 }
@@ -229,7 +232,10 @@ fn field_lost(r: FieldRead) -> Lost
     ensures { λ x. ⌜ x ≡ fieldLost r ⌝ }
 {
     match r {
-        FieldRead::Field(_, c) => Lost::Fail(c),
+        FieldRead::Field(_, c) => Lost {
+            number: 3,
+            place: c,
+        },
         FieldRead::NoField(l) => l,
     }
 }
@@ -260,7 +266,10 @@ pub fn struct_field_lost(r: StructFieldRead) -> Lost
     ensures { λ x. ⌜ x ≡ structFieldLost r ⌝ }
 {
     match r {
-        StructFieldRead::StructField(_, c) => Lost::Fail(c),
+        StructFieldRead::StructField(_, c) => Lost {
+            number: 3,
+            place: c,
+        },
         StructFieldRead::NoStructField(l) => l,
     }
 }
@@ -418,7 +427,10 @@ pub fn head_lost(r: StructHeadRead) -> Lost
     ensures { λ x. ⌜ x ≡ headLost r ⌝ }
 {
     match r {
-        StructHeadRead::Head(_, c) => Lost::Fail(c),
+        StructHeadRead::Head(_, c) => Lost {
+            number: 3,
+            place: c,
+        },
         StructHeadRead::NoHead(l) => l,
     }
 }

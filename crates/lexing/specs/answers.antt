@@ -3,6 +3,7 @@ use Prim.Native.Nat.{ℕ, zero, suc, _+_, _-_, _≤_, _<_}
 use mathlib.Core.Path.{_≡_}
 use mathlib.Core.Bool.{Bool, true, false}
 use mathlib.Core.List.{List}
+use lib.Dec.{eqb}
 use lib.ListN.{length, take, drop, getD}
 use Rattle.lexing.specs.reply.{Reply, ok, fail, stop, Parser, _>>_}
 use Rattle.lexing.specs.words.{Word, word}
@@ -11,7 +12,6 @@ use Rattle.lexing.specs.blanks.{Whitespace, white, plain, doc-comment, D
 use Rattle.lexing.specs.strings.{Span, span}
 use Rattle.lexing.specs.word_sets.{set-flags}
 use Rattle.lexing.specs.declared.answers.Lost.{Lost}
-use Rattle.lexing.specs.declared.answers.Lost.the-variants.{Fail, Stop}
 use Rattle.lexing.specs.declared.answers.Step.{Step}
 use Rattle.lexing.specs.declared.answers.Step.the-variants.{Next, Not}
 use Rattle.lexing.specs.declared.blanks.DocSpan.{DocSpan}
@@ -44,9 +44,19 @@ pub data Answer (A : Type 0) : Type 0 where
   got : A → ℕ → Answer A
   lost : Lost → Answer A
 
+-- a failure has the number 3; any other number ends all reading
+abbrev pub isFail : Lost → Bool
+isFail l = eqb (l .number) 3
+
+abbrev pub lostAt : ℕ → Lost
+lostAt p = record { number = 3; place = p }
+
+abbrev pub lostAs : {A : Type 0} → Bool → Lost → Reply A
+lostAs true l = fail (l .place)
+lostAs false l = stop (l .number) (l .place)
+
 abbrev pub lostReply : {A : Type 0} → Lost → Reply A
-lostReply (Fail p) = fail p
-lostReply (Stop n p) = stop n p
+lostReply l = lostAs (isFail l) l
 
 abbrev pub reply : {A : Type 0} → Answer A → ℕ → List ℕ → Reply A
 reply (got a c) b u = ok a c (drop (c - b) u)
@@ -58,7 +68,7 @@ stepAnswer f (Next c) = got (f c) c
 stepAnswer f (Not l) = lost l
 
 abbrev pub lostOf : Step → Lost
-lostOf (Next c) = Fail c
+lostOf (Next c) = lostAt c
 lostOf (Not l) = l
 
 -- words and tags
@@ -80,7 +90,7 @@ abbrev pub numberReply : Number → ℕ → List ℕ → Reply ℕ
 numberReply r b u = reply (numberAnswer r) b u
 
 abbrev pub numberLost : Number → Lost
-numberLost (Value v c) = Fail c
+numberLost (Value v c) = lostAt c
 numberLost (NoNumber l) = l
 
 abbrev pub signedAnswer : SignedNumber → Answer Signed
@@ -91,7 +101,7 @@ abbrev pub signedReply : SignedNumber → ℕ → List ℕ → Reply Signed
 signedReply r b u = reply (signedAnswer r) b u
 
 abbrev pub signedLost : SignedNumber → Lost
-signedLost (Sized m v c) = Fail c
+signedLost (Sized m v c) = lostAt c
 signedLost (NoSigned l) = l
 
 -- blanks
@@ -134,7 +144,7 @@ abbrev pub gapReply : Gap → ℕ → List ℕ → Reply Doc
 gapReply r b u = reply (gapAnswer r) b u
 
 abbrev pub gapLost : Gap → Lost
-gapLost (Passed r) = Fail (r .next)
+gapLost (Passed r) = lostAt (r .next)
 gapLost (NoGap l) = l
 
 abbrev pub spanTo : ℕ → ℕ → Span
@@ -193,7 +203,10 @@ pub record NumberAt (m : Parser ℕ) (r : Number) (b : ℕ) (u : List ℕ) (c : 
   pub reads : numberReply r c (drop (c - b) u) ≡ m c (drop (c - b) u)
 
 -- the answer of an optional part that stands at b
+abbrev pub optionalLost : Bool → Lost → ℕ → Step
+optionalLost true l b = Next b
+optionalLost false l b = Not l
+
 abbrev pub optionalStep : Step → ℕ → Step
 optionalStep (Next c) b = Next c
-optionalStep (Not (Fail p)) b = Next b
-optionalStep (Not (Stop n p)) b = Not (Stop n p)
+optionalStep (Not l) b = optionalLost (isFail l) l b

@@ -305,7 +305,10 @@ pub fn whitespace1(part: &[u8], base: usize) -> Gap
     let b = whitespace0(part, base);
     let next = b.next;
     if next == base {
-        return Gap::NoGap(Lost::Fail(base));
+        return Gap::NoGap(Lost {
+            number: 3,
+            place: base,
+        });
     }
     Gap::Passed(b)
 }
@@ -314,7 +317,10 @@ pub fn gap_lost(r: Gap) -> Lost
     ensures { λ x. ⌜ x ≡ gapLost r ⌝ }
 {
     match r {
-        Gap::Passed(b) => Lost::Fail(b.next),
+        Gap::Passed(b) => Lost {
+            number: 3,
+            place: b.next,
+        },
         Gap::NoGap(l) => l,
     }
 }

@@ -135,7 +135,10 @@ fn hex_integer(part: &[u8], base: usize) -> Number
 {
     let d = read_digits(after(part, 2), true);
     let Digits::Count(v, n) = d else {
-        return Number::NoNumber(Lost::Stop(4, base));
+        return Number::NoNumber(Lost {
+            number: 4,
+            place: base,
+        });
     };
     Number::Value(v, base + (2 + n))
 }
@@ -145,11 +148,17 @@ fn decimal_integer(part: &[u8], base: usize) -> Number
     ensures { λ r. ⌜ numberReply r base (now (part .entry)) ≡ decimal-integer base (now (part .entry)) ⌝ }
 {
     if !is_digit(peek(part, 0)) {
-        return Number::NoNumber(Lost::Fail(base));
+        return Number::NoNumber(Lost {
+            number: 3,
+            place: base,
+        });
     }
     let d = read_digits(part, false);
     let Digits::Count(v, n) = d else {
-        return Number::NoNumber(Lost::Stop(4, base));
+        return Number::NoNumber(Lost {
+            number: 4,
+            place: base,
+        });
     };
     Number::Value(v, base + n)
 }
@@ -173,7 +182,10 @@ pub fn positive_integer(part: &[u8], base: usize) -> Number
 {
     let x = peek(part, 0);
     if !is_digit(x) {
-        return Number::NoNumber(Lost::Fail(base));
+        return Number::NoNumber(Lost {
+            number: 3,
+            place: base,
+        });
     }
     let y = peek(part, 1);
     if is_digit(y) {
@@ -207,14 +219,23 @@ fn after_sign(part: &[u8], base: usize, negative: bool) -> SignedNumber
 {
     let rest = after(part, 1);
     if !is_digit(peek(rest, 0)) {
-        return SignedNumber::NoSigned(Lost::Fail(base));
+        return SignedNumber::NoSigned(Lost {
+            number: 3,
+            place: base,
+        });
     }
     let d = read_digits(rest, false);
     let Digits::Count(v, n) = d else {
-        return SignedNumber::NoSigned(Lost::Fail(base));
+        return SignedNumber::NoSigned(Lost {
+            number: 3,
+            place: base,
+        });
     };
     if largest_of(negative) < v {
-        return SignedNumber::NoSigned(Lost::Fail(base));
+        return SignedNumber::NoSigned(Lost {
+            number: 3,
+            place: base,
+        });
     }
     SignedNumber::Sized(negative, v, base + (1 + n))
 }
@@ -230,14 +251,20 @@ pub fn signed_integer(part: &[u8], base: usize) -> SignedNumber
     if x == b'+' {
         return after_sign(part, base, false);
     }
-    SignedNumber::NoSigned(Lost::Fail(base))
+    SignedNumber::NoSigned(Lost {
+        number: 3,
+        place: base,
+    })
 }
 
 pub fn number_lost(r: Number) -> Lost
     ensures { λ x. ⌜ x ≡ numberLost r ⌝ }
 {
     match r {
-        Number::Value(_, c) => Lost::Fail(c),
+        Number::Value(_, c) => Lost {
+            number: 3,
+            place: c,
+        },
         Number::NoNumber(l) => l,
     }
 }
@@ -246,7 +273,10 @@ pub fn signed_lost(r: SignedNumber) -> Lost
     ensures { λ x. ⌜ x ≡ signedLost r ⌝ }
 {
     match r {
-        SignedNumber::Sized(_, _, c) => Lost::Fail(c),
+        SignedNumber::Sized(_, _, c) => Lost {
+            number: 3,
+            place: c,
+        },
         SignedNumber::NoSigned(l) => l,
     }
 }

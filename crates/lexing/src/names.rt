@@ -30,7 +30,10 @@ pub fn named_lost(r: Named) -> Lost
     ensures { λ x. ⌜ x ≡ namedLost r ⌝ }
 {
     match r {
-        Named::Name(_, _, c) => Lost::Fail(c),
+        Named::Name(_, _, c) => Lost {
+            number: 3,
+            place: c,
+        },
         Named::NoName(l) => l,
     }
 }

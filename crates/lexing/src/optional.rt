@@ -11,8 +11,8 @@ pub fn optional(r: Step, base: usize) -> Step
     let Step::Not(l) = r else {
         return r;
     };
-    match l {
-        Lost::Fail(_) => Step::Next(base),
-        Lost::Stop(n, p) => Step::Not(Lost::Stop(n, p)),
+    if l.number == 3 {
+        return Step::Next(base);
     }
+    Step::Not(l)
 }

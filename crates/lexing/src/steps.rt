@@ -51,7 +51,10 @@ pub fn gap_at(part: &[u8], base: usize, c: usize) -> Step
 {
     let n = blank_at(part, base, c);
     if n == c {
-        return Step::Not(Lost::Fail(c));
+        return Step::Not(Lost {
+            number: 3,
+            place: c,
+        });
     }
     Step::Next(n)
 }

@@ -73,7 +73,10 @@ fn string_piece(part: &[u8], base: usize, default: bool) -> Piece
     ensures { λ r. ⌜ pieceIs (escapesOf default) base (now (part .entry)) r ⌝ }
 {
     if part.len() == 0 {
-        return Piece::Last(Step::Not(Lost::Fail(base)));
+        return Piece::Last(Step::Not(Lost {
+            number: 3,
+            place: base,
+        }));
     }
     let x = part[0];
     let next = base + 1;
@@ -84,13 +87,22 @@ fn string_piece(part: &[u8], base: usize, default: bool) -> Piece
         return Piece::More(next);
     }
     if part.len() == 1 {
-        return Piece::Last(Step::Not(Lost::Fail(base)));
+        return Piece::Last(Step::Not(Lost {
+            number: 3,
+            place: base,
+        }));
     }
     let e = escape_of(default, part[1]);
     match e {
         Escaped::Allowed => Piece::More(base + 2),
-        Escaped::Forbidden => Piece::Last(Step::Not(Lost::Fail(base))),
-        Escaped::Panics => Piece::Last(Step::Not(Lost::Stop(5, base))),
+        Escaped::Forbidden => Piece::Last(Step::Not(Lost {
+            number: 3,
+            place: base,
+        })),
+        Escaped::Panics => Piece::Last(Step::Not(Lost {
+            number: 5,
+            place: base,
+        })),
     }
 }
 
@@ -109,10 +121,16 @@ fn string_with(part: &[u8], base: usize, default: bool) -> Step
     ensures { λ r. ⌜ stringReply r base (now (part .entry)) ≡ string-with (escapesOf default) base (now (part .entry)) ⌝ }
 {
     if part.len() == 0 {
-        return Step::Not(Lost::Fail(base));
+        return Step::Not(Lost {
+            number: 3,
+            place: base,
+        });
     }
     if part[0] != b'"' {
-        return Step::Not(Lost::Fail(base));
+        return Step::Not(Lost {
+            number: 3,
+            place: base,
+        });
     }
     let mut c = base + 1;
     loop {

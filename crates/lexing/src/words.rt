@@ -62,10 +62,16 @@ fn word_by_end(part: &[u8], base: usize, c: usize, e: usize) -> Step
 {
     let i = c - base;
     if e == i {
-        return Step::Not(Lost::Fail(c));
+        return Step::Not(Lost {
+            number: 3,
+            place: c,
+        });
     }
     if is_digit(part[i]) {
-        return Step::Not(Lost::Fail(c));
+        return Step::Not(Lost {
+            number: 3,
+            place: c,
+        });
     }
     Step::Next(base + e)
 }
@@ -127,11 +133,17 @@ pub fn keyword(part: &[u8], base: usize, key: &[u8]) -> Step
     ensures { λ r. ⌜ wordReply r base (now (part .entry)) ≡ keyword (now (key .entry)) base (now (part .entry)) ⌝ }
 {
     if !has_key(part, key) {
-        return Step::Not(Lost::Fail(base));
+        return Step::Not(Lost {
+            number: 3,
+            place: base,
+        });
     }
     let n = key.len();
     if is_word(peek(part, n)) {
-        return Step::Not(Lost::Fail(base));
+        return Step::Not(Lost {
+            number: 3,
+            place: base,
+        });
     }
     word_by_end(part, base, base, n)
 }
@@ -142,10 +154,16 @@ pub fn tag(part: &[u8], base: usize, t: u8) -> Step
     ensures { λ r. ⌜ tagReply r base (now (part .entry)) ≡ tag t base (now (part .entry)) ⌝ }
 {
     if part.len() == 0 {
-        return Step::Not(Lost::Fail(base));
+        return Step::Not(Lost {
+            number: 3,
+            place: base,
+        });
     }
     if part[0] == t {
         return Step::Next(base + 1);
     }
-    Step::Not(Lost::Fail(base))
+    Step::Not(Lost {
+        number: 3,
+        place: base,
+    })
 }

@@ -53,10 +53,7 @@ pub fn count_items(part: &[u8], base: usize) -> Count
 fn refused_by(l: Lost) -> Verdict
     ensures { λ r. ⌜ r ≡ refusedBy l ⌝ }
 {
-    match l {
-        Lost::Fail(p) => Verdict::Refused(3, p),
-        Lost::Stop(n, p) => Verdict::Refused(n, p),
-    }
+    Verdict::Refused(l.number, l.place)
 }
 
 // UTF-8, then the first pass.
