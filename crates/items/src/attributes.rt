@@ -28,6 +28,7 @@ use crate::writing::put_documented;
 use lexing::answers::Lost;
 use lexing::answers::Step;
 use lexing::answers::step_lost;
+use lexing::answers::stop_by;
 use lexing::bytes::lower_of;
 use lexing::parts::peek;
 use lexing::parts::rest_at;
@@ -193,10 +194,7 @@ pub fn attribute_access(part: &[u8], base: usize) -> PrivilegesRead
     let grants = entries.grants;
     match grants {
         Grants::Granted(read, write) => PrivilegesRead::Privileges(read, write, c3),
-        Grants::RefusedAt(at) => PrivilegesRead::NoPrivileges(Lost {
-            number: 6,
-            place: at,
-        }),
+        Grants::RefusedAt(at) => PrivilegesRead::NoPrivileges(stop_by(6, at)),
     }
 }
 
@@ -204,10 +202,7 @@ pub fn privileges_lost(r: PrivilegesRead) -> Lost
     ensures { λ x. ⌜ x ≡ privilegesLost r ⌝ }
 {
     match r {
-        PrivilegesRead::Privileges(_, _, c) => Lost {
-            number: 3,
-            place: c,
-        },
+        PrivilegesRead::Privileges(_, _, c) => Lost { cause: 0, place: c },
         PrivilegesRead::NoPrivileges(l) => l,
     }
 }
@@ -243,10 +238,7 @@ fn attribute_head_lost(r: AttributeHeadRead) -> Lost
     ensures { λ x. ⌜ x ≡ attributeHeadLost r ⌝ }
 {
     match r {
-        AttributeHeadRead::AttributeHead(_, c) => Lost {
-            number: 3,
-            place: c,
-        },
+        AttributeHeadRead::AttributeHead(_, c) => Lost { cause: 0, place: c },
         AttributeHeadRead::NoAttributeHead(l) => l,
     }
 }

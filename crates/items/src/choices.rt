@@ -76,10 +76,7 @@ pub fn choice_head_lost(r: ChoiceHeadRead) -> Lost
     ensures { λ x. ⌜ x ≡ choiceHeadLost r ⌝ }
 {
     match r {
-        ChoiceHeadRead::ChoiceHead(_, c) => Lost {
-            number: 3,
-            place: c,
-        },
+        ChoiceHeadRead::ChoiceHead(_, c) => Lost { cause: 0, place: c },
         ChoiceHeadRead::NoChoiceHead(l) => l,
     }
 }

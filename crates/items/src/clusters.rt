@@ -268,7 +268,7 @@ fn count_member(part: &[u8], base: usize, k: Candidate, doc: DocSpan, maturity: 
         MemberKind::Command => count_command(part, base),
         MemberKind::Event => parse_event_after_doc_maturity(part, base),
         MemberKind::Unknown => Count::NoCount(Lost {
-            number: 3,
+            cause: 0,
             place: base,
         }),
     }
@@ -385,10 +385,7 @@ pub fn cluster_head_lost(r: ClusterHeadRead) -> Lost
     ensures { λ x. ⌜ x ≡ clusterHeadLost r ⌝ }
 {
     match r {
-        ClusterHeadRead::ClusterHead(_, c) => Lost {
-            number: 3,
-            place: c,
-        },
+        ClusterHeadRead::ClusterHead(_, c) => Lost { cause: 0, place: c },
         ClusterHeadRead::NoClusterHead(l) => l,
     }
 }

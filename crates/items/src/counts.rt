@@ -20,10 +20,7 @@ pub fn count_lost(r: Count) -> Lost
     ensures { λ x. ⌜ x ≡ countLost r ⌝ }
 {
     match r {
-        Count::Words(_, c) => Lost {
-            number: 3,
-            place: c,
-        },
+        Count::Words(_, c) => Lost { cause: 0, place: c },
         Count::NoCount(l) => l,
     }
 }
@@ -32,7 +29,7 @@ pub fn count_lost(r: Count) -> Lost
 pub fn count_end(l: Lost, n: usize, c: usize) -> Count
     ensures { λ x. ⌜ x ≡ countEnd l n c ⌝ }
 {
-    if l.number == 3 {
+    if l.cause == 0 {
         return Count::Words(n, c);
     }
     Count::NoCount(l)

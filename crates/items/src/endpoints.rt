@@ -165,7 +165,7 @@ pub fn attribute_handling_type(part: &[u8], base: usize) -> Level
         b'c' => level_by(part, base, b"callback", 1),
         b'p' => level_by(part, base, b"persist", 2),
         _ => Level::NoLevel(Lost {
-            number: 3,
+            cause: 0,
             place: base,
         }),
     }
@@ -204,7 +204,7 @@ fn value_tries(part: &[u8], base: usize) -> DefaultRead
         return DefaultRead::Read(DefaultValue::Number(v), c);
     }
     let lost = number_lost(number);
-    if lost.number != 3 {
+    if lost.cause != 0 {
         return DefaultRead::NoDefault(lost);
     }
     let signed = signed_integer(part, base);
@@ -237,7 +237,7 @@ fn optional_value(r: DefaultRead, base: usize) -> DefaultRead
     let DefaultRead::NoDefault(l) = r else {
         return r;
     };
-    if l.number == 3 {
+    if l.cause == 0 {
         return DefaultRead::Read(DefaultValue::Absent, base);
     }
     DefaultRead::NoDefault(l)
@@ -260,10 +260,7 @@ fn default_lost(r: DefaultRead) -> Lost
     ensures { λ x. ⌜ x ≡ defaultLost r ⌝ }
 {
     match r {
-        DefaultRead::Read(_, c) => Lost {
-            number: 3,
-            place: c,
-        },
+        DefaultRead::Read(_, c) => Lost { cause: 0, place: c },
         DefaultRead::NoDefault(l) => l,
     }
 }
@@ -356,11 +353,11 @@ fn furthest(p: usize, q: usize) -> usize
 pub fn further(l: Lost, q: usize) -> Lost
     ensures { λ x. ⌜ x ≡ furtherLost l q ⌝ }
 {
-    if l.number != 3 {
+    if l.cause != 0 {
         return l;
     }
     Lost {
-        number: 3,
+        cause: 0,
         place: furthest(l.place, q),
     }
 }

@@ -162,10 +162,7 @@ pub fn entry_lost(r: EntryRead) -> Lost
     ensures { λ x. ⌜ x ≡ entryLost r ⌝ }
 {
     match r {
-        EntryRead::Read(_, c) => Lost {
-            number: 3,
-            place: c,
-        },
+        EntryRead::Read(_, c) => Lost { cause: 0, place: c },
         EntryRead::NoEntry(l) => l,
     }
 }

@@ -134,7 +134,7 @@ fn count_declaration(part: &[u8], s: DeclarationStart) -> Count
         DeclarationKind::Bitmap => choice_after_doc_maturity(part, base, s.from, b"bitmap"),
         DeclarationKind::Struct => parse_struct_after_doc_maturity(part, base, s.from),
         DeclarationKind::Unknown => Count::NoCount(Lost {
-            number: 3,
+            cause: 0,
             place: base,
         }),
     }

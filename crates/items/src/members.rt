@@ -133,7 +133,7 @@ pub fn level_by(part: &[u8], base: usize, key: &[u8], level: u8) -> Level
     let word = keyword(part, base, key);
     let Step::Next(c) = word else {
         return Level::NoLevel(Lost {
-            number: 3,
+            cause: 0,
             place: base,
         });
     };
@@ -152,7 +152,7 @@ pub fn access_privilege(part: &[u8], base: usize) -> Level
         b'm' => level_by(part, base, b"manage", 2),
         b'a' => level_by(part, base, b"administer", 3),
         _ => Level::NoLevel(Lost {
-            number: 3,
+            cause: 0,
             place: base,
         }),
     }
@@ -169,7 +169,7 @@ pub fn event_priority(part: &[u8], base: usize) -> Level
         b'c' => level_by(part, base, b"critical", 0),
         b'd' => level_by(part, base, b"debug", 2),
         _ => Level::NoLevel(Lost {
-            number: 3,
+            cause: 0,
             place: base,
         }),
     }
@@ -179,10 +179,7 @@ pub fn level_lost(r: Level) -> Lost
     ensures { λ x. ⌜ x ≡ levelLost r ⌝ }
 {
     match r {
-        Level::Chosen(_, c) => Lost {
-            number: 3,
-            place: c,
-        },
+        Level::Chosen(_, c) => Lost { cause: 0, place: c },
         Level::NoLevel(l) => l,
     }
 }
@@ -287,10 +284,7 @@ pub fn event_qualities_lost(r: EventQualitiesRead) -> Lost
     ensures { λ x. ⌜ x ≡ eventQualitiesLost r ⌝ }
 {
     match r {
-        EventQualitiesRead::EventQualities(_, c) => Lost {
-            number: 3,
-            place: c,
-        },
+        EventQualitiesRead::EventQualities(_, c) => Lost { cause: 0, place: c },
         EventQualitiesRead::NoEventQualities(l) => l,
     }
 }
@@ -329,10 +323,7 @@ pub fn event_head_lost(r: EventHeadRead) -> Lost
     ensures { λ x. ⌜ x ≡ eventHeadLost r ⌝ }
 {
     match r {
-        EventHeadRead::EventHead(_, c) => Lost {
-            number: 3,
-            place: c,
-        },
+        EventHeadRead::EventHead(_, c) => Lost { cause: 0, place: c },
         EventHeadRead::NoEventHead(l) => l,
     }
 }
@@ -384,10 +375,7 @@ pub fn command_head_lost(r: CommandHeadRead) -> Lost
     ensures { λ x. ⌜ x ≡ commandHeadLost r ⌝ }
 {
     match r {
-        CommandHeadRead::CommandHead(_, c) => Lost {
-            number: 3,
-            place: c,
-        },
+        CommandHeadRead::CommandHead(_, c) => Lost { cause: 0, place: c },
         CommandHeadRead::NoCommandHead(l) => l,
     }
 }
@@ -438,10 +426,7 @@ pub fn command_types_lost(r: CommandTypesRead) -> Lost
     ensures { λ x. ⌜ x ≡ commandTypesLost r ⌝ }
 {
     match r {
-        CommandTypesRead::CommandTypes(_, c) => Lost {
-            number: 3,
-            place: c,
-        },
+        CommandTypesRead::CommandTypes(_, c) => Lost { cause: 0, place: c },
         CommandTypesRead::NoCommandTypes(l) => l,
     }
 }

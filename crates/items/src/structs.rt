@@ -146,7 +146,7 @@ fn optional_length(r: Number, base: usize) -> MaxLength
         return MaxLength::Length(true, v, c);
     }
     let l = number_lost(r);
-    if l.number == 3 {
+    if l.cause == 0 {
         return MaxLength::Length(false, 0, base);
     }
     MaxLength::NoLength(l)
@@ -156,10 +156,7 @@ fn length_lost(r: MaxLength) -> Lost
     ensures { λ x. ⌜ x ≡ lengthLost r ⌝ }
 {
     match r {
-        MaxLength::Length(_, _, c) => Lost {
-            number: 3,
-            place: c,
-        },
+        MaxLength::Length(_, _, c) => Lost { cause: 0, place: c },
         MaxLength::NoLength(l) => l,
     }
 }
@@ -232,10 +229,7 @@ fn field_lost(r: FieldRead) -> Lost
     ensures { λ x. ⌜ x ≡ fieldLost r ⌝ }
 {
     match r {
-        FieldRead::Field(_, c) => Lost {
-            number: 3,
-            place: c,
-        },
+        FieldRead::Field(_, c) => Lost { cause: 0, place: c },
         FieldRead::NoField(l) => l,
     }
 }
@@ -266,10 +260,7 @@ pub fn struct_field_lost(r: StructFieldRead) -> Lost
     ensures { λ x. ⌜ x ≡ structFieldLost r ⌝ }
 {
     match r {
-        StructFieldRead::StructField(_, c) => Lost {
-            number: 3,
-            place: c,
-        },
+        StructFieldRead::StructField(_, c) => Lost { cause: 0, place: c },
         StructFieldRead::NoStructField(l) => l,
     }
 }
@@ -427,10 +418,7 @@ pub fn head_lost(r: StructHeadRead) -> Lost
     ensures { λ x. ⌜ x ≡ headLost r ⌝ }
 {
     match r {
-        StructHeadRead::Head(_, c) => Lost {
-            number: 3,
-            place: c,
-        },
+        StructHeadRead::Head(_, c) => Lost { cause: 0, place: c },
         StructHeadRead::NoHead(l) => l,
     }
 }

@@ -1,6 +1,5 @@
 -- Loops of the definitions without their fuel: each turn takes a byte, so what is left of a loop is the loop on what is left.
 use mathlib.Core.Path.{_≡_, refl, sym, ap, _∙_}
-use mathlib.Core.Bool.{Bool, true, false}
 use mathlib.Core.List.{List, [], _∷_, _++_, append-assoc, append-nil}
 use Prim.Native.Nat.{ℕ, zero, suc, _+_, _-_, _≤_, _<_}
 use native.Mathlib.Omega.{arith}
@@ -8,7 +7,7 @@ use lib.ListN.{length, drop, length-drop}
 use Rattle.lexing.specs.reply.{Reply, ok, fail, stop, Parser, prepend, manyWithin, many0, iterWithin, iter}
 use Rattle.lexing.proofs.Chain.{Shorter}
 use Rattle.lexing.proofs.Locality.{Consumes}
-use Rattle.lexing.specs.answers.{lostReply, Rest, isFail, lostAs}
+use Rattle.lexing.specs.answers.{lostReply, Rest, lostBy}
 use Rattle.lexing.proofs.Slicing.{Took}
 use Rattle.lexing.specs.declared.answers.Lost.{Lost}
 
@@ -107,19 +106,19 @@ many0-step {A} {m} w {b} {c} {n} {u} {l} {a} i t =
       omega (arith, s, length-drop (c - b) u, length-drop (n - b) u, i .from, t .up, t .inside),
     )
 
-abbrev pub manyEndAs : {A : Type 0} → Bool → Lost → List A → ℕ → List ℕ → Reply (List A)
-manyEndAs true x l c r = ok l c r
-manyEndAs false x l c r = stop (x .number) (x .place)
+abbrev pub manyEndBy : {A : Type 0} → ℕ → ℕ → List A → ℕ → List ℕ → Reply (List A)
+manyEndBy zero p l c r = ok l c r
+manyEndBy (suc n) p l c r = stop n p
 
 abbrev pub manyEnd : {A : Type 0} → Lost → List A → ℕ → List ℕ → Reply (List A)
-manyEnd x l c r = manyEndAs (isFail x) x l c r
+manyEnd x l c r = manyEndBy (x .cause) (x .place) l c r
 
-ends-as : {A : Type 0} (m : Parser A) (w : Consumes m) (t : Bool) (x : Lost) (l : List A) (c : ℕ) (r : List ℕ) → lostAs t x ≡ m c r → before l (many0 m c r) ≡ manyEndAs t x l c r
-ends-as {A} m w true x l c r e = ap (before l) (many0-fail m w c r (x .place) (sym e)) ∙ ap (λ (k : List A). ok k c r) (append-nil l)
-ends-as m w false x l c r e = ap (before l) (many0-stop m w c r (x .number) (x .place) (sym e))
+ends-by : {A : Type 0} (m : Parser A) (w : Consumes m) (k p : ℕ) (l : List A) (c : ℕ) (r : List ℕ) → lostBy k p ≡ m c r → before l (many0 m c r) ≡ manyEndBy k p l c r
+ends-by {A} m w zero p l c r e = ap (before l) (many0-fail m w c r p (sym e)) ∙ ap (λ (k : List A). ok k c r) (append-nil l)
+ends-by m w (suc n) p l c r e = ap (before l) (many0-stop m w c r n p (sym e))
 
 ends-at : {A : Type 0} (m : Parser A) (w : Consumes m) (x : Lost) (l : List A) (c : ℕ) (r : List ℕ) → lostReply x ≡ m c r → before l (many0 m c r) ≡ manyEnd x l c r
-ends-at m w x l c r e = ends-as m w (isFail x) x l c r e
+ends-at m w x l c r e = ends-by m w (x .cause) (x .place) l c r e
 
 pub many0-ends : {A : Type 0} {m : Parser A} (w : Consumes m) {b c : ℕ} {u r : List ℕ} {l : List A} (x : Lost) → ManyAt m b u c l → Rest b u c r → lostReply x ≡ m c r → many0 m b u ≡ manyEnd x l c (drop (c - b) u)
 many0-ends {A} {m} w {b} {c} {u} {r} {l} x i q e = i .left ∙ ends-at m w x l c (drop (c - b) u) (e ∙ ap (m c) (q .same))

@@ -1,8 +1,7 @@
 -- What a reader's answer gives its caller: the rest of the part to go on with, and one law for each step of a sequence of parsers.
 use mathlib.Core.Path.{_≡_, refl, sym, ap, _∙_, subst}
-use mathlib.Core.Bool.{Bool, true, false}
 use mathlib.Core.List.{List}
-use Prim.Native.Nat.{ℕ, suc, _+_, _-_, _≤_}
+use Prim.Native.Nat.{ℕ, zero, suc, _+_, _-_, _≤_}
 use native.Mathlib.Omega.{arith}
 use lib.ListN.{length, drop, take, length-drop}
 use lib.Seq.{take-all, drop-drop}
@@ -12,7 +11,7 @@ use Rattle.lexing.specs.integers.{positive-integer}
 use Rattle.lexing.specs.blanks.{whitespace0}
 use Rattle.lexing.specs.strings.{Escape, string-with}
 use Rattle.lexing.specs.word_sets.{set-flags}
-use Rattle.lexing.specs.answers.{lostReply, reply, stepAnswer, Rest, docOf, lostOf, numberLost, wordAt, spanTo, tagReply, wordReply, numberReply, stringReply, BlankTo, WordSetTo, isFail, lostAs}
+use Rattle.lexing.specs.answers.{lostReply, reply, stepAnswer, Rest, docOf, lostOf, numberLost, wordAt, spanTo, tagReply, wordReply, numberReply, stringReply, BlankTo, WordSetTo, lostBy}
 use Rattle.lexing.specs.declared.answers.Lost.{Lost}
 use Rattle.lexing.specs.declared.answers.Step.{Step}
 use Rattle.lexing.specs.declared.answers.Step.the-variants.{Next, Not}
@@ -99,13 +98,13 @@ module _ {A B : Type 0} {m : Parser A} {b : ℕ} {u : List ℕ} {n : ℕ} where
   unfolding _>>=_ _>>_
   on k t e = rw (t .goes, _>>_, _>>=_) e
 
-lose-as : {A B : Type 0} (m : Parser A) (k : A → Parser B) (n : ℕ) (r : List ℕ) (t : Bool) (l : Lost) → m n r ≡ lostAs t l → lostAs t l ≡ (m >>= k) n r
+lose-by : {A B : Type 0} (m : Parser A) (k : A → Parser B) (n : ℕ) (r : List ℕ) (i p : ℕ) → m n r ≡ lostBy i p → lostBy i p ≡ (m >>= k) n r
 unfolding _>>=_
-lose-as m k n r true l e = rw (e, _>>=_)
-lose-as m k n r false l e = rw (e, _>>=_)
+lose-by m k n r zero p e = rw (e, _>>=_)
+lose-by m k n r (suc i) p e = rw (e, _>>=_)
 
 lose-at : {A B : Type 0} (m : Parser A) (k : A → Parser B) (n : ℕ) (r : List ℕ) (l : Lost) → m n r ≡ lostReply l → lostReply l ≡ (m >>= k) n r
-lose-at m k n r l e = lose-as m k n r (isFail l) l e
+lose-at m k n r l e = lose-by m k n r (l .cause) (l .place) e
 
 -- the step that is lost, and so the whole
 pub lose : {A B : Type 0} (m : Parser A) (k : A → Parser B) {b n : ℕ} {u r : List ℕ} (l : Lost) → Rest b u n r → lostReply l ≡ m n r → lostReply l ≡ (m >>= k) n (drop (n - b) u)

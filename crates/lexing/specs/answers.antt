@@ -3,7 +3,6 @@ use Prim.Native.Nat.{ℕ, zero, suc, _+_, _-_, _≤_, _<_}
 use mathlib.Core.Path.{_≡_}
 use mathlib.Core.Bool.{Bool, true, false}
 use mathlib.Core.List.{List}
-use lib.Dec.{eqb}
 use lib.ListN.{length, take, drop, getD}
 use Rattle.lexing.specs.reply.{Reply, ok, fail, stop, Parser, _>>_}
 use Rattle.lexing.specs.words.{Word, word}
@@ -44,19 +43,20 @@ pub data Answer (A : Type 0) : Type 0 where
   got : A → ℕ → Answer A
   lost : Lost → Answer A
 
--- a failure has the number 3; any other number ends all reading
-abbrev pub isFail : Lost → Bool
-isFail l = eqb (l .number) 3
+-- a failure at a place, and what ends all reading by a number
+abbrev pub Fail : ℕ → Lost
+Fail p = record { cause = 0; place = p }
 
-abbrev pub lostAt : ℕ → Lost
-lostAt p = record { number = 3; place = p }
+abbrev pub Stop : ℕ → ℕ → Lost
+Stop n p = record { cause = suc n; place = p }
 
-abbrev pub lostAs : {A : Type 0} → Bool → Lost → Reply A
-lostAs true l = fail (l .place)
-lostAs false l = stop (l .number) (l .place)
+-- by its cause and its place
+abbrev pub lostBy : {A : Type 0} → ℕ → ℕ → Reply A
+lostBy zero p = fail p
+lostBy (suc n) p = stop n p
 
 abbrev pub lostReply : {A : Type 0} → Lost → Reply A
-lostReply l = lostAs (isFail l) l
+lostReply l = lostBy (l .cause) (l .place)
 
 abbrev pub reply : {A : Type 0} → Answer A → ℕ → List ℕ → Reply A
 reply (got a c) b u = ok a c (drop (c - b) u)
@@ -68,7 +68,7 @@ stepAnswer f (Next c) = got (f c) c
 stepAnswer f (Not l) = lost l
 
 abbrev pub lostOf : Step → Lost
-lostOf (Next c) = lostAt c
+lostOf (Next c) = Fail c
 lostOf (Not l) = l
 
 -- words and tags
@@ -90,7 +90,7 @@ abbrev pub numberReply : Number → ℕ → List ℕ → Reply ℕ
 numberReply r b u = reply (numberAnswer r) b u
 
 abbrev pub numberLost : Number → Lost
-numberLost (Value v c) = lostAt c
+numberLost (Value v c) = Fail c
 numberLost (NoNumber l) = l
 
 abbrev pub signedAnswer : SignedNumber → Answer Signed
@@ -101,7 +101,7 @@ abbrev pub signedReply : SignedNumber → ℕ → List ℕ → Reply Signed
 signedReply r b u = reply (signedAnswer r) b u
 
 abbrev pub signedLost : SignedNumber → Lost
-signedLost (Sized m v c) = lostAt c
+signedLost (Sized m v c) = Fail c
 signedLost (NoSigned l) = l
 
 -- blanks
@@ -144,7 +144,7 @@ abbrev pub gapReply : Gap → ℕ → List ℕ → Reply Doc
 gapReply r b u = reply (gapAnswer r) b u
 
 abbrev pub gapLost : Gap → Lost
-gapLost (Passed r) = lostAt (r .next)
+gapLost (Passed r) = Fail (r .next)
 gapLost (NoGap l) = l
 
 abbrev pub spanTo : ℕ → ℕ → Span
@@ -203,10 +203,10 @@ pub record NumberAt (m : Parser ℕ) (r : Number) (b : ℕ) (u : List ℕ) (c : 
   pub reads : numberReply r c (drop (c - b) u) ≡ m c (drop (c - b) u)
 
 -- the answer of an optional part that stands at b
-abbrev pub optionalLost : Bool → Lost → ℕ → Step
-optionalLost true l b = Next b
-optionalLost false l b = Not l
+abbrev pub optionalLost : ℕ → ℕ → ℕ → Step
+optionalLost zero p b = Next b
+optionalLost (suc n) p b = Not (Stop n p)
 
 abbrev pub optionalStep : Step → ℕ → Step
 optionalStep (Next c) b = Next c
-optionalStep (Not l) b = optionalLost (isFail l) l b
+optionalStep (Not l) b = optionalLost (l .cause) (l .place) b

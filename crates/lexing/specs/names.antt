@@ -7,7 +7,7 @@ use Rattle.lexing.specs.reply.{Parser, ret, _>>=_, _>>_}
 use Rattle.lexing.specs.words.{Word, parse-id, keyword, tag}
 use Rattle.lexing.specs.integers.{positive-integer}
 use Rattle.lexing.specs.blanks.{whitespace0, whitespace1}
-use Rattle.lexing.specs.answers.{Rest, Answer, got, lost, ReadTo, NameIn, wordBetween, lostAt}
+use Rattle.lexing.specs.answers.{Rest, Answer, got, lost, ReadTo, NameIn, wordBetween, Fail}
 use Rattle.lexing.specs.declared.answers.Lost.{Lost}
 use Rattle.lexing.specs.declared.names.Named.{Named}
 use Rattle.lexing.specs.declared.names.Named.the-variants.{Name, NoName}
@@ -74,7 +74,7 @@ namedAnswer b u (Name n e c) = got (wordBetween b u n e) c
 namedAnswer b u (NoName l) = lost l
 
 abbrev pub namedLost : Named → Lost
-namedLost (Name n e c) = lostAt c
+namedLost (Name n e c) = Fail c
 namedLost (NoName l) = l
 
 -- a name has a byte or more

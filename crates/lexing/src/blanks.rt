@@ -306,7 +306,7 @@ pub fn whitespace1(part: &[u8], base: usize) -> Gap
     let next = b.next;
     if next == base {
         return Gap::NoGap(Lost {
-            number: 3,
+            cause: 0,
             place: base,
         });
     }
@@ -318,7 +318,7 @@ pub fn gap_lost(r: Gap) -> Lost
 {
     match r {
         Gap::Passed(b) => Lost {
-            number: 3,
+            cause: 0,
             place: b.next,
         },
         Gap::NoGap(l) => l,

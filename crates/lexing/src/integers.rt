@@ -9,6 +9,7 @@ ghost use Rattle.lexing.specs.integers.{u64-max, hex-integer, decimal-in
 ghost use Rattle.lexing.specs.answers.{numberReply, numberLost, signedReply, signedLost};
 ghost use Rattle.lexing.specs.inner.integers.{digitTest, radix, digitsAre, isHexAhead};
 use crate::answers::Lost;
+use crate::answers::stop_by;
 use crate::bytes::is_between;
 use crate::bytes::is_digit;
 use crate::bytes::is_hex;
@@ -135,10 +136,7 @@ fn hex_integer(part: &[u8], base: usize) -> Number
 {
     let d = read_digits(after(part, 2), true);
     let Digits::Count(v, n) = d else {
-        return Number::NoNumber(Lost {
-            number: 4,
-            place: base,
-        });
+        return Number::NoNumber(stop_by(4, base));
     };
     Number::Value(v, base + (2 + n))
 }
@@ -149,16 +147,13 @@ fn decimal_integer(part: &[u8], base: usize) -> Number
 {
     if !is_digit(peek(part, 0)) {
         return Number::NoNumber(Lost {
-            number: 3,
+            cause: 0,
             place: base,
         });
     }
     let d = read_digits(part, false);
     let Digits::Count(v, n) = d else {
-        return Number::NoNumber(Lost {
-            number: 4,
-            place: base,
-        });
+        return Number::NoNumber(stop_by(4, base));
     };
     Number::Value(v, base + n)
 }
@@ -183,7 +178,7 @@ pub fn positive_integer(part: &[u8], base: usize) -> Number
     let x = peek(part, 0);
     if !is_digit(x) {
         return Number::NoNumber(Lost {
-            number: 3,
+            cause: 0,
             place: base,
         });
     }
@@ -220,20 +215,20 @@ fn after_sign(part: &[u8], base: usize, negative: bool) -> SignedNumber
     let rest = after(part, 1);
     if !is_digit(peek(rest, 0)) {
         return SignedNumber::NoSigned(Lost {
-            number: 3,
+            cause: 0,
             place: base,
         });
     }
     let d = read_digits(rest, false);
     let Digits::Count(v, n) = d else {
         return SignedNumber::NoSigned(Lost {
-            number: 3,
+            cause: 0,
             place: base,
         });
     };
     if largest_of(negative) < v {
         return SignedNumber::NoSigned(Lost {
-            number: 3,
+            cause: 0,
             place: base,
         });
     }
@@ -252,7 +247,7 @@ pub fn signed_integer(part: &[u8], base: usize) -> SignedNumber
         return after_sign(part, base, false);
     }
     SignedNumber::NoSigned(Lost {
-        number: 3,
+        cause: 0,
         place: base,
     })
 }
@@ -261,10 +256,7 @@ pub fn number_lost(r: Number) -> Lost
     ensures { λ x. ⌜ x ≡ numberLost r ⌝ }
 {
     match r {
-        Number::Value(_, c) => Lost {
-            number: 3,
-            place: c,
-        },
+        Number::Value(_, c) => Lost { cause: 0, place: c },
         Number::NoNumber(l) => l,
     }
 }
@@ -273,10 +265,7 @@ pub fn signed_lost(r: SignedNumber) -> Lost
     ensures { λ x. ⌜ x ≡ signedLost r ⌝ }
 {
     match r {
-        SignedNumber::Sized(_, _, c) => Lost {
-            number: 3,
-            place: c,
-        },
+        SignedNumber::Sized(_, _, c) => Lost { cause: 0, place: c },
         SignedNumber::NoSigned(l) => l,
     }
 }

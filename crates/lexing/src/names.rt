@@ -30,10 +30,7 @@ pub fn named_lost(r: Named) -> Lost
     ensures { λ x. ⌜ x ≡ namedLost r ⌝ }
 {
     match r {
-        Named::Name(_, _, c) => Lost {
-            number: 3,
-            place: c,
-        },
+        Named::Name(_, _, c) => Lost { cause: 0, place: c },
         Named::NoName(l) => l,
     }
 }

@@ -11,7 +11,7 @@ pub fn optional(r: Step, base: usize) -> Step
     let Step::Not(l) = r else {
         return r;
     };
-    if l.number == 3 {
+    if l.cause == 0 {
         return Step::Next(base);
     }
     Step::Not(l)

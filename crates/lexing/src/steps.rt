@@ -51,10 +51,7 @@ pub fn gap_at(part: &[u8], base: usize, c: usize) -> Step
 {
     let n = blank_at(part, base, c);
     if n == c {
-        return Step::Not(Lost {
-            number: 3,
-            place: c,
-        });
+        return Step::Not(Lost { cause: 0, place: c });
     }
     Step::Next(n)
 }

@@ -8,6 +8,7 @@ ghost use Rattle.lexing.specs.inner.strings.{escapesOf, escapeOf, pieceI
 ghost use Rattle.lexing.specs.answers.{stringReply};
 use crate::answers::Lost;
 use crate::answers::Step;
+use crate::answers::stop_by;
 use crate::parts::rest_at;
 
 // How a byte behind a backslash counts.
@@ -74,7 +75,7 @@ fn string_piece(part: &[u8], base: usize, default: bool) -> Piece
 {
     if part.len() == 0 {
         return Piece::Last(Step::Not(Lost {
-            number: 3,
+            cause: 0,
             place: base,
         }));
     }
@@ -88,7 +89,7 @@ fn string_piece(part: &[u8], base: usize, default: bool) -> Piece
     }
     if part.len() == 1 {
         return Piece::Last(Step::Not(Lost {
-            number: 3,
+            cause: 0,
             place: base,
         }));
     }
@@ -96,13 +97,10 @@ fn string_piece(part: &[u8], base: usize, default: bool) -> Piece
     match e {
         Escaped::Allowed => Piece::More(base + 2),
         Escaped::Forbidden => Piece::Last(Step::Not(Lost {
-            number: 3,
+            cause: 0,
             place: base,
         })),
-        Escaped::Panics => Piece::Last(Step::Not(Lost {
-            number: 5,
-            place: base,
-        })),
+        Escaped::Panics => Piece::Last(Step::Not(stop_by(5, base))),
     }
 }
 
@@ -122,13 +120,13 @@ fn string_with(part: &[u8], base: usize, default: bool) -> Step
 {
     if part.len() == 0 {
         return Step::Not(Lost {
-            number: 3,
+            cause: 0,
             place: base,
         });
     }
     if part[0] != b'"' {
         return Step::Not(Lost {
-            number: 3,
+            cause: 0,
             place: base,
         });
     }

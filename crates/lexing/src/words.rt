@@ -62,16 +62,10 @@ fn word_by_end(part: &[u8], base: usize, c: usize, e: usize) -> Step
 {
     let i = c - base;
     if e == i {
-        return Step::Not(Lost {
-            number: 3,
-            place: c,
-        });
+        return Step::Not(Lost { cause: 0, place: c });
     }
     if is_digit(part[i]) {
-        return Step::Not(Lost {
-            number: 3,
-            place: c,
-        });
+        return Step::Not(Lost { cause: 0, place: c });
     }
     Step::Next(base + e)
 }
@@ -134,14 +128,14 @@ pub fn keyword(part: &[u8], base: usize, key: &[u8]) -> Step
 {
     if !has_key(part, key) {
         return Step::Not(Lost {
-            number: 3,
+            cause: 0,
             place: base,
         });
     }
     let n = key.len();
     if is_word(peek(part, n)) {
         return Step::Not(Lost {
-            number: 3,
+            cause: 0,
             place: base,
         });
     }
@@ -155,7 +149,7 @@ pub fn tag(part: &[u8], base: usize, t: u8) -> Step
 {
     if part.len() == 0 {
         return Step::Not(Lost {
-            number: 3,
+            cause: 0,
             place: base,
         });
     }
@@ -163,7 +157,7 @@ pub fn tag(part: &[u8], base: usize, t: u8) -> Step
         return Step::Next(base + 1);
     }
     Step::Not(Lost {
-        number: 3,
+        cause: 0,
         place: base,
     })
 }

@@ -12,7 +12,7 @@ use Rattle.lexing.specs.reply.{ok, Parser, ret, _>>=_, _>>_, position, f
 use Rattle.lexing.specs.words.{keyword, tag}
 use Rattle.lexing.specs.integers.{positive-integer}
 use Rattle.lexing.specs.blanks.{Doc, no-doc, whitespace0, whitespace1}
-use Rattle.lexing.specs.answers.{Rest, BlankTo, docOf, docBy, RunTo, lostOf, lostReply, numberAnswer, numberLost, numberReply, tagReply, wordReply, Skips, SkipsAt, BlankAt, NumberAt, lostAt}
+use Rattle.lexing.specs.answers.{Rest, BlankTo, docOf, docBy, RunTo, lostOf, lostReply, numberAnswer, numberLost, numberReply, tagReply, wordReply, Skips, SkipsAt, BlankAt, NumberAt, Fail}
 use Rattle.lexing.specs.declared.answers.Lost.{Lost}
 use Rattle.lexing.specs.declared.answers.Step.{Step}
 use Rattle.lexing.specs.declared.answers.Step.the-variants.{Next, Not}
@@ -58,7 +58,7 @@ module _ {b c : ℕ} {u r : List ℕ} (q : Rest b u c r) where
     unfolding whitespace1 _>>=_ position pick ret
     gap-is e = skips-at (record { value = h .value; reads = rw (sym (h .reads), whitespace1, _>>=_) (rw (ne-eqb c n (λ z. e (sym z)), pick)) })
 
-    pub gap-not : n ≡ c → SkipsAt whitespace1 (Not (lostAt c)) b u c
+    pub gap-not : n ≡ c → SkipsAt whitespace1 (Not (Fail c)) b u c
     unfolding whitespace1 _>>=_ position pick failAt
     gap-not e = skips-at (record { value = no-doc; reads = rw (sym (h .reads), whitespace1, _>>=_) (rw (eq-eqb c n (sym e), pick)) })
 

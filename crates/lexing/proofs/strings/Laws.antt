@@ -1,15 +1,15 @@
 -- Laws of strings: one for each way through a piece of a string, and for the turns of the loop over the pieces.
 use mathlib.Core.Path.{_≡_, refl, sym, ap, _∙_, subst}
 use mathlib.Core.List.{List, [], _∷_}
-use mathlib.Core.Bool.{false, Bool, true}
-use Prim.Native.Nat.{ℕ, suc, _+_, _-_, _≤_, _<_}
+use mathlib.Core.Bool.{false}
+use Prim.Native.Nat.{ℕ, zero, suc, _+_, _-_, _≤_, _<_}
 use native.Mathlib.Omega.{arith}
 use lib.ListN.{length, drop, getD}
 use borrow.Author.Tests.{eq-eqb, ne-eqb}
 use Rattle.lexing.specs.bytes.{quote, backslash}
 use Rattle.lexing.specs.reply.{ok, fail}
 use Rattle.lexing.specs.strings.{Escape, string-rest, span-from, string-with}
-use Rattle.lexing.specs.answers.{Rest, reply, stepAnswer, spanTo, stringReply, isFail, lostAs, lostAt}
+use Rattle.lexing.specs.answers.{Rest, reply, stepAnswer, spanTo, stringReply, Fail, Stop, lostBy}
 use Rattle.lexing.specs.inner.strings.{escapeOf, pieceIs, pieceEnd}
 use Rattle.lexing.specs.declared.answers.Step.{Step}
 use Rattle.lexing.specs.declared.answers.Step.the-variants.{Next, Not}
@@ -24,13 +24,13 @@ use Rattle.lexing.proofs.Slicing.{rebase, suf-drop}
 -- what a byte behind a backslash makes of the string
 abbrev pub escapePiece : ℕ → Escaped → Piece
 escapePiece b Allowed = More (b + 2)
-escapePiece b Forbidden = Last (Not (lostAt b))
-escapePiece b Panics = Last (Not (record { number = 5; place = b }))
+escapePiece b Forbidden = Last (Not (Fail b))
+escapePiece b Panics = Last (Not (Stop 5 b))
 
 -- pieces
 module _ (f : ℕ → Escape) (b : ℕ) where
   -- no byte is left, or a backslash alone
-  pub piece-out : (u : List ℕ) → length u ≤ 1 → (0 < length u → getD u 0 0 ≡ backslash) → pieceIs f b u (Last (Not (lostAt b)))
+  pub piece-out : (u : List ℕ) → length u ≤ 1 → (0 < length u → getD u 0 0 ≡ backslash) → pieceIs f b u (Last (Not (Fail b)))
   unfolding string-rest
   piece-out [] l e = refl
   piece-out (x ∷ []) l e = let s : x ≡ backslash = e (omega arith) in rw (ne-eqb x quote (λ q. omega arith), eq-eqb x backslash s, string-rest)
@@ -110,11 +110,11 @@ module _ (f : ℕ → Escape) (b : ℕ) (u : List ℕ) (c : ℕ) (i : StringAt f
       let o = rw w at (advances-onward (string-advances f) .onward b u) in
       let z : length u - length (drop (n - c) r) ≡ n - b = omega (arith, o .1, suf-length (o .0)) in
       ap (λ v. ok (spanTo b n) n v) (sym (suf-drop (o .0) ∙ ap (λ m. drop m u) z)) ∙ sym w
-  by-step (Not l) w = go (isFail l) w
+  by-step (Not l) w = go (l .cause) w
     where
-      go : (t : Bool) → string-with f b u ≡ span-from (suc b) (lostAs t l) → lostAs t l ≡ string-with f b u
-      go true w = sym w
-      go false w = sym w
+      go : (k : ℕ) → string-with f b u ≡ span-from (suc b) (lostBy k (l .place)) → lostBy k (l .place) ≡ string-with f b u
+      go zero w = sym w
+      go (suc n) w = sym w
 
   pub string-ends : (s t : Step) → p ≡ Last s → t ≡ pieceEnd p → stringReply t b u ≡ string-with f b u
   string-ends s t e d =

@@ -15,7 +15,7 @@ use Rattle.lexing.specs.reply.{Reply, ok, fail, stop, ret, _>>=_, _>>_, 
 use Rattle.lexing.specs.words.{Word, bytesOf, isKeyword, isLower, keyword, any-keyword}
 use Rattle.lexing.specs.blanks.{Doc, whitespace1}
 use Rattle.lexing.specs.word_sets.{next-word, set-step, keywords-set, same-bytes, contains, bit, flags, sets, set-of, set-flags}
-use Rattle.lexing.specs.answers.{Rest, lostReply, wordAt, wordReply, docOf, BlankTo, WordSetTo, isFail, lostAs, lostAt}
+use Rattle.lexing.specs.answers.{Rest, lostReply, wordAt, wordReply, docOf, BlankTo, WordSetTo, Fail, lostBy}
 use Rattle.lexing.specs.inner.word_sets.{KeywordEnd, there, missing, set-gap, startReply, with-flag, initial, LowerAt}
 use Rattle.lexing.specs.inner.eights.{pack, bytesFrom, failing, isCapital}
 use Rattle.lexing.specs.declared.answers.Lost.{Lost}
@@ -365,11 +365,11 @@ any-calm (k ∷ ks) b u = go (keyword k b u) refl (keyword-says k b u) (any-calm
     go (stop n p) e h ih = absurd h
 
 lost-here : (k : List ℕ) (b : ℕ) (u : List ℕ) (l : Lost) → lostReply l ≡ keyword k b u → fail b ≡ keyword k b u
-lost-here k b u l e = go (isFail l) e
+lost-here k b u l e = go (l .cause) e
   where
-    go : (t : Bool) → lostAs t l ≡ keyword k b u → fail b ≡ keyword k b u
-    go true e = ap fail (sym (rw (← e) at (keyword-says k b u))) ∙ e
-    go false e = absurd (rw (← e) at (keyword-says k b u))
+    go : (i : ℕ) → lostBy i (l .place) ≡ keyword k b u → fail b ≡ keyword k b u
+    go zero e = ap fail (sym (rw (← e) at (keyword-says k b u))) ∙ e
+    go (suc n) e = absurd (rw (← e) at (keyword-says k b u))
 
 -- the offset behind a keyword, from the step over it
 module _ {k : List ℕ} {b : ℕ} {u : List ℕ} {a : Step} (h : wordReply a b u ≡ keyword k b u) where
@@ -474,7 +474,7 @@ module _ {n b : ℕ} {u : List ℕ} {f c : ℕ} {t : Bool} (i : SetAt n b u f c 
       record { reads = rw (i .flags-are) (flags-reply n b u (i .words) c (drop (c - b) u) e); up = i .at .from; inside = i .at .inside; small = i .small }
 
   pub set-no-start : {q : List ℕ} (s : Start) → Rest b u c q → startReply s c q ≡ set-gap t c q → s ≡ Nowhere → WordSetTo (record { flags = f; next = c }) n b u
-  set-no-start {q} s d h e = ended c (fall (set-gap t) (any-keyword (set-of n)) (lostAt c) d (subst (λ (x : Start). startReply x c q ≡ set-gap t c q) e h))
+  set-no-start {q} s d h e = ended c (fall (set-gap t) (any-keyword (set-of n)) (Fail c) d (subst (λ (x : Start). startReply x c q ≡ set-gap t c q) e h))
 
 pub start-took : {b c : ℕ} {u q : List ℕ} (t : Bool) (s : Start) (m : ℕ) → Rest b u c q → startReply s c q ≡ set-gap t c q → s ≡ Here m → Took (set-gap t) b u c tt m
 start-took {b} {c} {u} {q} t s m d h e = took (walks (set-gap-chain t)) d (subst (λ (x : Start). startReply x c q ≡ set-gap t c q) e h)

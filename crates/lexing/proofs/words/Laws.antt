@@ -13,7 +13,7 @@ use borrow.Author.Tests.{eq-eqb, ne-eqb, eqb-false, le-leb, ltb-true, ltb-false}
 use Rattle.lexing.specs.bytes.{within, isLetter, isDigit, isWord, lower, takeWhile, dropWhile}
 use Rattle.lexing.specs.reply.{Reply, ok, fail, stop, Parser, ret, _>>=_, position, failAt, pick}
 use Rattle.lexing.specs.words.{Word, word, bytesOf, parse-id, isKeyword, keyword, tag}
-use Rattle.lexing.specs.answers.{Rest, lostOf, lostReply, wordAt, wordReply, WordAt, lostAt}
+use Rattle.lexing.specs.answers.{Rest, lostOf, lostReply, wordAt, wordReply, WordAt, Fail}
 use Rattle.lexing.specs.inner.eights.{pack, bytesFrom, failing, isAlpha}
 use Rattle.lexing.specs.inner.words.{wordEnd, isKeyByte, Agree, KeyAt, HasKey}
 use Rattle.lexing.specs.declared.answers.Lost.{Lost}
@@ -266,16 +266,16 @@ module _ (b c : ℕ) (u : List ℕ) (at : (b ≤ c) × (c ≤ b + length u)) (e 
   rest : Rest b u c (drop (c - b) u)
   rest = rest-from b c u (at .0) (at .1)
 
-  none : isLetter (getD u (c - b) 0) ≡ false → WordAt parse-id (Not (lostAt c)) b u c
+  none : isLetter (getD u (c - b) 0) ≡ false → WordAt parse-id (Not (Fail c)) b u c
   none d = record { at = rest; reads = parse-id-no c (drop (c - b) u) (ap isLetter (first-of (c - b) u) ∙ d) }
 
   pub word-inside : e ≤ length u
   word-inside = omega (arith, run-le isWord (drop (c - b) u), rest .size)
 
-  pub word-empty : e ≡ c - b → WordAt parse-id (Not (lostAt c)) b u c
+  pub word-empty : e ≡ c - b → WordAt parse-id (Not (Fail c)) b u c
   word-empty z = none (false-if _ (λ d. omega (arith, run-longer (drop (c - b) u) 0 zero-le (letter-word _ (ap isLetter (first-of (c - b) u) ∙ d)))))
 
-  pub word-digit : isDigit (getD u (c - b) 0) ≡ true → WordAt parse-id (Not (lostAt c)) b u c
+  pub word-digit : isDigit (getD u (c - b) 0) ≡ true → WordAt parse-id (Not (Fail c)) b u c
   word-digit d = none (digit-no-letter _ d)
 
   pub word-some : (e ≡ c - b → ⊥) → isDigit (getD u (c - b) 0) ≡ false → WordAt parse-id (Next (b + e)) b u c

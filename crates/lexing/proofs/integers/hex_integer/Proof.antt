@@ -1,3 +1,4 @@
+use borrow.Author.Needs.{needs}
 use Rattle.lexing.proofs.integers.hex_integer.Statement.{statement}
 use Rattle.lexing.proofs.integers.hex_integer.Tie as tie
 use mathlib.Core.Path.{refl}
@@ -18,8 +19,11 @@ enum-known-d c = c .match .keys1
 enum-told : tie.Need-enum-told
 enum-told c = c .match .keys2
 
+stop-by-requires : tie.Need-stop-by-requires
+stop-by-requires c κs = search needs
+
 returns : tie.Need-returns
-returns c = integer-over true _ _ _ (c .before .before .before .before .before .pre .1) (c .before .before .before .after .ensures) _ (c .before .before .read-digits .ensures) (c .enum-told .given .1)
+returns c = rw (c .stop-by .ensures) (integer-over true _ _ _ (c .before .before .before .before .before .before .pre .1) (c .before .before .before .before .after .ensures) _ (c .before .before .before .read-digits .ensures) (c .before .enum-told .given .1))
 
 add-t8 : tie.Need-add-t8
 add-t8 c = omega (arith, digits-inside true _ _ (c .before .before .before .read-digits .ensures) (c .before .d .given .1) 2 (now (c .before .before .before .before .before .before .args .part)) (omega (arith, hex-inside (now (c .before .before .before .before .before .before .args .part)) (c .before .before .before .before .before .before .pre .1))) (c .before .before .before .before .after .ensures), c .before .before .before .before .before .before .pre .0)
@@ -38,6 +42,7 @@ hex-integer-spec =
     read-digits-requires
     enum-known-d
     enum-told
+    stop-by-requires
     returns
     add-t8
     add-t9

@@ -42,6 +42,9 @@ enum-told-2 c = c .match .keys2
 enum-told-3 : tie.Need-enum-told-3
 enum-told-3 c = c .match .keys3
 
+stop-by-requires : tie.Need-stop-by-requires
+stop-by-requires c κs = search needs
+
 returns-5 : tie.Need-returns-5
 returns-5 c = piece-escape (escapesOf (c .before .before .before .before .before .before .before .before .before .before .args .default)) _ _ (omega arith) (c .before .before .before .before .before .if3 .left) Allowed (c .enum-told .given .1) (c .before .before .escape-of .ensures)
 
@@ -49,7 +52,7 @@ returns-6 : tie.Need-returns-6
 returns-6 c = piece-escape (escapesOf (c .before .before .before .before .before .before .before .before .before .before .args .default)) _ _ (omega arith) (c .before .before .before .before .before .if3 .left) Forbidden (c .enum-told2 .given .1) (c .before .before .escape-of .ensures)
 
 returns-7 : tie.Need-returns-7
-returns-7 c = piece-escape (escapesOf (c .before .before .before .before .before .before .before .before .before .before .args .default)) _ _ (omega arith) (c .before .before .before .before .before .if3 .left) Panics (c .enum-told3 .given .1) (c .before .before .escape-of .ensures)
+returns-7 c = rw (c .stop-by .ensures) (piece-escape (escapesOf (c .before .before .before .before .before .before .before .before .before .before .before .args .default)) _ _ (omega arith) (c .before .before .before .before .before .before .if3 .left) Panics (c .before .enum-told3 .given .1) (c .before .before .before .escape-of .ensures))
 
 pub string-piece-spec : {M : Type 1} → statement M
 string-piece-spec =
@@ -67,6 +70,7 @@ string-piece-spec =
     add-t18
     enum-told-2
     enum-told-3
+    stop-by-requires
     returns-5
     returns-6
     returns-7)
