@@ -11,9 +11,8 @@ use Rattle.lexing.specs.bytes.{isLetter, isSpace, within}
 use Rattle.lexing.specs.reply.{Reply, ok, fail, stop, Parser, ret, _>>=_, _>>_, catch, failAt, keep}
 use Rattle.lexing.specs.words.{keyword, tag}
 use Rattle.lexing.specs.blanks.{Doc, no-doc, one-blank, whitespace0}
-use Rattle.lexing.specs.answers.{Rest, lostReply, SkipsAt}
+use Rattle.lexing.specs.answers.{Rest, lostReply, SkipsAt, Fail, Stop}
 use Rattle.lexing.specs.declared.answers.Lost.{Lost}
-use Rattle.lexing.specs.declared.answers.Lost.the-variants.{Fail, Stop}
 use Rattle.lexing.specs.declared.answers.Step.{Step as Answered}
 use Rattle.lexing.specs.declared.answers.Step.the-variants.{Next, Not}
 use Rattle.lexing.proofs.Runs.{suf-length}

@@ -5,9 +5,8 @@ use Prim.Native.Nat.{ℕ, _-_}
 use lib.ListN.{drop}
 use Rattle.lexing.specs.reply.{ok, fail, ret, _>>=_, _>>_}
 use Rattle.lexing.specs.words.{keyword}
-use Rattle.lexing.specs.answers.{lostReply, wordAt, wordReply}
+use Rattle.lexing.specs.answers.{lostReply, wordAt, wordReply, Fail, Stop}
 use Rattle.lexing.specs.declared.answers.Lost.{Lost}
-use Rattle.lexing.specs.declared.answers.Lost.the-variants.{Fail, Stop}
 use Rattle.lexing.specs.declared.answers.Step.{Step}
 use Rattle.lexing.specs.declared.answers.Step.the-variants.{Next, Not}
 use Rattle.lexing.proofs.Slicing.{told-next, told-not}

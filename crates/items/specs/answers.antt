@@ -16,9 +16,8 @@ use lib.ListN.{length, take, drop}
 use Rattle.lexing.specs.reply.{Parser, ok, ret, _>>=_, _>>_}
 use Rattle.lexing.specs.words.{word}
 use Rattle.lexing.specs.blanks.{Doc, whitespace0}
-use Rattle.lexing.specs.answers.{Answer, got, lost, reply, docOf}
+use Rattle.lexing.specs.answers.{Answer, got, lost, reply, docOf, Fail, Stop}
 use Rattle.lexing.specs.declared.answers.Lost.{Lost}
-use Rattle.lexing.specs.declared.answers.Lost.the-variants.{Fail, Stop}
 use Rattle.lexing.specs.declared.blanks.DocSpan.{DocSpan}
 use Rattle.lexing.specs.declared.blanks.DocSpan.the-variants.{Absent, At}
 use Rattle.items.specs.entries.{api-maturity}

@@ -6,14 +6,15 @@ use lib.ListN.{drop}
 use Rattle.lexing.specs.reply.{ok, Parser, _>>_, opt, many0}
 use Rattle.lexing.specs.words.{Word, word, keyword, tag}
 use Rattle.lexing.specs.blanks.{Doc, whitespace0}
-use Rattle.lexing.specs.answers.{Rest, Answer, got, lost, lostReply, reply, stepAnswer, tagReply, wordAt, wordReply, Skips, optionalStep, optionalLost}
+use Rattle.lexing.specs.answers.{Rest, Answer, got, lost, lostReply, reply, stepAnswer, tagReply, wordAt, wordReply, Skips, optionalStep}
 use Rattle.lexing.specs.declared.answers.Lost.{Lost}
 use Rattle.lexing.specs.declared.answers.Step.{Step}
 use Rattle.lexing.specs.declared.answers.Step.the-variants.{Next, Not}
+use Rattle.lexing.proofs.Losses.{by-lost}
 use Rattle.lexing.proofs.Onward.{Onward}
 use Rattle.lexing.proofs.Locality.{Consumes}
 use Rattle.lexing.proofs.Slicing.{Took, took, told-not, begin, on}
-use Rattle.lexing.proofs.Repetition.{ManyAt, manyEnd, many0-ends, manyEndBy}
+use Rattle.lexing.proofs.Repetition.{ManyAt, manyEnd, many0-ends}
 use Rattle.lexing.proofs.optional.Laws.{optional-skips}
 
 -- the two ends of a sequence; a value of the right type where there is none
@@ -47,11 +48,7 @@ skip-behind w {a = a} q t h = record { value = h .value; reads = behind w (stepA
 
 -- the end of a repetition
 ran : {A : Type 0} (m : Parser A) (b : ℕ) (u : List ℕ) (c : ℕ) (l : List A) (x : Lost) → many0 m b u ≡ manyEnd x l c (drop (c - b) u) → Skips (many0 m) (optionalStep (Not x) c) b u
-ran m b u c l x e = go (x .cause) e
-  where
-    go : (k : ℕ) → many0 m b u ≡ manyEndBy k (x .place) l c (drop (c - b) u) → Skips (many0 m) (optionalLost k (x .place) c) b u
-    go zero e = record { value = l; reads = sym e }
-    go (suc n) e = record { value = l; reads = sym e }
+ran m b u c l = by-lost (λ x. many0 m b u ≡ manyEnd x l c (drop (c - b) u) → Skips (many0 m) (optionalStep (Not x) c) b u) (λ p e. record { value = l; reads = sym e }) (λ n p e. record { value = l; reads = sym e })
 
 pub many0-skips : {A : Type 0} {m : Parser A} (w : Consumes m) {b c : ℕ} {u r : List ℕ} {l : List A} {a t : Step} (x : Lost) → ManyAt m b u c l → Rest b u c r → Skips m a c r → a ≡ Not x → t ≡ optionalStep a c → Skips (many0 m) t b u
 many0-skips {A} {m} w {b} {c} {u} {r} {l} {a} {t} x i q h d e =

@@ -1,6 +1,7 @@
 -- Laws of the definitions. A module's own laws, for the proofs of its functions, stand in MODULE/Laws.antt.
 
 -- bytes; runs of bytes and texts that end at a cut; loops that scan a run
+pub mod Losses
 pub mod Tests
 pub mod Runs
 pub mod Scans

@@ -5,9 +5,10 @@ use Prim.Native.Nat.{ℕ, zero, suc, _+_, _-_, _≤_, _<_}
 use native.Mathlib.Omega.{arith}
 use lib.ListN.{length, drop, length-drop}
 use Rattle.lexing.specs.reply.{Reply, ok, fail, stop, Parser, prepend, manyWithin, many0, iterWithin, iter}
+use Rattle.lexing.proofs.Losses.{by-lost}
 use Rattle.lexing.proofs.Chain.{Shorter}
 use Rattle.lexing.proofs.Locality.{Consumes}
-use Rattle.lexing.specs.answers.{lostReply, Rest, lostBy}
+use Rattle.lexing.specs.answers.{lostReply, Rest}
 use Rattle.lexing.proofs.Slicing.{Took}
 use Rattle.lexing.specs.declared.answers.Lost.{Lost}
 
@@ -113,12 +114,13 @@ manyEndBy (suc n) p l c r = stop n p
 abbrev pub manyEnd : {A : Type 0} → Lost → List A → ℕ → List ℕ → Reply (List A)
 manyEnd x l c r = manyEndBy (x .cause) (x .place) l c r
 
-ends-by : {A : Type 0} (m : Parser A) (w : Consumes m) (k p : ℕ) (l : List A) (c : ℕ) (r : List ℕ) → lostBy k p ≡ m c r → before l (many0 m c r) ≡ manyEndBy k p l c r
-ends-by {A} m w zero p l c r e = ap (before l) (many0-fail m w c r p (sym e)) ∙ ap (λ (k : List A). ok k c r) (append-nil l)
-ends-by m w (suc n) p l c r e = ap (before l) (many0-stop m w c r n p (sym e))
-
 ends-at : {A : Type 0} (m : Parser A) (w : Consumes m) (x : Lost) (l : List A) (c : ℕ) (r : List ℕ) → lostReply x ≡ m c r → before l (many0 m c r) ≡ manyEnd x l c r
-ends-at m w x l c r e = ends-by m w (x .cause) (x .place) l c r e
+ends-at {A} m w x l c r =
+    by-lost
+    (λ x. lostReply x ≡ m c r → before l (many0 m c r) ≡ manyEnd x l c r)
+    (λ p e. ap (before l) (many0-fail m w c r p (sym e)) ∙ ap (λ (k : List A). ok k c r) (append-nil l))
+    (λ n p e. ap (before l) (many0-stop m w c r n p (sym e)))
+    x
 
 pub many0-ends : {A : Type 0} {m : Parser A} (w : Consumes m) {b c : ℕ} {u r : List ℕ} {l : List A} (x : Lost) → ManyAt m b u c l → Rest b u c r → lostReply x ≡ m c r → many0 m b u ≡ manyEnd x l c (drop (c - b) u)
 many0-ends {A} {m} w {b} {c} {u} {r} {l} x i q e = i .left ∙ ends-at m w x l c (drop (c - b) u) (e ∙ ap (m c) (q .same))

@@ -11,8 +11,9 @@ use Rattle.lexing.specs.integers.{positive-integer}
 use Rattle.lexing.specs.blanks.{whitespace0}
 use Rattle.lexing.specs.strings.{Escape, string-with}
 use Rattle.lexing.specs.word_sets.{set-flags}
-use Rattle.lexing.specs.answers.{lostReply, reply, stepAnswer, Rest, docOf, lostOf, numberLost, wordAt, spanTo, tagReply, wordReply, numberReply, stringReply, BlankTo, WordSetTo, lostBy}
+use Rattle.lexing.specs.answers.{lostReply, reply, stepAnswer, Rest, docOf, lostOf, numberLost, wordAt, spanTo, tagReply, wordReply, numberReply, stringReply, BlankTo, WordSetTo}
 use Rattle.lexing.specs.declared.answers.Lost.{Lost}
+use Rattle.lexing.proofs.Losses.{by-lost}
 use Rattle.lexing.specs.declared.answers.Step.{Step}
 use Rattle.lexing.specs.declared.answers.Step.the-variants.{Next, Not}
 use Rattle.lexing.specs.declared.blanks.Blank.{Blank}
@@ -98,13 +99,9 @@ module _ {A B : Type 0} {m : Parser A} {b : ℕ} {u : List ℕ} {n : ℕ} where
   unfolding _>>=_ _>>_
   on k t e = rw (t .goes, _>>_, _>>=_) e
 
-lose-by : {A B : Type 0} (m : Parser A) (k : A → Parser B) (n : ℕ) (r : List ℕ) (i p : ℕ) → m n r ≡ lostBy i p → lostBy i p ≡ (m >>= k) n r
-unfolding _>>=_
-lose-by m k n r zero p e = rw (e, _>>=_)
-lose-by m k n r (suc i) p e = rw (e, _>>=_)
-
 lose-at : {A B : Type 0} (m : Parser A) (k : A → Parser B) (n : ℕ) (r : List ℕ) (l : Lost) → m n r ≡ lostReply l → lostReply l ≡ (m >>= k) n r
-lose-at m k n r l e = lose-by m k n r (l .cause) (l .place) e
+unfolding _>>=_
+lose-at m k n r = by-lost (λ l. m n r ≡ lostReply l → lostReply l ≡ (m >>= k) n r) (λ p e. rw (e, _>>=_)) (λ i p e. rw (e, _>>=_))
 
 -- the step that is lost, and so the whole
 pub lose : {A B : Type 0} (m : Parser A) (k : A → Parser B) {b n : ℕ} {u r : List ℕ} (l : Lost) → Rest b u n r → lostReply l ≡ m n r → lostReply l ≡ (m >>= k) n (drop (n - b) u)

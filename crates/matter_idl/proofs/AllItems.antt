@@ -7,10 +7,9 @@ use lib.ListN.{length, drop}
 use Rattle.lexing.specs.reply.{Reply, ok, fail, stop, Parser, ret, _>>=_, position, prepend, many0, catch, iterWithin, iter, keep}
 use Rattle.lexing.specs.words.{parse-id, keyword}
 use Rattle.lexing.specs.blanks.{Doc, no-doc, line-comment, block-comment, multispace1, whitespace-group, one-blank, whitespace0, whitespace1}
-use Rattle.lexing.specs.answers.{lostReply, Rest, BlankTo}
+use Rattle.lexing.specs.answers.{lostReply, Rest, BlankTo, Fail, Stop}
 use Rattle.lexing.specs.declared.blanks.DocSpan.the-variants.{Absent}
 use Rattle.lexing.specs.declared.answers.Lost.{Lost}
-use Rattle.lexing.specs.declared.answers.Lost.the-variants.{Fail, Stop}
 use Rattle.lexing.proofs.Slicing.{rest-self, begin, lose}
 use Rattle.lexing.proofs.blanks.Laws.{gap-none}
 use Rattle.lexing.proofs.FirstWord.{Frees}

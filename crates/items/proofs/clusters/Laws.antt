@@ -14,10 +14,9 @@ use Rattle.lexing.specs.reply.{Reply, ok, fail, stop, Parser, ret, _or_, furthe
 use Rattle.lexing.specs.words.{Word, keyword, any-keyword}
 use Rattle.lexing.specs.blanks.{Doc, no-doc, whitespace0, whitespace1}
 use Rattle.lexing.specs.word_sets.{same-bytes, sets, set-of}
-use Rattle.lexing.specs.answers.{Rest, docOf, wordAt, wordReply, lostReply, BlankTo}
+use Rattle.lexing.specs.answers.{Rest, docOf, wordAt, wordReply, lostReply, BlankTo, Fail, Stop}
 use Rattle.lexing.specs.declared.blanks.Blank.{Blank}
 use Rattle.lexing.specs.declared.answers.Lost.{Lost}
-use Rattle.lexing.specs.declared.answers.Lost.the-variants.{Fail, Stop}
 use Rattle.lexing.specs.declared.answers.Step.{Step}
 use Rattle.lexing.specs.declared.answers.Step.the-variants.{Next, Not}
 use Rattle.lexing.proofs.Slicing.{Took, walks, told-next, told-not, blank-took, or-here}

@@ -9,9 +9,8 @@ use Rattle.lexing.specs.bytes.{ascii}
 use Rattle.lexing.specs.reply.{Reply, ok, fail, stop, Parser, ret, _>>_, catch, failAt, _or_, further, opt, many0}
 use Rattle.lexing.specs.words.{Word, keyword, any-keyword, tag}
 use Rattle.lexing.specs.blanks.{Doc, whitespace0, whitespace1}
-use Rattle.lexing.specs.answers.{Rest, wordAt, wordReply, lostReply, NameIn, Skips, SkipsAt}
+use Rattle.lexing.specs.answers.{Rest, wordAt, wordReply, lostReply, NameIn, Skips, SkipsAt, Fail, Stop}
 use Rattle.lexing.specs.declared.answers.Lost.{Lost}
-use Rattle.lexing.specs.declared.answers.Lost.the-variants.{Fail, Stop}
 use Rattle.lexing.specs.declared.answers.Step.{Step}
 use Rattle.lexing.specs.declared.answers.Step.the-variants.{Next, Not}
 use Rattle.lexing.specs.declared.integers.Number.{Number}

@@ -10,9 +10,8 @@ use lib.ListN.{drop}
 use Rattle.lexing.specs.reply.{Reply, ok, fail, stop, Parser, ret, _>>=_, _>>_, catch, position, failAt}
 use Rattle.lexing.specs.words.{tag}
 use Rattle.lexing.specs.blanks.{Doc, whitespace0}
-use Rattle.lexing.specs.answers.{Answer, got, lost, Rest, lostReply, reply}
+use Rattle.lexing.specs.answers.{Answer, got, lost, Rest, lostReply, reply, Fail, Stop}
 use Rattle.lexing.specs.declared.answers.Lost.{Lost}
-use Rattle.lexing.specs.declared.answers.Lost.the-variants.{Fail, Stop}
 use Rattle.lexing.proofs.Onward.{Onward, advances-onward, tag-advances}
 use Rattle.lexing.proofs.Locality.{Consumes, LocalInside, chain-ret}
 use Rattle.lexing.proofs.Slicing.{Took, took, walks, begin, go, on, lose, fall, done, rest-self, rest-from}

@@ -12,9 +12,8 @@ use Rattle.lexing.specs.words.{Word, keyword}
 use Rattle.lexing.specs.integers.{signed, positive-integer, signed-integer}
 use Rattle.lexing.specs.blanks.{no-doc, whitespace0, whitespace1}
 use Rattle.lexing.specs.strings.{Span, span, default-escape, default-string}
-use Rattle.lexing.specs.answers.{Answer, got, reply, lostReply, Rest, lostOf, numberLost, numberReply, signedReply, spanTo, stringReply, NameIn, wordBetween}
+use Rattle.lexing.specs.answers.{Answer, got, reply, lostReply, Rest, lostOf, numberLost, numberReply, signedReply, spanTo, stringReply, NameIn, wordBetween, Fail, Stop}
 use Rattle.lexing.specs.declared.answers.Lost.{Lost}
-use Rattle.lexing.specs.declared.answers.Lost.the-variants.{Fail, Stop}
 use Rattle.lexing.specs.declared.answers.Step.{Step}
 use Rattle.lexing.specs.declared.answers.Step.the-variants.{Next, Not}
 use Rattle.lexing.specs.declared.integers.Number.{Number}

@@ -8,9 +8,8 @@ use lib.ListN.{length, drop}
 use Rattle.lexing.specs.reply.{Reply, ok, fail, stop, Parser, ret, _>>=_, _>>_, iterWithin, iter, position, failAt}
 use Rattle.lexing.specs.words.{tag}
 use Rattle.lexing.specs.blanks.{Doc, whitespace0}
-use Rattle.lexing.specs.answers.{Rest, lostReply}
+use Rattle.lexing.specs.answers.{Rest, lostReply, Fail, Stop}
 use Rattle.lexing.specs.declared.answers.Lost.{Lost}
-use Rattle.lexing.specs.declared.answers.Lost.the-variants.{Fail, Stop}
 use Rattle.lexing.proofs.Onward.{Onward}
 use Rattle.lexing.proofs.Locality.{Consumes, LocalInside}
 use Rattle.lexing.proofs.Slicing.{Took, took, walks, begin, fall, rest-from, rebase}

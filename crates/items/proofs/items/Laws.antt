@@ -14,7 +14,7 @@ use Rattle.lexing.specs.word_sets.{same-bytes}
 use Rattle.lexing.proofs.Onward.{Ends, Onward}
 use Rattle.lexing.proofs.blanks.Laws.{gap-none, gap-some}
 use Rattle.lexing.proofs.FirstWord.{Frees, starts-free, blank-clear}
-use Rattle.lexing.specs.answers.{Rest, docOf, lostReply, BlankTo}
+use Rattle.lexing.specs.answers.{Rest, docOf, lostReply, BlankTo, Fail, Stop}
 use Rattle.lexing.specs.declared.blanks.Blank.{Blank}
 use Rattle.lexing.specs.declared.answers.Lost.{Lost}
 use Rattle.lexing.proofs.Slicing.{Took, took, walks, rest-self, begin, or-here}
@@ -39,7 +39,6 @@ use Rattle.items.specs.declared.clusters.MemberKind.the-variants.{Revisi
 use Rattle.items.specs.declared.items.DeclarationKind.{DeclarationKind}
 use Rattle.items.specs.declared.items.DeclarationKind.the-variants.{Cluster, Endpoint, Enum as EnumType, Bitmap as BitmapType, Struct as StructType, Unknown as NoDeclaration}
 use Rattle.items.specs.declared.items.DeclarationStart.{DeclarationStart}
-use Rattle.lexing.specs.declared.answers.Lost.the-variants.{Fail, Stop}
 use Rattle.items.proofs.Choice.{End, kept, lost, ends, Tries, more, last, keeps, left, Reaches, choice, Past, past-start, or-fail, or-stop, or-keep, or-same, or-assoc, past-first, past-rest, moving-past, further-ok, ok-further}
 use Rattle.items.proofs.Mapped.{mapped-same, lost-as}
 use Rattle.items.proofs.Recorded.{Recorded, recorded-at, recorded-counts}

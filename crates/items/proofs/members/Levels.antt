@@ -6,7 +6,7 @@ use Prim.Native.Nat.{ℕ}
 use lib.ListN.{getD}
 use Rattle.lexing.specs.bytes.{ascii, lower}
 use Rattle.lexing.specs.reply.{Parser}
-use Rattle.lexing.specs.declared.answers.Lost.the-variants.{Fail}
+use Rattle.lexing.specs.answers.{Fail}
 use Rattle.items.specs.answers.members.{LevelTo}
 use Rattle.items.specs.answers.members.{numbered}
 use Rattle.items.specs.declared.members.Level.{Level}

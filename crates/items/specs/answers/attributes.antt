@@ -1,9 +1,8 @@
 -- Answers of the readers of attributes.
 use Prim.Native.Nat.{ℕ, _<_}
 use mathlib.Core.List.{List}
-use Rattle.lexing.specs.answers.{Answer, got, lost, ReadTo}
+use Rattle.lexing.specs.answers.{Answer, got, lost, ReadTo, Fail}
 use Rattle.lexing.specs.declared.answers.Lost.{Lost}
-use Rattle.lexing.specs.declared.answers.Lost.the-variants.{Fail}
 use Rattle.items.specs.members.{Privileges as PrivilegesOf, attribute-access, parse-attribute-after-doc-maturity}
 use Rattle.items.specs.records.{attribute-records}
 use Rattle.items.specs.answers.{Front, CountsTo}

@@ -2,9 +2,8 @@
 use Prim.Native.Nat.{ℕ, _≤_, _<_}
 use mathlib.Core.List.{List}
 use Rattle.lexing.specs.reply.{opt}
-use Rattle.lexing.specs.answers.{Answer, got, lost, ReadTo, Skips, wordBetween}
+use Rattle.lexing.specs.answers.{Answer, got, lost, ReadTo, Skips, wordBetween, Fail}
 use Rattle.lexing.specs.declared.answers.Lost.{Lost}
-use Rattle.lexing.specs.declared.answers.Lost.the-variants.{Fail}
 use Rattle.lexing.specs.declared.answers.Step.the-variants.{Next}
 use Rattle.items.specs.entries.{shared-before, ChoiceHead as ChoiceHeadOf, choice-head, choice-after-doc-maturity}
 use Rattle.items.specs.records.{choice-records}

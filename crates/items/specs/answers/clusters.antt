@@ -2,11 +2,10 @@
 use Prim.Native.Nat.{ℕ}
 use mathlib.Core.List.{List}
 use Rattle.lexing.specs.reply.{Parser}
-use Rattle.lexing.specs.answers.{Answer, got, lost, ReadTo, NameIn, wordBetween}
+use Rattle.lexing.specs.answers.{Answer, got, lost, ReadTo, NameIn, wordBetween, Fail}
 use Rattle.lexing.specs.declared.integers.Number.{Number}
 use Rattle.lexing.specs.declared.integers.Number.the-variants.{Value, NoNumber}
 use Rattle.lexing.specs.declared.answers.Lost.{Lost}
-use Rattle.lexing.specs.declared.answers.Lost.the-variants.{Fail}
 use Rattle.items.specs.clusters.{Member, revision, parse-revision, Cluster, ClusterHead as ClusterHeadOf, cluster-head, cluster-after-doc-maturity}
 use Rattle.items.specs.records.{Record, member-records, cluster-records}
 use Rattle.lexing.specs.buffers.{each}

@@ -10,9 +10,8 @@ use Rattle.lexing.specs.words.{Word}
 use Rattle.lexing.specs.integers.{signed}
 use Rattle.lexing.specs.blanks.{whitespace1}
 use Rattle.lexing.specs.strings.{span}
-use Rattle.lexing.specs.answers.{Answer, got, lost, reply, ReadTo, NameIn, wordBetween}
+use Rattle.lexing.specs.answers.{Answer, got, lost, reply, ReadTo, NameIn, wordBetween, Fail, Stop}
 use Rattle.lexing.specs.declared.answers.Lost.{Lost}
-use Rattle.lexing.specs.declared.answers.Lost.the-variants.{Fail, Stop}
 use Rattle.items.specs.clusters.{mapped}
 use Rattle.items.specs.records.{Record}
 use Rattle.items.specs.layout.{word-count}

@@ -2,9 +2,8 @@
 use Prim.Native.Nat.{ℕ, _≤_, _<_}
 use mathlib.Core.List.{List}
 use Rattle.lexing.specs.reply.{Parser}
-use Rattle.lexing.specs.answers.{Answer, got, lost, ReadTo, wordBetween}
+use Rattle.lexing.specs.answers.{Answer, got, lost, ReadTo, wordBetween, Fail}
 use Rattle.lexing.specs.declared.answers.Lost.{Lost}
-use Rattle.lexing.specs.declared.answers.Lost.the-variants.{Fail}
 use Rattle.items.specs.entries.{Entry}
 use Rattle.items.specs.declared.entries.EntryParts.{EntryParts}
 use Rattle.items.specs.declared.entries.EntryRead.{EntryRead}

@@ -8,9 +8,8 @@ use Rattle.lexing.specs.bytes.{ascii, byte}
 use Rattle.lexing.specs.reply.{Parser, ret, _>>_, opt}
 use Rattle.lexing.specs.words.{Word, keyword, tag}
 use Rattle.lexing.specs.blanks.{Doc, whitespace0}
-use Rattle.lexing.specs.answers.{Rest, Answer, got, lost, ReadTo, wordBetween, behind-blanks}
+use Rattle.lexing.specs.answers.{Rest, Answer, got, lost, ReadTo, wordBetween, behind-blanks, Fail}
 use Rattle.lexing.specs.declared.answers.Lost.{Lost}
-use Rattle.lexing.specs.declared.answers.Lost.the-variants.{Fail}
 use Rattle.items.specs.members.{access-privilege, or-else, access-to, EventQualities as EventQualitiesOf, event-qualities, EventHead as EventHeadOf, event-head, parse-event-after-doc-maturity, CommandHead as CommandHeadOf, command-head, CommandTypes as CommandTypesOf, command-types, Command as CommandOf, parse-command-after-doc-maturity}
 use Rattle.items.specs.answers.{optionOf, Front, CountsTo}
 use Rattle.items.specs.clusters.{mapped}

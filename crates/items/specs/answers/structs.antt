@@ -5,9 +5,8 @@ use mathlib.Core.List.{List}
 use Rattle.lexing.specs.bytes.{ascii}
 use Rattle.lexing.specs.reply.{fail, Parser}
 use Rattle.lexing.specs.words.{keyword}
-use Rattle.lexing.specs.answers.{Answer, got, lost, wordReply, ReadTo, BlankAt, wordBetween}
+use Rattle.lexing.specs.answers.{Answer, got, lost, wordReply, ReadTo, BlankAt, wordBetween, Fail}
 use Rattle.lexing.specs.declared.answers.Lost.{Lost}
-use Rattle.lexing.specs.declared.answers.Lost.the-variants.{Fail}
 use Rattle.lexing.specs.declared.answers.Step.the-variants.{Next}
 use Rattle.items.specs.structs.{Field as FieldOf, StructField as StructFieldOf, parse-field, StructType, regular, request, response, shared, StructHead, struct-head, parse-struct-after-doc-maturity}
 use Rattle.items.specs.records.{struct-records}

@@ -9,9 +9,8 @@ use Rattle.lexing.specs.reply.{Parser, ret, _>>=_, _>>_, opt}
 use Rattle.lexing.specs.words.{Word, offsetOf, bytesOf, keyword}
 use Rattle.lexing.specs.blanks.{whitespace0, whitespace1}
 use Rattle.lexing.specs.word_sets.{same-bytes, set-flags}
-use Rattle.lexing.specs.answers.{Answer, got, lost, wordAt, reply, docOf, ReadTo}
+use Rattle.lexing.specs.answers.{Answer, got, lost, wordAt, reply, docOf, ReadTo, Fail}
 use Rattle.lexing.specs.declared.answers.Lost.{Lost}
-use Rattle.lexing.specs.declared.answers.Lost.the-variants.{Fail}
 use Rattle.items.specs.clusters.{mapped}
 use Rattle.items.specs.records.{Record, absent, bits, documented}
 use Rattle.items.specs.members.{Access as AccessOf, access-entry, comma, separated-list0, Privileges as PrivilegesOf, attribute-access}

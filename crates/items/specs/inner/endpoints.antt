@@ -8,7 +8,7 @@ use Rattle.lexing.specs.words.{tag}
 use Rattle.lexing.specs.integers.{positive-integer, signed-integer}
 use Rattle.lexing.specs.blanks.{whitespace0}
 use Rattle.lexing.specs.declared.answers.Lost.{Lost}
-use Rattle.lexing.specs.declared.answers.Lost.the-variants.{Fail, Stop}
+use Rattle.lexing.specs.answers.{Fail, Stop}
 use Rattle.items.specs.clusters.{mapped}
 use Rattle.items.specs.endpoints.{Tried as TriedOf, Deep, deep-run, number, signed-number}
 use Rattle.items.specs.records.{Record, absent, at, bits, value, plain, default-number, default-word}

@@ -8,9 +8,8 @@ use lib.ListN.{length}
 use Rattle.lexing.specs.bytes.{ascii}
 use Rattle.lexing.specs.reply.{Reply, Parser, ret, opt}
 use Rattle.lexing.specs.words.{Word}
-use Rattle.lexing.specs.answers.{Answer, got, lost, reply, docOf, BlankAt}
+use Rattle.lexing.specs.answers.{Answer, got, lost, reply, docOf, BlankAt, Fail, Stop}
 use Rattle.lexing.specs.declared.answers.Lost.{Lost}
-use Rattle.lexing.specs.declared.answers.Lost.the-variants.{Fail, Stop}
 use Rattle.lexing.specs.declared.integers.Number.{Number}
 use Rattle.lexing.specs.declared.integers.Number.the-variants.{Value, NoNumber}
 use Rattle.items.specs.structs.{list-marker, StructType, regular, request, shared, response-code, struct-type-of}

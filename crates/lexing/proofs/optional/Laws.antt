@@ -6,10 +6,11 @@ use Prim.Native.Nat.{ℕ, zero, suc, _-_}
 use native.Mathlib.Omega.{arith}
 use lib.ListN.{drop}
 use Rattle.lexing.specs.reply.{ok, fail, stop, Parser, opt}
-use Rattle.lexing.specs.answers.{Rest, lostReply, lostOf, Skips, optionalStep, lostBy, optionalLost}
+use Rattle.lexing.specs.answers.{Rest, lostReply, lostOf, Skips, optionalStep, optionalLost}
 use Rattle.lexing.specs.declared.answers.Lost.{Lost}
 use Rattle.lexing.specs.declared.answers.Step.{Step}
 use Rattle.lexing.specs.declared.answers.Step.the-variants.{Next, Not}
+use Rattle.lexing.proofs.Losses.{by-lost}
 use Rattle.lexing.proofs.Onward.{Onward}
 use Rattle.lexing.proofs.Slicing.{Took, took, told-next, step-lost}
 
@@ -18,11 +19,7 @@ pub optional-fail : (r : Step) (b : ℕ) (l : Lost) → r ≡ Not l → l .cause
 optional-fail r b l e f = ap (λ (k : ℕ). optionalLost k (l .place) b) (sym f) ∙ sym (ap (λ (x : Step). optionalStep x b) e)
 
 pub optional-stop : (r : Step) (b : ℕ) (l : Lost) → r ≡ Not l → (l .cause ≡ 0 → ⊥) → Not l ≡ optionalStep r b
-optional-stop r b l e f = go (l .cause) refl f ∙ sym (ap (λ (x : Step). optionalStep x b) e)
-  where
-    go : (k : ℕ) → l .cause ≡ k → (k ≡ 0 → ⊥) → Not l ≡ optionalLost k (l .place) b
-    go zero g f = absurd (f refl)
-    go (suc n) g f = ap (λ (k : ℕ). Not (record { cause = k; place = l .place })) g
+optional-stop r b l e f = by-lost (λ l. (l .cause ≡ 0 → ⊥) → Not l ≡ optionalStep (Not l) b) (λ p f. absurd (f refl)) (λ n p f. refl) l f ∙ sym (ap (λ (x : Step). optionalStep x b) e)
 
 pub opt-ok : {A : Type 0} (m : Parser A) (b : ℕ) (u : List ℕ) (a : A) (c : ℕ) (r : List ℕ) → ok a c r ≡ m b u → ok (some a) c r ≡ opt m b u
 unfolding opt
@@ -39,11 +36,13 @@ opt-stop m b u n p e = rw (sym e, opt)
 -- the answer of an optional part, where the part's answer is known
 pub optional-skips : {A : Type 0} {m : Parser A} (a : Step) (b : ℕ) (u : List ℕ) → Skips m a b u → Skips (opt m) (optionalStep a b) b u
 optional-skips {A} {m} (Next c) b u h = record { value = some (h .value); reads = opt-ok m b u (h .value) c (drop (c - b) u) (h .reads) }
-optional-skips {A} {m} (Not l) b u h = go (l .cause) (h .reads)
-  where
-    go : (k : ℕ) → lostBy k (l .place) ≡ m b u → Skips (opt m) (optionalLost k (l .place) b) b u
-    go zero e = let z : b - b ≡ 0 = omega arith in record { value = none; reads = rw z (opt-fail m b u (l .place) e) }
-    go (suc n) e = record { value = none; reads = opt-stop m b u n (l .place) e }
+optional-skips {A} {m} (Not l) b u h =
+    by-lost
+    (λ l. lostReply l ≡ m b u → Skips (opt m) (optionalStep (Not l) b) b u)
+    (λ p e. let z : b - b ≡ 0 = omega arith in record { value = none; reads = rw z (opt-fail m b u p e) })
+    (λ n p e. record { value = none; reads = opt-stop m b u n p e })
+    l
+    (h .reads)
 
 -- a step whose value is dropped, in a sequence
 pub skip-took : {A : Type 0} {m : Parser A} (w : Onward m) {b n : ℕ} {u r : List ℕ} {a : Step} {c : ℕ} → Rest b u n r → a ≡ Next c → (h : Skips m a n r) → Took m b u n (h .value) c

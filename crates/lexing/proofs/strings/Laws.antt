@@ -9,7 +9,7 @@ use borrow.Author.Tests.{eq-eqb, ne-eqb}
 use Rattle.lexing.specs.bytes.{quote, backslash}
 use Rattle.lexing.specs.reply.{ok, fail}
 use Rattle.lexing.specs.strings.{Escape, string-rest, span-from, string-with}
-use Rattle.lexing.specs.answers.{Rest, reply, stepAnswer, spanTo, stringReply, Fail, Stop, lostBy}
+use Rattle.lexing.specs.answers.{Rest, reply, stepAnswer, spanTo, stringReply, Fail, Stop, lostReply}
 use Rattle.lexing.specs.inner.strings.{escapeOf, pieceIs, pieceEnd}
 use Rattle.lexing.specs.declared.answers.Step.{Step}
 use Rattle.lexing.specs.declared.answers.Step.the-variants.{Next, Not}
@@ -17,6 +17,7 @@ use Rattle.lexing.specs.declared.strings.Escaped.{Escaped}
 use Rattle.lexing.specs.declared.strings.Escaped.the-variants.{Allowed, Forbidden, Panics}
 use Rattle.lexing.specs.declared.strings.Piece.{Piece}
 use Rattle.lexing.specs.declared.strings.Piece.the-variants.{More, Last}
+use Rattle.lexing.proofs.Losses.{by-lost}
 use Rattle.lexing.proofs.Runs.{suf-length}
 use Rattle.lexing.proofs.Onward.{advances-onward, string-advances}
 use Rattle.lexing.proofs.Slicing.{rebase, suf-drop}
@@ -110,11 +111,7 @@ module _ (f : ℕ → Escape) (b : ℕ) (u : List ℕ) (c : ℕ) (i : StringAt f
       let o = rw w at (advances-onward (string-advances f) .onward b u) in
       let z : length u - length (drop (n - c) r) ≡ n - b = omega (arith, o .1, suf-length (o .0)) in
       ap (λ v. ok (spanTo b n) n v) (sym (suf-drop (o .0) ∙ ap (λ m. drop m u) z)) ∙ sym w
-  by-step (Not l) w = go (l .cause) w
-    where
-      go : (k : ℕ) → string-with f b u ≡ span-from (suc b) (lostBy k (l .place)) → lostBy k (l .place) ≡ string-with f b u
-      go zero w = sym w
-      go (suc n) w = sym w
+  by-step (Not l) w = by-lost (λ l. string-with f b u ≡ span-from (suc b) (lostReply l) → lostReply l ≡ string-with f b u) (λ p w. sym w) (λ n p w. sym w) l w
 
   pub string-ends : (s t : Step) → p ≡ Last s → t ≡ pieceEnd p → stringReply t b u ≡ string-with f b u
   string-ends s t e d =

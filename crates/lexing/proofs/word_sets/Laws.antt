@@ -15,7 +15,7 @@ use Rattle.lexing.specs.reply.{Reply, ok, fail, stop, ret, _>>=_, _>>_, 
 use Rattle.lexing.specs.words.{Word, bytesOf, isKeyword, isLower, keyword, any-keyword}
 use Rattle.lexing.specs.blanks.{Doc, whitespace1}
 use Rattle.lexing.specs.word_sets.{next-word, set-step, keywords-set, same-bytes, contains, bit, flags, sets, set-of, set-flags}
-use Rattle.lexing.specs.answers.{Rest, lostReply, wordAt, wordReply, docOf, BlankTo, WordSetTo, Fail, lostBy}
+use Rattle.lexing.specs.answers.{Rest, lostReply, wordAt, wordReply, docOf, BlankTo, WordSetTo, Fail}
 use Rattle.lexing.specs.inner.word_sets.{KeywordEnd, there, missing, set-gap, startReply, with-flag, initial, LowerAt}
 use Rattle.lexing.specs.inner.eights.{pack, bytesFrom, failing, isCapital}
 use Rattle.lexing.specs.declared.answers.Lost.{Lost}
@@ -25,6 +25,7 @@ use Rattle.lexing.specs.declared.answers.Step.the-variants.{Next, Not}
 use Rattle.lexing.specs.declared.blanks.Blank.{Blank}
 use Rattle.lexing.specs.declared.word_sets.Start.{Start}
 use Rattle.lexing.specs.declared.word_sets.Start.the-variants.{Here, Nowhere}
+use Rattle.lexing.proofs.Losses.{by-lost}
 use Rattle.lexing.proofs.Tests.{and-left, and-right, or-false, false-if}
 use Rattle.lexing.proofs.Locality.{OnChain, chain-ret, chain-then}
 use Rattle.lexing.proofs.TokenLocality.{whitespace1-chain, keyword-chain, keyword-consumes, any-keyword-chain, set-step-consumes}
@@ -365,11 +366,7 @@ any-calm (k ∷ ks) b u = go (keyword k b u) refl (keyword-says k b u) (any-calm
     go (stop n p) e h ih = absurd h
 
 lost-here : (k : List ℕ) (b : ℕ) (u : List ℕ) (l : Lost) → lostReply l ≡ keyword k b u → fail b ≡ keyword k b u
-lost-here k b u l e = go (l .cause) e
-  where
-    go : (i : ℕ) → lostBy i (l .place) ≡ keyword k b u → fail b ≡ keyword k b u
-    go zero e = ap fail (sym (rw (← e) at (keyword-says k b u))) ∙ e
-    go (suc n) e = absurd (rw (← e) at (keyword-says k b u))
+lost-here k b u = by-lost (λ l. lostReply l ≡ keyword k b u → fail b ≡ keyword k b u) (λ p e. ap fail (sym (rw (← e) at (keyword-says k b u))) ∙ e) (λ n p e. absurd (rw (← e) at (keyword-says k b u)))
 
 -- the offset behind a keyword, from the step over it
 module _ {k : List ℕ} {b : ℕ} {u : List ℕ} {a : Step} (h : wordReply a b u ≡ keyword k b u) where

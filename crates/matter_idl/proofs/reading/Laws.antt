@@ -8,9 +8,8 @@ use native.Mathlib.Decide.{ℕ-discrete}
 use lib.ListN.{length, drop, length-append}
 use Rattle.lexing.specs.reply.{Reply, ok, fail, stop, Parser, ret, _>>_, many0}
 use Rattle.lexing.specs.blanks.{whitespace0, whitespace1}
-use Rattle.lexing.specs.answers.{lostReply, Rest, docOf, BlankTo}
+use Rattle.lexing.specs.answers.{lostReply, Rest, docOf, BlankTo, Fail, Stop}
 use Rattle.lexing.specs.declared.answers.Lost.{Lost}
-use Rattle.lexing.specs.declared.answers.Lost.the-variants.{Fail, Stop}
 use Rattle.lexing.specs.declared.blanks.Blank.{Blank}
 use Rattle.lexing.specs.declared.blanks.DocSpan.the-variants.{Absent}
 use Rattle.lexing.proofs.blanks.Laws.{gap-none, gap-some}

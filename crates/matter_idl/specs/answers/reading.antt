@@ -5,7 +5,7 @@ use mathlib.Core.List.{List}
 use lib.ListN.{length, drop}
 use Rattle.lexing.specs.reply.{ok}
 use Rattle.lexing.specs.declared.answers.Lost.{Lost}
-use Rattle.lexing.specs.declared.answers.Lost.the-variants.{Fail, Stop}
+use Rattle.lexing.specs.answers.{Fail, Stop}
 use Rattle.items.specs.items.{Item}
 use Rattle.items.specs.layout.{word-count, text-limit}
 use Rattle.matter_idl.specs.hoisting.{Tables, hoisted}

@@ -2,7 +2,7 @@ use Rattle.items.proofs.endpoints.further.Statement.{statement}
 use Rattle.items.proofs.endpoints.further.Tie as tie
 use mathlib.Core.Path.{sym, ap, _∙_}
 use Rattle.lexing.specs.declared.answers.Lost.{Lost}
-use Rattle.lexing.specs.declared.answers.Lost.the-variants.{Fail}
+use Rattle.lexing.specs.answers.{Fail}
 use Rattle.items.specs.inner.endpoints.{furtherLost}
 
 enum-known-l : tie.Need-enum-known-l

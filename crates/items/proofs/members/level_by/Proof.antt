@@ -3,7 +3,7 @@ use Rattle.items.proofs.members.level_by.Statement.{statement}
 use Rattle.items.proofs.members.level_by.Tie as tie
 use mathlib.Core.Path.{refl}
 use Rattle.items.specs.answers.members.{numbered}
-use Rattle.lexing.specs.declared.answers.Lost.the-variants.{Fail}
+use Rattle.lexing.specs.answers.{Fail}
 use Rattle.items.proofs.Keywords.{keyword-value, keyword-not}
 use Rattle.lexing.proofs.AnswerLaws.{read-is, read-not}
 
