@@ -2,7 +2,7 @@
 use mathlib.Core.Path.{_≡_, refl, sym, ap, _∙_}
 use mathlib.Core.Bool.{Bool, true, false}
 use mathlib.Core.List.{List, [], _∷_}
-use Prim.Native.Nat.{ℕ, _-_}
+use Prim.Native.Nat.{ℕ, zero, suc, _-_}
 use native.Mathlib.Omega.{arith}
 use lib.Dec.{eqb}
 use lib.ListN.{length, drop}
@@ -15,6 +15,7 @@ use Rattle.lexing.specs.answers.{Rest, lostReply, SkipsAt, Fail, Stop}
 use Rattle.lexing.specs.declared.answers.Lost.{Lost}
 use Rattle.lexing.specs.declared.answers.Step.{Step as Answered}
 use Rattle.lexing.specs.declared.answers.Step.the-variants.{Next, Not}
+use Rattle.lexing.proofs.Losses.{by-lost}
 use Rattle.lexing.proofs.Runs.{suf-length}
 use Rattle.lexing.proofs.Chain.{MovesTo, to-suf}
 use Rattle.lexing.proofs.Onward.{Ends, Onward}
@@ -36,14 +37,20 @@ use Rattle.items.proofs.counts.Laws.{Counted, count-took, count-lost, c
 use Rattle.items.proofs.writing.Laws.{no-room, written-took}
 
 -- what is lost, where a failure is caught
+abbrev caughtBy : {A : Type 0} → (ℕ → Parser A) → ℕ → ℕ → Parser A
+caughtBy h zero p b u = h p b u
+caughtBy h (suc n) p b u = stop n p
+
 abbrev pub caught : {A : Type 0} → (ℕ → Parser A) → Lost → Parser A
-caught h (Fail p) b u = h p b u
-caught h (Stop n p) b u = stop n p
+caught h l b u = caughtBy h (l .cause) (l .place) b u
 
 -- an accepted reply is none that is lost
 pub lost-not : {A : Type 0} {a : A} {c : ℕ} {r : List ℕ} {m : Reply A} → ok a c r ≡ m → (l : Lost) → lostReply l ≡ m → ⊥
-lost-not h (Fail p) e = let z = h ∙ sym e in let y : _≡_ {A = ℕ} 0 1 = cc in omega arith
-lost-not h (Stop n p) e = let z = h ∙ sym e in let y : _≡_ {A = ℕ} 0 1 = cc in omega arith
+lost-not {m = m} h =
+    by-lost
+    (λ l. lostReply l ≡ m → ⊥)
+    (λ p e. let z = h ∙ sym e in let y : _≡_ {A = ℕ} 0 1 = cc in omega arith)
+    (λ n p e. let z = h ∙ sym e in let y : _≡_ {A = ℕ} 0 1 = cc in omega arith)
 
 -- where a closing brace stands
 pub brace-first : (b : ℕ) (u : List ℕ) {c : ℕ} {r : List ℕ} → ok tt c r ≡ tag 125 b u → (v : List ℕ) × (u ≡ 125 ∷ v)
@@ -73,13 +80,17 @@ closing-took h t = record { goes = rw (t .goes, catch) refl; up = t .up; inside 
 -- lost, by what is done where it fails
 closing-caught : (h : ℕ → Parser (Unit {0})) (l : Lost) (n : ℕ) (r : List ℕ) → lostReply l ≡ (whitespace0 >> tag 125) n r → caught h l n r ≡ catch (whitespace0 >> tag 125) h n r
 unfolding catch
-closing-caught h (Fail p) n r q = rw (sym q, catch) refl
-closing-caught h (Stop i p) n r q = rw (sym q, catch) refl
+closing-caught h l n r =
+    by-lost (λ l. lostReply l ≡ (whitespace0 >> tag 125) n r → caught h l n r ≡ catch (whitespace0 >> tag 125) h n r) (λ p q. rw (sym q, catch) refl) (λ i p q. rw (sym q, catch) refl) l
 
 closing-lost : {S : Type 0} (x : S) (l : Lost) (n : ℕ) (r : List ℕ) → lostReply l ≡ (whitespace0 >> tag 125) n r → lostReply l ≡ catch (whitespace0 >> tag 125) (λ p. failAt (where-missing x p)) n r
 unfolding failAt where-missing
-closing-lost x (Fail p) n r q = closing-caught (λ p. failAt (where-missing x p)) (Fail p) n r q
-closing-lost x (Stop i p) n r q = closing-caught (λ p. failAt (where-missing x p)) (Stop i p) n r q
+closing-lost x l n r =
+    by-lost
+    (λ l. lostReply l ≡ (whitespace0 >> tag 125) n r → lostReply l ≡ catch (whitespace0 >> tag 125) (λ p. failAt (where-missing x p)) n r)
+    (λ p q. closing-caught (λ p. failAt (where-missing x p)) (Fail p) n r q)
+    (λ i p q. closing-caught (λ p. failAt (where-missing x p)) (Stop i p) n r q)
+    l
 
 -- the same where the blanks were read before
 module _ {b n : ℕ} {u : List ℕ} {d : Doc} {c : ℕ} (t : Took whitespace0 b u n d c) where

@@ -13,6 +13,7 @@ use Rattle.lexing.specs.words.{Word, parse-id, keyword, any-keyword, tag}
 use Rattle.lexing.specs.blanks.{Doc, line-comment, Until, found, never, until-close, closed, block-comment, multispace1, whitespace-group, one-blank, whitespace0}
 use Rattle.lexing.specs.answers.{lostReply, Fail, Stop}
 use Rattle.lexing.specs.declared.answers.Lost.{Lost}
+use Rattle.lexing.proofs.Losses.{by-lost}
 use Rattle.lexing.proofs.words.Laws.{keyword-says}
 use Rattle.lexing.proofs.optional.Laws.{opt-fail}
 
@@ -26,8 +27,12 @@ pub record Calm {A : Type 0} (m : Parser A) : Type 0 where
 
 -- what is lost is absent
 pub calm-absent : {A : Type 0} {m : Parser A} → Calm m → (l : Lost) {b : ℕ} {u : List ℕ} → lostReply l ≡ m b u → ok none b (drop (b - b) u) ≡ opt m b u
-calm-absent {A} {m} w (Fail p) {b} {u} e = let z : b - b ≡ 0 = omega arith in rw z (opt-fail m b u p e)
-calm-absent {A} {m} w (Stop n p) {b} {u} e = absurd (rw (← e) at (w .runs b u))
+calm-absent {A} {m} w l {b} {u} =
+    by-lost
+    (λ l. lostReply l ≡ m b u → ok none b (drop (b - b) u) ≡ opt m b u)
+    (λ p e. let z : b - b ≡ 0 = omega arith in rw z (opt-fail m b u p e))
+    (λ n p e. absurd (rw (← e) at (w .runs b u)))
+    l
 
 module _ {A : Type 0} where
   pub calm-ret : (a : A) → Calm (ret a)

@@ -6,6 +6,9 @@ use mathlib.Core.List.{List, [], _∷_}
 use Prim.Native.Nat.{ℕ, _+_, _≤_, max}
 use native.Mathlib.Omega.{arith}
 use Rattle.lexing.specs.reply.{Reply, ok, fail, stop, Parser, _or_, further}
+use Rattle.lexing.specs.answers.{lostReply}
+use Rattle.lexing.specs.declared.answers.Lost.{Lost}
+use Rattle.lexing.proofs.Losses.{at-stop}
 use Rattle.lexing.proofs.Shift.{shiftReply, Shifts}
 
 -- a try that fails leaves the next, whose place is then no nearer
@@ -16,6 +19,9 @@ or-fail m k e = rw (e, _or_)
 pub or-stop : {A : Type 0} (m k : Parser A) (b : ℕ) (u : List ℕ) (n p : ℕ) → stop n p ≡ m b u → stop n p ≡ (m or k) b u
 unfolding _or_
 or-stop m k b u n p e = rw (sym e, _or_)
+
+pub or-stopped : {A : Type 0} (m k : Parser A) (b : ℕ) (u : List ℕ) (l : Lost) → (l .cause ≡ 0 → ⊥) → lostReply l ≡ m b u → lostReply l ≡ (m or k) b u
+or-stopped m k b u = at-stop (λ l. lostReply l ≡ m b u → lostReply l ≡ (m or k) b u) (λ n p. or-stop m k b u n p)
 
 pub or-lost : {A : Type 0} (m k : Parser A) {b p q : ℕ} {u : List ℕ} → m b u ≡ fail p → k b u ≡ fail q → (m or k) b u ≡ fail (max p q)
 unfolding further

@@ -9,13 +9,13 @@ use Rattle.lexing.specs.answers.{lostReply, wordAt, wordReply, Fail, Stop}
 use Rattle.lexing.specs.declared.answers.Lost.{Lost}
 use Rattle.lexing.specs.declared.answers.Step.{Step}
 use Rattle.lexing.specs.declared.answers.Step.the-variants.{Next, Not}
+use Rattle.lexing.proofs.Losses.{by-lost}
 use Rattle.lexing.proofs.Slicing.{told-next, told-not}
 use Rattle.lexing.proofs.words.Laws.{keyword-says}
 
 -- it never stops
 keyword-lost : (k : List ℕ) (b : ℕ) (u : List ℕ) (l : Lost) → lostReply l ≡ keyword k b u → fail b ≡ keyword k b u
-keyword-lost k b u (Fail p) e = ap fail (sym (rw (← e) at (keyword-says k b u))) ∙ e
-keyword-lost k b u (Stop n p) e = absurd (rw (← e) at (keyword-says k b u))
+keyword-lost k b u = by-lost (λ l. lostReply l ≡ keyword k b u → fail b ≡ keyword k b u) (λ p e. ap fail (sym (rw (← e) at (keyword-says k b u))) ∙ e) (λ n p e. absurd (rw (← e) at (keyword-says k b u)))
 
 pub keyword-missing : (k : List ℕ) (b : ℕ) (u : List ℕ) (a : Step) → wordReply a b u ≡ keyword k b u → (l : Lost) → a ≡ Not l → fail b ≡ keyword k b u
 keyword-missing k b u a h l e = keyword-lost k b u l (told-not (wordAt b u) a l b u (keyword k b u) e h)

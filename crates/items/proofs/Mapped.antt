@@ -7,6 +7,7 @@ use lib.ListN.{drop}
 use Rattle.lexing.specs.reply.{Reply, ok, fail, stop, Parser, ret, _>>=_}
 use Rattle.lexing.specs.answers.{Answer, got, Rest, lostReply, reply, ReadTo, Fail, Stop}
 use Rattle.lexing.specs.declared.answers.Lost.{Lost}
+use Rattle.lexing.proofs.Losses.{by-lost}
 use Rattle.lexing.proofs.Onward.{Onward}
 use Rattle.lexing.proofs.Slicing.{Took, took}
 use Rattle.items.specs.clusters.{mapped}
@@ -36,12 +37,17 @@ value-of f (fail p) k c v e = absurd (let z : _≡_ {A = ℕ} 0 1 = cc in omega 
 value-of f (stop n p) k c v e = absurd (let z : _≡_ {A = ℕ} 0 1 = cc in omega arith)
 
 lost-of : {A B : Type 0} (f : A → B) (l : Lost) (x : Reply A) → lostReply {A = B} l ≡ through f x → lostReply l ≡ x
-lost-of f (Fail p) (ok a c r) e = absurd (let z : _≡_ {A = ℕ} 0 1 = cc in omega arith)
-lost-of f (Fail p) (fail q) e = let z : p ≡ q = cc in rw z refl
-lost-of f (Fail p) (stop n q) e = absurd (let z : _≡_ {A = ℕ} 0 1 = cc in omega arith)
-lost-of f (Stop i p) (ok a c r) e = absurd (let z : _≡_ {A = ℕ} 0 1 = cc in omega arith)
-lost-of f (Stop i p) (fail q) e = absurd (let z : _≡_ {A = ℕ} 0 1 = cc in omega arith)
-lost-of f (Stop i p) (stop n q) e = let z : p ≡ q = cc in let y : i ≡ n = cc in rw (z, y) refl
+lost-of {A} {B} f l x = by-lost (λ l. lostReply {A = B} l ≡ through f x → lostReply l ≡ x) (λ p. failed p x) (λ i p. stopped i p x) l
+  where
+    failed : (p : ℕ) (x : Reply A) → fail p ≡ through f x → fail p ≡ x
+    failed p (ok a c r) e = absurd (let z : _≡_ {A = ℕ} 0 1 = cc in omega arith)
+    failed p (fail q) e = let z : p ≡ q = cc in rw z refl
+    failed p (stop n q) e = absurd (let z : _≡_ {A = ℕ} 0 1 = cc in omega arith)
+
+    stopped : (i p : ℕ) (x : Reply A) → stop i p ≡ through f x → stop i p ≡ x
+    stopped i p (ok a c r) e = absurd (let z : _≡_ {A = ℕ} 0 1 = cc in omega arith)
+    stopped i p (fail q) e = absurd (let z : _≡_ {A = ℕ} 0 1 = cc in omega arith)
+    stopped i p (stop n q) e = let z : p ≡ q = cc in let y : i ≡ n = cc in rw (z, y) refl
 
 -- a step of a sequence whose value is known by what f makes of it
 pub record TookAs {A B : Type 0} (f : A → B) (m : Parser A) (b : ℕ) (u : List ℕ) (n : ℕ) (v : B) (c : ℕ) : Type 0 where
@@ -67,8 +73,7 @@ module _ {A B : Type 0} (f : A → B) (m : Parser A) (b : ℕ) (u : List ℕ) wh
   mapped-ok a c r d e = rw (mapped-is f m b u, ← e, ← d) refl
 
   pub mapped-not : (l : Lost) → lostReply l ≡ m b u → lostReply l ≡ mapped m f b u
-  mapped-not (Fail p) e = rw (mapped-is f m b u, ← e) refl
-  mapped-not (Stop n p) e = rw (mapped-is f m b u, ← e) refl
+  mapped-not = by-lost (λ l. lostReply l ≡ m b u → lostReply l ≡ mapped m f b u) (λ p e. rw (mapped-is f m b u, ← e) refl) (λ n p e. rw (mapped-is f m b u, ← e) refl)
 
 -- an answer taken apart, once its variant x is known
 pub read-as : {T A B : Type 0} {f : ℕ → List ℕ → T → Answer B} {W : ℕ → T → Type 0} {g : A → B} {m : Parser A} {a x : T} {n : ℕ} {r : List ℕ} → ReadTo f W (mapped m g) a n r → a ≡ x

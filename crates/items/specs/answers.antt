@@ -7,7 +7,7 @@ pub mod members
 pub mod attributes
 pub mod endpoints
 pub mod items
-use Prim.Native.Nat.{ℕ, _+_, _-_, _*_, _≤_, _<_}
+use Prim.Native.Nat.{ℕ, zero, suc, _+_, _-_, _*_, _≤_, _<_}
 use mathlib.Core.Path.{_≡_}
 use mathlib.Core.Bool.{Bool, true, false}
 use mathlib.Core.Option.{Option, none, some}
@@ -90,9 +90,12 @@ pub record CountsTo {I A : Type 0} (records : I → A → List Record) (m : I �
   pub counts : (i : I) → CountTo (records i) (m i) r b u
 
 -- the count of a repetition, after n words at c, by why its last try was lost
+abbrev pub countEndBy : ℕ → ℕ → ℕ → ℕ → Count
+countEndBy zero p n c = Words n c
+countEndBy (suc i) p n c = NoCount (Stop i p)
+
 abbrev pub countEnd : Lost → ℕ → ℕ → Count
-countEnd (Fail p) n c = Words n c
-countEnd (Stop i p) n c = NoCount (Stop i p)
+countEnd l n c = countEndBy (l .cause) (l .place) n c
 
 -- The second pass.
 

@@ -1,4 +1,5 @@
 -- What is lost is a failure or what ends all reading.
+use mathlib.Core.Path.{_≡_, refl}
 use Prim.Native.Nat.{ℕ, zero, suc}
 use Rattle.lexing.specs.answers.{Fail, Stop}
 use Rattle.lexing.specs.declared.answers.Lost.{Lost}
@@ -9,3 +10,7 @@ by-lost P f s l = go (l .cause)
     go : (k : ℕ) → P (record { cause = k; place = l .place })
     go zero = f (l .place)
     go (suc n) = s n (l .place)
+
+-- what has a cause ends all reading
+pub at-stop : (P : Lost → Type 0) → ((n p : ℕ) → P (Stop n p)) → (l : Lost) → (l .cause ≡ 0 → ⊥) → P l
+at-stop P s = by-lost (λ l. (l .cause ≡ 0 → ⊥) → P l) (λ p f. absurd (f refl)) (λ n p f. s n p)

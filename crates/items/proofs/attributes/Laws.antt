@@ -16,6 +16,7 @@ use Rattle.lexing.specs.answers.{Rest, lostReply, reply, wordAt, wordReply, Ski
 use Rattle.lexing.specs.declared.answers.Lost.{Lost}
 use Rattle.lexing.specs.declared.answers.Step.{Step}
 use Rattle.lexing.specs.declared.answers.Step.the-variants.{Next, Not}
+use Rattle.lexing.proofs.Losses.{by-lost}
 use Rattle.lexing.proofs.Onward.{Onward}
 use Rattle.lexing.proofs.FirstWord.{blank-clear}
 use Rattle.lexing.proofs.Locality.{OnChain, Consumes, chain-ret, chain-bind, chain-then, chain-inside, chain-opt, consumes-right, consumes-then-left, consumes-then-right}
@@ -349,8 +350,11 @@ pub entries-closed : {b n : ℕ} {u : List ℕ} {g : Grants} {a : Step} {l : Los
 entries-closed {b} {n} {u} {g} {a} {l} i h d = go l (pair-fall _ _ access-entry l (h .at) (skips-none d h) ∙ separated-is n (drop (n - b) u))
   where
     go : (l : Lost) → lostReply l ≡ separated-entry n (drop (n - b) u) → EntriesTo (record { grants = g; next = n }) b u
-    go (Fail p) e = ended i p e
-    go (Stop j p) e = absurd (rw (← e) at (separated-calm .runs n (drop (n - b) u)))
+    go =
+        by-lost
+        (λ l. lostReply l ≡ separated-entry n (drop (n - b) u) → EntriesTo (record { grants = g; next = n }) b u)
+        (λ p e. ended i p e)
+        (λ j p e. absurd (rw (← e) at (separated-calm .runs n (drop (n - b) u))))
 
 -- one entry more
 before-more : {A : Type 0} (l : List A) (a : A) (x : Reply (List A)) → before l (prepend a x) ≡ before (l ++ (a ∷ [])) x

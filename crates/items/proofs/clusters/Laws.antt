@@ -19,6 +19,7 @@ use Rattle.lexing.specs.declared.blanks.Blank.{Blank}
 use Rattle.lexing.specs.declared.answers.Lost.{Lost}
 use Rattle.lexing.specs.declared.answers.Step.{Step}
 use Rattle.lexing.specs.declared.answers.Step.the-variants.{Next, Not}
+use Rattle.lexing.proofs.Losses.{by-lost}
 use Rattle.lexing.proofs.Slicing.{Took, walks, told-next, told-not, blank-took, or-here}
 use Rattle.lexing.proofs.Onward.{Onward}
 use Rattle.lexing.proofs.Locality.{chain-many0}
@@ -47,6 +48,7 @@ use Rattle.items.specs.inner.endpoints.{furtherLost}
 use Rattle.items.specs.inner.clusters.{countRaised, revision-words, bitmap-words, enum-words, struct-words, attribute-words, command-words, event-words, found, thirdLetterKind, member-try, same-kind, kind-number, fails-at, MemberFrom, KindTo}
 use Rattle.items.specs.declared.clusters.MemberKind.{MemberKind}
 use Rattle.items.specs.declared.clusters.MemberKind.the-variants.{Revision, Bitmap, Enum, Struct, Attribute, Command, Event, Unknown}
+use Rattle.items.proofs.Braces.{lost-not}
 use Rattle.items.proofs.RecordWords.{word-count-none, each-elementwise}
 use Rattle.items.proofs.counts.Laws.{Counting, counting-start, counting-more, counting-ends, count-took, count-none, read-counted, count-is, count-not, count-lost, count-mapped, count-value}
 use Rattle.items.proofs.Locality.{parse-revision-consumes as revision-consumes, member-tries-inside, parse-cluster-member-inside, parse-cluster-member-consumes}
@@ -115,8 +117,7 @@ module _ (k : List ℕ) (b : ℕ) (u : List ℕ) (a : Step) (h : wordReply a b u
       lost = told-not (wordAt b u) a l b u (keyword k b u) e h
 
       no : (l : Lost) (w : Word) (c : ℕ) (r : List ℕ) → lostReply l ≡ ok w c r → ⊥
-      no (Fail p) w c r z = let y : _≡_ {A = ℕ} 0 1 = cc in omega arith
-      no (Stop n p) w c r z = let y : _≡_ {A = ℕ} 0 1 = cc in omega arith
+      no l w c r z = lost-not (sym z) l refl
 
       go : Stands k b u → false ≡ found (any-keyword (k ∷ []) b u)
       go (there w c r q) = absurd (no l w c r (lost ∙ q))
@@ -586,10 +587,13 @@ unfolding further
 count-raised f m k q (Words n c) b u h e =
     let s = count-value f m b u n c h in
     count-is f k b u (s .value) n c (s .words) (h .few) (sym (e ∙ ap (further q) (sym (s .is))))
-count-raised f m k q (NoCount (Fail p)) b u h e =
-    let z : max p q ≡ max q p = omega arith in
-    count-not f k b u (Fail (max p q)) (ap fail z ∙ sym (e ∙ ap (further q) (sym (count-lost (Fail p) refl b u h))))
-count-raised f m k q (NoCount (Stop n p)) b u h e = count-not f k b u (Stop n p) (sym (e ∙ ap (further q) (sym (count-lost (Stop n p) refl b u h))))
+count-raised f m k q (NoCount l) b u h e =
+    by-lost
+    (λ l. lostReply l ≡ m b u → CountTo f k (countRaised (NoCount l) q) b u)
+    (λ p h. let z : max p q ≡ max q p = omega arith in count-not f k b u (Fail (max p q)) (ap fail z ∙ sym (e ∙ ap (further q) (sym h))))
+    (λ n p h. count-not f k b u (Stop n p) (sym (e ∙ ap (further q) (sym h))))
+    l
+    (count-lost l refl b u h)
 
 pub member-counted : (d : Doc) (m : ℕ) (b : ℕ) (u : List ℕ) (k : Candidate) (r x : Count) → KindTo k b u → MemberCountTo (member-try (k .kind) d m) r b u → x ≡ countRaised r (k .floor) → MemberCountTo (member-tries d m) x b u
 member-counted d m b u k r x h g e = record {

@@ -11,6 +11,7 @@ use Rattle.lexing.specs.answers.{Answer, got, Rest, lostReply, lostOf, reply, R
 use Rattle.lexing.specs.declared.answers.Lost.{Lost}
 use Rattle.lexing.specs.declared.answers.Step.{Step}
 use Rattle.lexing.specs.declared.answers.Step.the-variants.{Next, Not}
+use Rattle.lexing.proofs.Losses.{by-lost}
 use Rattle.lexing.proofs.Onward.{Onward}
 use Rattle.lexing.proofs.Locality.{Consumes}
 use Rattle.lexing.proofs.Slicing.{Took, took}
@@ -98,8 +99,12 @@ module _ {A : Type 0} {f : List A → List Record} {one : A → List Record} (w 
       )
 
 ended : {A : Type 0} (f : List A → List Record) (m : Parser A) (b c : ℕ) (u : List ℕ) (l : List A) (x : Lost) → word-count (f l) ≤ 8 * (c - b) → many0 m b u ≡ manyEnd x l c (drop (c - b) u) → CountTo f (many0 m) (countEnd x (word-count (f l)) c) b u
-ended f m b c u l (Fail p) q e = count-is f (many0 m) b u l (word-count (f l)) c refl q (sym e)
-ended f m b c u l (Stop k p) q e = count-not f (many0 m) b u (Stop k p) (sym e)
+ended f m b c u l x q =
+    by-lost
+    (λ x. many0 m b u ≡ manyEnd x l c (drop (c - b) u) → CountTo f (many0 m) (countEnd x (word-count (f l)) c) b u)
+    (λ p e. count-is f (many0 m) b u l (word-count (f l)) c refl q (sym e))
+    (λ k p e. count-not f (many0 m) b u (Stop k p) (sym e))
+    x
 
 pub counting-ends : {A : Type 0} {f : List A → List Record} {m : Parser A} (w : Consumes m) {b c n : ℕ} {u r : List ℕ} {t : Count} (x : Lost) → Counting f m b u c n → Rest b u c r → lostReply x ≡ m c r → t ≡ countEnd x n c → CountTo f (many0 m) t b u
 counting-ends {A} {f} {m} w {b} {c} {n} {u} {r} {t} x i q e d =

@@ -12,6 +12,7 @@ use Rattle.lexing.specs.words.{tag}
 use Rattle.lexing.specs.blanks.{Doc, whitespace0}
 use Rattle.lexing.specs.answers.{Answer, got, lost, Rest, lostReply, reply, Fail, Stop}
 use Rattle.lexing.specs.declared.answers.Lost.{Lost}
+use Rattle.lexing.proofs.Losses.{by-lost}
 use Rattle.lexing.proofs.Onward.{Onward, advances-onward, tag-advances}
 use Rattle.lexing.proofs.Locality.{Consumes, LocalInside, chain-ret}
 use Rattle.lexing.proofs.Slicing.{Took, took, walks, begin, go, on, lose, fall, done, rest-self, rest-from}
@@ -66,18 +67,33 @@ module _ {A : Type 0} (m₁ m₂ m₃ : Parser A) {b : ℕ} {u : List ℕ} where
   -- where two of three tries do, the answer of the third is that of all
   pub first-alone : fail b ≡ m₂ b u → fail b ≡ m₃ b u → Past b (m₁ b u) → (x : Answer A) → reply x b u ≡ m₁ b u → reply (triedAnswer b x) b u ≡ three-tries m₁ m₂ m₃ b b u
   first-alone h h' p (got a c) e = intercept-found b m₁ _ b u a c (drop (c - b) u) e
-  first-alone h h' p (lost (Fail q)) e = let i : b ≤ q = rw (← e) at p in let z : q ≡ max (max (max b q) b) b = omega (arith, i) in ap fail z ∙ none-found e h h' b
-  first-alone h h' p (lost (Stop n q)) e = stop-at b m₁ _ b u n q e
+  first-alone h h' p (lost l) e =
+      by-lost
+      (λ l. lostReply l ≡ m₁ b u → reply (triedAnswer b (lost l)) b u ≡ three-tries m₁ m₂ m₃ b b u)
+      (λ q e. let i : b ≤ q = rw (← e) at p in let z : q ≡ max (max (max b q) b) b = omega (arith, i) in ap fail z ∙ none-found e h h' b)
+      (λ n q e. stop-at b m₁ _ b u n q e)
+      l
+      e
 
   pub second-alone : fail b ≡ m₁ b u → fail b ≡ m₃ b u → Past b (m₂ b u) → (x : Answer A) → reply x b u ≡ m₂ b u → reply (triedAnswer b x) b u ≡ three-tries m₁ m₂ m₃ b b u
   second-alone h h' p (got a c) e = past-start m₁ _ h (intercept-found b m₂ _ b u a c (drop (c - b) u) e)
-  second-alone h h' p (lost (Fail q)) e = let i : b ≤ q = rw (← e) at p in let z : q ≡ max (max (max b b) q) b = omega (arith, i) in ap fail z ∙ none-found h e h' b
-  second-alone h h' p (lost (Stop n q)) e = past-start m₁ _ h (stop-at b m₂ _ b u n q e)
+  second-alone h h' p (lost l) e =
+      by-lost
+      (λ l. lostReply l ≡ m₂ b u → reply (triedAnswer b (lost l)) b u ≡ three-tries m₁ m₂ m₃ b b u)
+      (λ q e. let i : b ≤ q = rw (← e) at p in let z : q ≡ max (max (max b b) q) b = omega (arith, i) in ap fail z ∙ none-found h e h' b)
+      (λ n q e. past-start m₁ _ h (stop-at b m₂ _ b u n q e))
+      l
+      e
 
   pub third-alone : fail b ≡ m₁ b u → fail b ≡ m₂ b u → Past b (m₃ b u) → (x : Answer A) → reply x b u ≡ m₃ b u → reply (triedAnswer b x) b u ≡ three-tries m₁ m₂ m₃ b b u
   third-alone h h' p (got a c) e = past-start m₁ _ h (past-start m₂ _ h' (intercept-found b m₃ _ b u a c (drop (c - b) u) e))
-  third-alone h h' p (lost (Fail q)) e = let i : b ≤ q = rw (← e) at p in let z : q ≡ max (max (max b b) b) q = omega (arith, i) in ap fail z ∙ none-found h h' e b
-  third-alone h h' p (lost (Stop n q)) e = past-start m₁ _ h (past-start m₂ _ h' (stop-at b m₃ _ b u n q e))
+  third-alone h h' p (lost l) e =
+      by-lost
+      (λ l. lostReply l ≡ m₃ b u → reply (triedAnswer b (lost l)) b u ≡ three-tries m₁ m₂ m₃ b b u)
+      (λ q e. let i : b ≤ q = rw (← e) at p in let z : q ≡ max (max (max b b) b) q = omega (arith, i) in ap fail z ∙ none-found h h' e b)
+      (λ n q e. past-start m₁ _ h (past-start m₂ _ h' (stop-at b m₃ _ b u n q e)))
+      l
+      e
 
 -- What tries answer after a furthest place q, by what they answer after q': they find the same, and where they fail only these two places make a difference.
 abbrev pub Near : {A : Type 0} → (q q' : ℕ) → Reply (TriedOf A) → Reply (TriedOf A) → Type 0
@@ -218,17 +234,20 @@ module _ {A : Type 0} {f : ℕ → Parser (TriedOf A)} (t : (q : ℕ) → LocalI
     -- without it, a try that is lost
     run-lost : Nearer f → far ≤ c → fail c₁ ≡ tag 125 c₁ r → (l : Lost) → lostReply l ≡ f c₁ c₁ r → lostReply l ≡ deep-rest f b u
     unfolding deep-rest
-    run-lost n w o (Fail p) e =
+    run-lost n w o =
+        by-lost
+        (λ l. lostReply l ≡ f c₁ c₁ r → lostReply l ≡ deep-rest f b u)
+        (λ p e.
         let y : Near far c₁ (fail p) (f far c₁ r) = subst (λ (X : Reply (TriedOf A)). Near far c₁ X (f far c₁ r)) (sym e) (n far c₁ c₁ r) in
         let p' = y .0 in
         let h = y .1 .0 in
         let z : max c₁ (max p' far) ≡ p = omega (arith, w, s .up, h .0 .0, h .0 .1, h .1) in
         let k = unclosed o (max p' far) in
         let x = fall _ (ret _) (Fail (max c₁ (max p' far))) (rest-from b c u (i .from) (i .inside)) k in
-        rw (← z) (mapped-not (λ s. s .read) (deep-tail f) b u (Fail (max c₁ (max p' far))) (begin (deep-tail f) b u (go _ (run-took p' (y .1 .1)) x)))
-    run-lost n w o (Stop j p) e =
+        rw (← z) (mapped-not (λ s. s .read) (deep-tail f) b u (Fail (max c₁ (max p' far))) (begin (deep-tail f) b u (go _ (run-took p' (y .1 .1)) x))))
+        (λ j p e.
         let y : stop j p ≡ f far c₁ r = subst (λ (X : Reply (TriedOf A)). Near far c₁ X (f far c₁ r)) (sym e) (n far c₁ c₁ r) in
-        mapped-not (λ s. s .read) (deep-tail f) b u (Stop j p) (begin (deep-tail f) b u (lose (deep-run f) _ (Stop j p) (rest-self b u) (run-stops j p y)))
+        mapped-not (λ s. s .read) (deep-tail f) b u (Stop j p) (begin (deep-tail f) b u (lose (deep-run f) _ (Stop j p) (rest-self b u) (run-stops j p y))))
 
 -- a loop of tries that counts
 pub record Seeking {A : Type 0} (records : List A → List Record) (f : ℕ → Parser (TriedOf A)) (b : ℕ) (u : List ℕ) (c n : ℕ) : Type 0 where

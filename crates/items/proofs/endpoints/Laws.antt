@@ -12,7 +12,7 @@ use Rattle.lexing.specs.words.{Word, keyword}
 use Rattle.lexing.specs.integers.{signed, positive-integer, signed-integer}
 use Rattle.lexing.specs.blanks.{no-doc, whitespace0, whitespace1}
 use Rattle.lexing.specs.strings.{Span, span, default-escape, default-string}
-use Rattle.lexing.specs.answers.{Answer, got, reply, lostReply, Rest, lostOf, numberLost, numberReply, signedReply, spanTo, stringReply, NameIn, wordBetween, Fail, Stop}
+use Rattle.lexing.specs.answers.{Answer, got, reply, lostReply, Rest, lostOf, numberLost, numberReply, signedReply, spanTo, stringReply, NameIn, wordBetween, Fail, Stop, lostBy}
 use Rattle.lexing.specs.declared.answers.Lost.{Lost}
 use Rattle.lexing.specs.declared.answers.Step.{Step}
 use Rattle.lexing.specs.declared.answers.Step.the-variants.{Next, Not}
@@ -20,6 +20,7 @@ use Rattle.lexing.specs.declared.integers.Number.{Number}
 use Rattle.lexing.specs.declared.integers.Number.the-variants.{Value, NoNumber}
 use Rattle.lexing.specs.declared.integers.SignedNumber.{SignedNumber}
 use Rattle.lexing.specs.declared.integers.SignedNumber.the-variants.{Sized, NoSigned}
+use Rattle.lexing.proofs.Losses.{by-lost}
 use Rattle.lexing.proofs.Onward.{Onward}
 use Rattle.lexing.proofs.Locality.{chain-opt, chain-then}
 use Rattle.lexing.proofs.TokenLocality.{whitespace1-chain}
@@ -87,18 +88,21 @@ module _ (b : ℕ) (u : List ℕ) {a : Number} (h : numberReply a b u ≡ positi
     lost-integer : lostReply l' ≡ positive-integer b u
     lost-integer = integer-lost d e b u (positive-integer b u) h
 
-    pub number-stop : {n p : ℕ} → l' ≡ Stop n p → stop n p ≡ mapped positive-integer number b u
-    number-stop {n} {p} z = mapped-not number positive-integer b u (Stop n p) (subst (λ (x : Lost). lostReply x ≡ positive-integer b u) z lost-integer)
+    pub number-stop : lostReply l' ≡ mapped positive-integer number b u
+    number-stop = mapped-not number positive-integer b u l' lost-integer
 
-    pub number-not : {p : ℕ} → l' ≡ Fail p → fail b ≡ mapped positive-integer number b u
-    number-not {p} z =
-        let k : fail p ≡ positive-integer b u = subst (λ (x : Lost). lostReply x ≡ positive-integer b u) z lost-integer in
-        let y : p ≡ b = rw (← k) at (integer-place b u) in
+    pub number-not : l' .cause ≡ 0 → fail b ≡ mapped positive-integer number b u
+    number-not z =
+        let k : fail (l' .place) ≡ positive-integer b u = subst (λ (i : ℕ). lostBy i (l' .place) ≡ positive-integer b u) z lost-integer in
+        let y : l' .place ≡ b = rw (← k) at (integer-place b u) in
         mapped-not number positive-integer b u (Fail b) (rw y at k)
 
 signed-fails : (b : ℕ) (u : List ℕ) (l : Lost) → lostReply l ≡ signed-integer b u → fail b ≡ mapped signed-integer signed-number b u
-signed-fails b u (Fail p) k = let y : p ≡ b = rw (← k) at (signed-place b u) in mapped-not signed-number signed-integer b u (Fail b) (rw y at k)
-signed-fails b u (Stop n p) k = absurd (rw (← k) at (signed-place b u))
+signed-fails b u =
+    by-lost
+    (λ l. lostReply l ≡ signed-integer b u → fail b ≡ mapped signed-integer signed-number b u)
+    (λ p k. let y : p ≡ b = rw (← k) at (signed-place b u) in mapped-not signed-number signed-integer b u (Fail b) (rw y at k))
+    (λ n p k. absurd (rw (← k) at (signed-place b u)))
 
 module _ (b : ℕ) (u : List ℕ) {a : SignedNumber} (h : signedReply a b u ≡ signed-integer b u) where
   pub signed-try : {m : Bool} {v c : ℕ} → a ≡ Sized m v c → ok (signed-number (signed m v)) c (drop (c - b) u) ≡ mapped signed-integer signed-number b u
@@ -128,8 +132,7 @@ module _ (b : ℕ) (u : List ℕ) {a : Step} (h : stringReply a b u ≡ default-
     text-not = mapped-not text default-string b u l' lost-string
 
     string-past : (X : Reply Span) → StringPlace b X → (k : Lost) → lostReply k ≡ X → Past {A = DefaultOf} b (lostReply k)
-    string-past X p (Fail q) z = rw (← z) at p
-    string-past X p (Stop n q) z = tt
+    string-past X p = by-lost (λ k. lostReply k ≡ X → Past {A = DefaultOf} b (lostReply k)) (λ q z. rw (← z) at p) (λ n q z. tt)
 
     pub text-past : Past {A = DefaultOf} b (lostReply l')
     unfolding default-string
@@ -151,8 +154,13 @@ optional-to : (m : Parser DefaultOf) (a : DefaultRead) (b : ℕ) (u : List ℕ) 
 optional-to m (Read d c) b u h =
     let x = value-as some m b u (defaultOf d) c (drop (c - b) u) (h .reads) in
     record { reads = ap (λ (o : Option DefaultOf). ok o c (drop (c - b) u)) (sym (x .1 .0)) ∙ opt-ok m b u (x .0) c (drop (c - b) u) (x .1 .1); within = h .within }
-optional-to m (NoDefault (Fail p)) b u h = let z : b - b ≡ 0 = omega arith in record { reads = rw z (opt-fail m b u p (lost-as some m b u (Fail p) (h .reads))); within = tt }
-optional-to m (NoDefault (Stop n p)) b u h = record { reads = opt-stop m b u n p (lost-as some m b u (Stop n p) (h .reads)); within = tt }
+optional-to m (NoDefault l) b u h =
+    by-lost
+    (λ l. lostReply l ≡ m b u → OptionalTo m (optionalValue (NoDefault l) b) b u)
+    (λ p h. let z : b - b ≡ 0 = omega arith in record { reads = rw z (opt-fail m b u p h); within = tt })
+    (λ n p h. record { reads = opt-stop m b u n p h; within = tt })
+    l
+    (lost-as some m b u l (h .reads))
 
 pub optional-is : (m : Parser DefaultOf) (a : DefaultRead) (x : DefaultRead) (b : ℕ) (u : List ℕ) → x ≡ optionalValue a b → ValueTo m a b u → OptionalTo m x b u
 optional-is m a x b u e h = subst (λ (y : DefaultRead). OptionalTo m y b u) (sym e) (optional-to m a b u h)

@@ -10,6 +10,7 @@ use Rattle.lexing.specs.words.{tag}
 use Rattle.lexing.specs.blanks.{Doc, whitespace0}
 use Rattle.lexing.specs.answers.{Rest, lostReply, Fail, Stop}
 use Rattle.lexing.specs.declared.answers.Lost.{Lost}
+use Rattle.lexing.proofs.Losses.{by-lost}
 use Rattle.lexing.proofs.Onward.{Onward}
 use Rattle.lexing.proofs.Locality.{Consumes, LocalInside}
 use Rattle.lexing.proofs.Slicing.{Took, took, walks, begin, fall, rest-from, rebase}
@@ -202,8 +203,8 @@ module _ {A : Type 0} (m₁ m₂ m₃ : Parser A) {b : ℕ} {u : List ℕ} where
 
   -- a try that is lost in an accepted text has failed
   missed : (m : Parser A) (q : ℕ) (k : ℕ → Parser (TriedOf A)) {x : TriedOf A} {c : ℕ} {r : List ℕ} → ok x c r ≡ intercept q m k b u → (l : Lost) → lostReply l ≡ m b u → (p : ℕ) × (fail p ≡ m b u)
-  missed m q k h (Fail p) e = (p, e)
-  missed m q k h (Stop n p) e = absurd (lost-not h (Stop n p) (stop-at q m k b u n p e))
+  missed m q k h =
+      by-lost (λ l. lostReply l ≡ m b u → (p : ℕ) × (fail p ≡ m b u)) (λ p e. (p, e)) (λ n p e. absurd (lost-not h (Stop n p) (stop-at q m k b u n p e)))
 
   behind : (m : Parser A) (q : ℕ) (k : ℕ → Parser (TriedOf A)) {x : TriedOf A} {c : ℕ} {r : List ℕ} → ok x c r ≡ intercept q m k b u → {p : ℕ} → fail p ≡ m b u → ok x c r ≡ k (max q p) b u
   behind m q k h {p} e = h ∙ sym (next-at q m k b u p e refl)

@@ -11,6 +11,7 @@ use Rattle.lexing.specs.reply.{Reply, ok, fail, stop, Parser, ret, _>>=_, _>>_,
 use Rattle.lexing.specs.words.{any-keyword}
 use Rattle.lexing.specs.blanks.{Doc, no-doc, whitespace0, whitespace1}
 use Rattle.lexing.specs.word_sets.{same-bytes}
+use Rattle.lexing.proofs.Losses.{by-lost}
 use Rattle.lexing.proofs.Onward.{Ends, Onward}
 use Rattle.lexing.proofs.blanks.Laws.{gap-none, gap-some}
 use Rattle.lexing.proofs.FirstWord.{Frees, starts-free, blank-clear}
@@ -351,8 +352,11 @@ module _ {b : ℕ} {u : List ℕ} {t : Blank} (w : BlankTo t b u) {v : List ℕ}
       blank = blank-read b u (sym (gap-some b u t w n))
 
       go : (l : Lost) → lostReply l ≡ declaration d (t .next) rest → CountTo unhoisted-item item (countEnd l 0 (t .next)) b u
-      go (Fail p) z = count-is unhoisted-item item b u blank-item 0 (t .next) blank-words (omega arith) (sym (whole ∙ or-blank b u (sym z) blank))
-      go (Stop i p) z = count-not unhoisted-item item b u (Stop i p) (or-stop _ _ b u i p z ∙ sym whole)
+      go =
+          by-lost
+          (λ l. lostReply l ≡ declaration d (t .next) rest → CountTo unhoisted-item item (countEnd l 0 (t .next)) b u)
+          (λ p z. count-is unhoisted-item item b u blank-item 0 (t .next) blank-words (omega arith) (sym (whole ∙ or-blank b u (sym z) blank)))
+          (λ i p z. count-not unhoisted-item item b u (Stop i p) (or-stop _ _ b u i p z ∙ sym whole))
 
 -- The second pass over a declaration: that of its kind.
 pub nothing-found : (d : Doc) (m : ℕ) {k : DeclarationKind} → k ≡ NoDeclaration → (b : ℕ) (u : List ℕ) {at n : ℕ} → Room unhoisted-item (declaration-try k d m) b u at n → ⊥

@@ -17,6 +17,7 @@ use Rattle.lexing.specs.word_sets.{bit}
 use Rattle.lexing.specs.declared.answers.Lost.{Lost}
 use Rattle.lexing.specs.declared.answers.Step.{Step}
 use Rattle.lexing.specs.declared.answers.Step.the-variants.{Next, Not}
+use Rattle.lexing.proofs.Losses.{by-lost}
 use Rattle.lexing.proofs.FirstWord.{blank-clear}
 use Rattle.lexing.proofs.Onward.{Onward, advances-onward, parse-id-advances, tag-advances}
 use Rattle.lexing.proofs.Locality.{chain-then, chain-opt, chain-inside}
@@ -259,12 +260,18 @@ optional-word-at (Next e) b n u r c q h d =
     let k : ok (wordAt n r c) c (drop (c - n) r) ≡ parse-id n r = subst (λ (x : ℕ). ok (wordAt n r x) x (drop (x - n) r) ≡ parse-id n r) y h in
     let l : n < c = rw (← k) at (parse-id-advances .reads n r) .2 in
     rw (lt-ltb n c l, ← q .same) (opt-ok parse-id n r (wordAt n r c) c (drop (c - n) r) k)
-optional-word-at (Not (Fail p)) b n u r c q h d =
+optional-word-at (Not l) b n u r c q h d =
+    by-lost
+    (λ l. lostReply l ≡ parse-id n r → optionalStep (Not l) n ≡ Next c → ok (optionalBetween b u n c) c (drop (c - n) r) ≡ opt parse-id n r)
+    (λ p h d.
     let y : n ≡ c = cc in
     let z : ltb n n ≡ false = le-ltb n n (omega arith) in
     let t : n - n ≡ 0 = omega arith in
-    rw (← y, z, t) (opt-fail parse-id n r p h)
-optional-word-at (Not (Stop i p)) b n u r c q h d = let t : _≡_ {A = ℕ} 0 1 = cc in absurd (omega arith)
+    rw (← y, z, t) (opt-fail parse-id n r p h))
+    (λ i p h d. let t : _≡_ {A = ℕ} 0 1 = cc in absurd (omega arith))
+    l
+    h
+    d
 
 module _ (b : ℕ) (u : List ℕ) {a : Step} (h : wordReply a b u ≡ parse-id b u) where
   pub id-there : {c : ℕ} → a ≡ Next c → OptionalIdTo c b u
@@ -274,8 +281,11 @@ module _ (b : ℕ) (u : List ℕ) {a : Step} (h : wordReply a b u ≡ parse-id b
   id-absent {l} e = go l e
     where
       go : (l : Lost) → a ≡ Not l → OptionalIdTo b b u
-      go (Fail p) e = optional-word-at a b b u u b (rest-self b u) h (ap (λ (x : Step). optionalStep x b) e)
-      go (Stop n p) e = absurd (rw (← told-not (wordAt b u) a (Stop n p) b u (parse-id b u) e h) at (calm-id .runs b u))
+      go =
+          by-lost
+          (λ l. a ≡ Not l → OptionalIdTo b b u)
+          (λ p e. optional-word-at a b b u u b (rest-self b u) h (ap (λ (x : Step). optionalStep x b) e))
+          (λ n p e. absurd (rw (← told-not (wordAt b u) a (Stop n p) b u (parse-id b u) e h) at (calm-id .runs b u)))
 
 pub optional-id-took : {b n c : ℕ} {u r : List ℕ} → Rest b u n r → OptionalIdTo c n r → Took (opt parse-id) b u n (optionalBetween b u n c) c
 optional-id-took {b} {n} {c} {u} {r} q h =

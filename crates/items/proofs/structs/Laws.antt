@@ -18,6 +18,7 @@ use Rattle.lexing.specs.declared.answers.Lost.{Lost}
 use Rattle.lexing.specs.declared.answers.Step.the-variants.{Next}
 use Rattle.lexing.specs.declared.integers.Number.{Number}
 use Rattle.lexing.specs.declared.integers.Number.the-variants.{Value, NoNumber}
+use Rattle.lexing.proofs.Losses.{by-lost, at-stop}
 use Rattle.lexing.proofs.Tests.{false-if, and-right}
 use Rattle.lexing.proofs.Locality.{chain-opt, chain-many0}
 use Rattle.lexing.proofs.TokenLocality.{any-keyword-chain, whitespace0-chain}
@@ -35,7 +36,7 @@ use Rattle.items.specs.layout.{packed, width, from-top, offset, size, la
 use Rattle.items.specs.members.{or-else}
 use Rattle.items.specs.answers.{optionOf, Front, Room, Written, first-of, spanWord, docWord, docBit, frontOf}
 use Rattle.items.specs.answers.structs.{fieldAt, fieldLost, FieldBetween, FieldTo, structFieldAt, structFieldLost, StructFieldBetween, StructFieldTo, StructFrom, behind-shared, not-shared, typeOf, headAt, headLost, HeadBetween, StructHeadTo}
-use Rattle.items.specs.inner.structs.{lengthReply, lengthLost, optionalLength, MarkerTo, kindBy, typeBy, struct-words, StructWordTo, codeReply, field-parts, kindNumber, responseNumber, struct-first}
+use Rattle.items.specs.inner.structs.{lengthReply, lengthLost, optionalLength, lengthBy, MarkerTo, kindBy, typeBy, struct-words, StructWordTo, codeReply, field-parts, kindNumber, responseNumber, struct-first}
 use Rattle.items.specs.declared.writing.FrontParts.{FrontParts}
 use Rattle.items.specs.declared.structs.FieldParts.{FieldParts}
 use Rattle.items.specs.declared.structs.FieldRead.{FieldRead}
@@ -69,15 +70,15 @@ use Rattle.lexing.proofs.optional.Laws.{opt-ok, opt-fail, opt-stop}
 use Rattle.lexing.proofs.steps.Laws.{blank-at-took}
 
 -- the two ways of a length that is absent
-pub length-fail : (r : Number) (b : ℕ) (l k : Lost) (p : ℕ) → r ≡ NoNumber l → k ≡ numberLost r → k ≡ Fail p → Length false 0 b ≡ optionalLength r b
-length-fail r b l k p e f g =
-    let z : l ≡ Fail p = sym (f ∙ ap numberLost e) ∙ g in
-    sym (ap (λ (x : Number). optionalLength x b) (e ∙ ap NoNumber z))
+pub length-fail : (r : Number) (b : ℕ) (l k : Lost) → r ≡ NoNumber l → k ≡ numberLost r → k .cause ≡ 0 → Length false 0 b ≡ optionalLength r b
+length-fail r b l k e f g =
+    let z : k ≡ l = f ∙ ap numberLost e in
+    ap (λ (i : ℕ). lengthBy i (k .place) b) (sym g) ∙ sym (ap (λ (x : Number). optionalLength x b) (e ∙ ap NoNumber (sym z)))
 
-pub length-stop : (r : Number) (b : ℕ) (l k : Lost) (n p : ℕ) → r ≡ NoNumber l → k ≡ numberLost r → k ≡ Stop n p → NoLength (Stop n p) ≡ optionalLength r b
-length-stop r b l k n p e f g =
-    let z : l ≡ Stop n p = sym (f ∙ ap numberLost e) ∙ g in
-    sym (ap (λ (x : Number). optionalLength x b) (e ∙ ap NoNumber z))
+pub length-stop : (r : Number) (b : ℕ) (l k : Lost) → r ≡ NoNumber l → k ≡ numberLost r → (k .cause ≡ 0 → ⊥) → NoLength k ≡ optionalLength r b
+length-stop r b l k e f g =
+    let z : k ≡ l = f ∙ ap numberLost e in
+    at-stop (λ k. NoLength k ≡ optionalLength (NoNumber k) b) (λ n p. refl) k g ∙ sym (ap (λ (x : Number). optionalLength x b) (e ∙ ap NoNumber (sym z)))
 
 pub length-there : (r : Number) (b v c : ℕ) → r ≡ Value v c → Length true v c ≡ optionalLength r b
 length-there r b v c e = sym (ap (λ (x : Number). optionalLength x b) e)
@@ -85,8 +86,13 @@ length-there r b v c e = sym (ap (λ (x : Number). optionalLength x b) e)
 -- the answer of a length that may be absent
 optional-reads : (m : Parser ℕ) (a : Number) (b : ℕ) (u : List ℕ) → numberReply a b u ≡ m b u → lengthReply (optionalLength a b) b u ≡ opt m b u
 optional-reads m (Value v c) b u h = opt-ok m b u v c (drop (c - b) u) h
-optional-reads m (NoNumber (Fail p)) b u h = let z : b - b ≡ 0 = omega arith in rw z (opt-fail m b u p h)
-optional-reads m (NoNumber (Stop n p)) b u h = opt-stop m b u n p h
+optional-reads m (NoNumber l) b u h =
+    by-lost
+    (λ l. lostReply l ≡ m b u → lengthReply (optionalLength (NoNumber l) b) b u ≡ opt m b u)
+    (λ p h. let z : b - b ≡ 0 = omega arith in rw z (opt-fail m b u p h))
+    (λ n p h. opt-stop m b u n p h)
+    l
+    h
 
 module _ (n : ℕ) (r : List ℕ) (a : Number) {x : MaxLength} (h : numberReply a n r ≡ max-length n r) (d : x ≡ optionalLength a n) where
   length-reads : lengthReply x n r ≡ opt max-length n r

@@ -13,6 +13,7 @@ use Rattle.lexing.specs.declared.blanks.Blank.{Blank}
 use Rattle.lexing.specs.declared.answers.Lost.{Lost}
 use Rattle.lexing.specs.declared.blanks.DocSpan.{DocSpan}
 use Rattle.lexing.specs.declared.blanks.DocSpan.the-variants.{Absent, At}
+use Rattle.lexing.proofs.Losses.{by-lost}
 use Rattle.lexing.proofs.DocPlace.{DocIn, doc-in}
 use Rattle.lexing.proofs.Locality.{Consumes}
 use Rattle.lexing.proofs.Onward.{Onward}
@@ -105,8 +106,11 @@ put-before at to xs ys l₀ l l' z h e e' =
 
 -- what is lost hands out nothing
 pub no-room : {A : Type 0} {records : A → List Record} {m : Parser A} {b : ℕ} {u : List ℕ} {at n : ℕ} → Room records m b u at n → (l : Lost) → lostReply l ≡ m b u → ⊥
-no-room h (Fail p) e = let z = h .is ∙ sym e in let y : _≡_ {A = ℕ} 0 1 = cc in omega arith
-no-room h (Stop i p) e = let z = h .is ∙ sym e in let y : _≡_ {A = ℕ} 0 1 = cc in omega arith
+no-room {m = m} {b} {u} h =
+    by-lost
+    (λ l. lostReply l ≡ m b u → ⊥)
+    (λ p e. let z = h .is ∙ sym e in let y : _≡_ {A = ℕ} 0 1 = cc in omega arith)
+    (λ i p e. let z = h .is ∙ sym e in let y : _≡_ {A = ℕ} 0 1 = cc in omega arith)
 
 -- a declaration that was written, as a step of a sequence
 pub written-took : {A : Type 0} {records : A → List Record} {m : Parser A} (v : Onward m) {b n : ℕ} {u r : List ℕ} {at : ℕ} {w : Wrote} {old new : List ℕ} → Rest b u n r → (h : Written records m n r at w old new) → Took m b u n (h .value) (w .next)
@@ -197,8 +201,11 @@ module _ {A : Type 0} {f : List A → List Record} {one : A → List Record} (w 
       writing-more-seen k z new' e = refl
 
     ended : (x : Lost) → many0 m b u ≡ manyEnd x (i .seen) c (drop (c - b) u) → Written f (many0 m) b u at (record { next = c; to = to }) old new
-    ended (Fail p) e = record { value = i .seen; is = sym e; place = i .place; bytes = i .bytes }
-    ended (Stop n p) e = absurd (no-room room (Stop n p) (sym e))
+    ended =
+        by-lost
+        (λ x. many0 m b u ≡ manyEnd x (i .seen) c (drop (c - b) u) → Written f (many0 m) b u at (record { next = c; to = to }) old new)
+        (λ p e. record { value = i .seen; is = sym e; place = i .place; bytes = i .bytes })
+        (λ n p e. absurd (no-room room (Stop n p) (sym e)))
 
     pub writing-ends : (v : Consumes m) {r : List ℕ} (x : Lost) → Rest b u c r → lostReply x ≡ m c r → Written f (many0 m) b u at (record { next = c; to = to }) old new
     writing-ends v x q e = ended x (many0-ends v x (i .run) q e)

@@ -1,5 +1,5 @@
 -- What the answers of the readers of endpoints say, as replies of the definitions.
-use Prim.Native.Nat.{ℕ, _+_, _≤_, _<_}
+use Prim.Native.Nat.{ℕ, zero, suc, _+_, _≤_, _<_}
 use mathlib.Core.Path.{_≡_}
 use mathlib.Core.Bool.{true, false}
 use mathlib.Core.List.{List}
@@ -79,10 +79,13 @@ abbrev pub ValueTo : Parser DefaultOf → DefaultRead → ℕ → List ℕ → T
 ValueTo m r b u = ReadTo defaultAnswer DefaultReadIn (mapped m some) r b u
 
 -- the answer of a default that may be absent at b: where it fails nothing is read
+abbrev pub valueLost : ℕ → ℕ → ℕ → DefaultRead
+valueLost zero p b = Read Absent b
+valueLost (suc n) p b = NoDefault (Stop n p)
+
 abbrev pub optionalValue : DefaultRead → ℕ → DefaultRead
 optionalValue (Read d c) b = Read d c
-optionalValue (NoDefault (Fail p)) b = Read Absent b
-optionalValue (NoDefault (Stop n p)) b = NoDefault (Stop n p)
+optionalValue (NoDefault l) b = valueLost (l .cause) (l .place) b
 
 abbrev pub OptionalTo : Parser DefaultOf → DefaultRead → ℕ → List ℕ → Type 0
 OptionalTo m r b u = ReadTo defaultAnswer DefaultReadIn (opt m) r b u

@@ -1,5 +1,5 @@
 -- What the private functions of the readers of endpoints promise.
-use Prim.Native.Nat.{ℕ, _-_, max}
+use Prim.Native.Nat.{ℕ, zero, suc, _-_, max}
 use mathlib.Core.Path.{_≡_}
 use mathlib.Core.List.{List, [], _∷_}
 use Rattle.lexing.specs.bytes.{byte}
@@ -23,9 +23,12 @@ pub record NoNumberAt (b : ℕ) (u : List ℕ) : Type 0 where
   pub with-sign : fail b ≡ mapped signed-integer signed-number b u
 
 -- what is lost, its place no nearer than the furthest so far
+abbrev pub furtherBy : ℕ → ℕ → ℕ → Lost
+furtherBy zero p q = Fail (max p q)
+furtherBy (suc n) p q = Stop n p
+
 abbrev pub furtherLost : Lost → ℕ → Lost
-furtherLost (Fail p) q = Fail (max p q)
-furtherLost (Stop n p) q = Stop n p
+furtherLost l q = furtherBy (l .cause) (l .place) q
 
 -- the closing brace behind tries whose furthest place is q
 unfoldable pub deep-close : ℕ → Parser (Unit {0})

@@ -1,5 +1,5 @@
 -- What the private functions of the readers of fields and structs promise.
-use Prim.Native.Nat.{ℕ, _+_, _-_, _≤_}
+use Prim.Native.Nat.{ℕ, zero, suc, _+_, _-_, _≤_}
 use mathlib.Core.Path.{_≡_}
 use mathlib.Core.Bool.{Bool, true, false}
 use mathlib.Core.Option.{Option}
@@ -40,10 +40,13 @@ lengthLost (Length h v c) = Fail c
 lengthLost (NoLength l) = l
 
 -- of a number that may be absent at b
+abbrev pub lengthBy : ℕ → ℕ → ℕ → MaxLength
+lengthBy zero p b = Length false 0 b
+lengthBy (suc n) p b = NoLength (Stop n p)
+
 abbrev pub optionalLength : Number → ℕ → MaxLength
 optionalLength (Value v c) b = Length true v c
-optionalLength (NoNumber (Fail p)) b = Length false 0 b
-optionalLength (NoNumber (Stop n p)) b = NoLength (Stop n p)
+optionalLength (NoNumber l) b = lengthBy (l .cause) (l .place) b
 
 -- the marker of a list and where it ends
 pub record MarkerTo (r : Marker) (b : ℕ) (u : List ℕ) : Type 0 where

@@ -10,7 +10,7 @@ use Rattle.lexing.specs.answers.{Rest, lostReply, lostOf, Skips, optiona
 use Rattle.lexing.specs.declared.answers.Lost.{Lost}
 use Rattle.lexing.specs.declared.answers.Step.{Step}
 use Rattle.lexing.specs.declared.answers.Step.the-variants.{Next, Not}
-use Rattle.lexing.proofs.Losses.{by-lost}
+use Rattle.lexing.proofs.Losses.{by-lost, at-stop}
 use Rattle.lexing.proofs.Onward.{Onward}
 use Rattle.lexing.proofs.Slicing.{Took, took, told-next, step-lost}
 
@@ -19,7 +19,7 @@ pub optional-fail : (r : Step) (b : ℕ) (l : Lost) → r ≡ Not l → l .cause
 optional-fail r b l e f = ap (λ (k : ℕ). optionalLost k (l .place) b) (sym f) ∙ sym (ap (λ (x : Step). optionalStep x b) e)
 
 pub optional-stop : (r : Step) (b : ℕ) (l : Lost) → r ≡ Not l → (l .cause ≡ 0 → ⊥) → Not l ≡ optionalStep r b
-optional-stop r b l e f = by-lost (λ l. (l .cause ≡ 0 → ⊥) → Not l ≡ optionalStep (Not l) b) (λ p f. absurd (f refl)) (λ n p f. refl) l f ∙ sym (ap (λ (x : Step). optionalStep x b) e)
+optional-stop r b l e f = at-stop (λ l. Not l ≡ optionalStep (Not l) b) (λ n p. refl) l f ∙ sym (ap (λ (x : Step). optionalStep x b) e)
 
 pub opt-ok : {A : Type 0} (m : Parser A) (b : ℕ) (u : List ℕ) (a : A) (c : ℕ) (r : List ℕ) → ok a c r ≡ m b u → ok (some a) c r ≡ opt m b u
 unfolding opt

@@ -1,3 +1,4 @@
+use borrow.Author.Needs.{needs}
 use Rattle.items.proofs.attributes.attribute_access.Statement.{statement}
 use Rattle.items.proofs.attributes.attribute_access.Tie as tie
 use Rattle.items.specs.members.{access-list}
@@ -61,13 +62,16 @@ enum-known-grants c = c .match3 .keys1
 enum-known-grants-2 : tie.Need-enum-known-grants-2
 enum-known-grants-2 c = c .match3 .keys2
 
+stop-by-requires : tie.Need-stop-by-requires
+stop-by-requires c κs = search needs
+
 returns-4 : tie.Need-returns-4
 unfolding access-list
 returns-4 c = access-grants ((read-as (c .before .before .before .before .before .before .before .access-entries .ensures) refl entries-onward (c .before .before .before .before .before .before .before .before .rest-at .ensures) refl) .is) (c .before .grants .given .1) (c .before .before .before .before .before .before .before .access-entries .ensures .within) (begin access-list _ _ (four-on _ _ _ _ _ (skip-took opening-on (rest-self _ _) (c .before .before .before .before .before .before .before .before .before .before .before .opening .given .1) (c .before .before .before .before .before .before .before .before .before .before .before .before .before .access-opening .ensures)) (on _ (blank-at-took (c .before .before .before .before .before .before .before .before .before .blank-at .ensures)) (go _ ((read-as (c .before .before .before .before .before .before .before .access-entries .ensures) refl entries-onward (c .before .before .before .before .before .before .before .before .rest-at .ensures) refl) .step) (pair-on _ _ _ (tag-behind-took 41 (c .before .before .before .before .closing .given .1) (c .before .before .before .before .before .before .tag-behind .ensures)) (done _ _ _ _))))))
 
 returns-5 : tie.Need-returns-5
 unfolding access-list
-returns-5 c = access-refused ((read-as (c .before .before .before .before .before .before .before .access-entries .ensures) refl entries-onward (c .before .before .before .before .before .before .before .before .rest-at .ensures) refl) .is) (c .before .grants2 .given .1) (begin access-list _ _ (four-on _ _ _ _ _ (skip-took opening-on (rest-self _ _) (c .before .before .before .before .before .before .before .before .before .before .before .opening .given .1) (c .before .before .before .before .before .before .before .before .before .before .before .before .before .access-opening .ensures)) (on _ (blank-at-took (c .before .before .before .before .before .before .before .before .before .blank-at .ensures)) (go _ ((read-as (c .before .before .before .before .before .before .before .access-entries .ensures) refl entries-onward (c .before .before .before .before .before .before .before .before .rest-at .ensures) refl) .step) (pair-on _ _ _ (tag-behind-took 41 (c .before .before .before .before .closing .given .1) (c .before .before .before .before .before .before .tag-behind .ensures)) (done _ _ _ _))))))
+returns-5 c = rw (c .stop-by .ensures) (access-refused ((read-as (c .before .before .before .before .before .before .before .before .access-entries .ensures) refl entries-onward (c .before .before .before .before .before .before .before .before .before .rest-at .ensures) refl) .is) (c .before .before .grants2 .given .1) (begin access-list _ _ (four-on _ _ _ _ _ (skip-took opening-on (rest-self _ _) (c .before .before .before .before .before .before .before .before .before .before .before .before .opening .given .1) (c .before .before .before .before .before .before .before .before .before .before .before .before .before .before .access-opening .ensures)) (on _ (blank-at-took (c .before .before .before .before .before .before .before .before .before .before .blank-at .ensures)) (go _ ((read-as (c .before .before .before .before .before .before .before .before .access-entries .ensures) refl entries-onward (c .before .before .before .before .before .before .before .before .before .rest-at .ensures) refl) .step) (pair-on _ _ _ (tag-behind-took 41 (c .before .before .before .before .before .closing .given .1) (c .before .before .before .before .before .before .before .tag-behind .ensures)) (done _ _ _ _)))))))
 
 pub attribute-access-spec : {M : Type 1} → statement M
 attribute-access-spec =
@@ -89,5 +93,6 @@ attribute-access-spec =
     returns-3
     enum-known-grants
     enum-known-grants-2
+    stop-by-requires
     returns-4
     returns-5)

@@ -14,27 +14,12 @@ enum-told c = c .match .keys2
 number-lost-requires : tie.Need-number-lost-requires
 number-lost-requires c κs = tt
 
-enum-told-2 : tie.Need-enum-told-2
-enum-told-2 c = c .match2 .keys1
-
-enum-known-l : tie.Need-enum-known-l
-enum-known-l c = c .match2 .keys2
-
 returns-2 : tie.Need-returns-2
-returns-2 c = length-fail _ _ _ _ _ (c .before .before .before .enum-told .given .1) (c .before .before .number-lost .ensures) (c .enum-told2 .given .1)
+returns-2 c = length-fail _ _ _ _ (c .before .before .before .enum-told .given .1) (c .before .before .number-lost .ensures) (c .if1 .taken)
 
 returns-3 : tie.Need-returns-3
-returns-3 c = length-stop _ _ _ _ _ _ (c .before .before .before .before .enum-told .given .1) (c .before .before .before .number-lost .ensures) (c .before .l .given .1)
+returns-3 c = length-stop _ _ _ _ (c .before .before .before .enum-told .given .1) (c .before .before .number-lost .ensures) (c .if1 .left)
 
 pub optional-length-spec : {M : Type 1} → statement M
 optional-length-spec =
-    tie.close
-    (tie.spec
-    enum-known-r
-    returns
-    enum-told
-    number-lost-requires
-    enum-told-2
-    enum-known-l
-    returns-2
-    returns-3)
+    tie.close (tie.spec enum-known-r returns enum-told number-lost-requires returns-2 returns-3)
