@@ -10,6 +10,7 @@ use Rattle.lexing.specs.blanks.{Doc, no-doc, line-comment, block-comment, multi
 use Rattle.lexing.specs.answers.{lostReply, Rest, BlankTo, Fail, Stop}
 use Rattle.lexing.specs.declared.blanks.DocSpan.the-variants.{Absent}
 use Rattle.lexing.specs.declared.answers.Lost.{Lost}
+use Rattle.lexing.proofs.Losses.{by-lost}
 use Rattle.lexing.proofs.Slicing.{rest-self, begin, lose}
 use Rattle.lexing.proofs.blanks.Laws.{gap-none}
 use Rattle.lexing.proofs.FirstWord.{Frees}
@@ -175,8 +176,7 @@ finished-end l c r e = rw e refl
 finished-lost : (l : List Item) (c : ℕ) (r : List ℕ) → 0 < length r → (x : Lost) → lostReply x ≡ item c r → lostReply x ≡ finished (manyEnd x l c r)
 unfolding finished unread
 finished-lost l c [] h x e = absurd (omega arith)
-finished-lost l c (y ∷ v) h (Fail p) e = ap unread e
-finished-lost l c (y ∷ v) h (Stop n p) e = refl
+finished-lost l c (y ∷ v) h x e = by-lost (λ x. lostReply x ≡ item c (y ∷ v) → lostReply x ≡ finished (manyEnd x l c (y ∷ v))) (λ p e. ap unread e) (λ n p e. refl) x e
 
 module _ {b c : ℕ} {u r : List ℕ} {l : List Item} (i : ManyAt item b u c l) (q : Rest b u c r) where
   pub all-ended : r ≡ [] → ok l c (drop (c - b) u) ≡ all-items b u

@@ -53,7 +53,10 @@ pub fn count_items(part: &[u8], base: usize) -> Count
 fn refused_by(l: Lost) -> Verdict
     ensures { λ r. ⌜ r ≡ refusedBy l ⌝ }
 {
-    Verdict::Refused(l.number, l.place)
+    if l.cause == 0 {
+        return Verdict::Refused(3, l.place);
+    }
+    Verdict::Refused(l.cause - 1, l.place)
 }
 
 // UTF-8, then the first pass.

@@ -22,13 +22,12 @@ fn print_number(label: &[u8], n: usize) {
 }
 
 fn print_lost(l: Lost) {
-    match l {
-        Lost::Fail(p) => print_number(b" fail ", p),
-        Lost::Stop(n, p) => {
-            print_number(b" stop ", n);
-            print_number(b" at ", p);
-        }
+    if l.cause == 0 {
+        print_number(b" fail ", l.place);
+        return;
     }
+    print_number(b" stop ", l.cause - 1);
+    print_number(b" at ", l.place);
 }
 
 fn print_step(r: Step) {

@@ -12,6 +12,7 @@ use Rattle.lexing.specs.utf8.{utf8-error, errorOf}
 use Rattle.lexing.specs.declared.answers.Lost.{Lost}
 use Rattle.lexing.specs.declared.utf8.Utf8.{Utf8}
 use Rattle.lexing.specs.declared.utf8.Utf8.the-variants.{WellFormed, IllFormed}
+use Rattle.lexing.proofs.Losses.{by-lost}
 use Rattle.lexing.proofs.Runs.{same}
 use Rattle.lexing.proofs.Onward.{Ends, Onward}
 use Rattle.lexing.proofs.Slicing.{rest-self, took}
@@ -77,10 +78,15 @@ module _ (b : ℕ) (u : List ℕ) where
 
     lost-fits : (l : Lost) → lostReply l ≡ all-items b u → VerdictAtTo (refusedBy l) b u
     unfolding by-reply
-    lost-fits (Fail p) z = let k = rw (← z) at (all-refused b u) in record { is = read-is ∙ ap by-reply (sym z); number-from = omega arith; number = omega arith; from = k .after; inside = k .before }
-    lost-fits (Stop n p) z =
+    lost-fits =
+        by-lost
+        (λ l. lostReply l ≡ all-items b u → VerdictAtTo (refusedBy l) b u)
+        (λ p z.
         let k = rw (← z) at (all-refused b u) in
-        record { is = read-is ∙ ap by-reply (sym z); number-from = omega (arith, k .1); number = omega (arith, k .2); from = k .0 .after; inside = k .0 .before }
+        record { is = read-is ∙ ap by-reply (sym z); number-from = omega arith; number = omega arith; from = k .after; inside = k .before })
+        (λ n p z.
+        let k = rw (← z) at (all-refused b u) in
+        record { is = read-is ∙ ap by-reply (sym z); number-from = omega (arith, k .1); number = omega (arith, k .2); from = k .0 .after; inside = k .0 .before })
 
     pub verdict-lost : (r : Count) (l l' : Lost) → CountTo (each unhoisted-item) all-items r b u → r ≡ NoCount l → l' ≡ countLost r → (v : Verdict) → v ≡ refusedBy l' → VerdictAtTo v b u
     verdict-lost r l l' c x y v w = subst (λ (o : Verdict). VerdictAtTo o b u) (sym w) (lost-fits l' (count-none y x b u c))

@@ -12,6 +12,7 @@ use Rattle.lexing.specs.answers.{lostReply, Rest, docOf, BlankTo, Fail, Stop}
 use Rattle.lexing.specs.declared.answers.Lost.{Lost}
 use Rattle.lexing.specs.declared.blanks.Blank.{Blank}
 use Rattle.lexing.specs.declared.blanks.DocSpan.the-variants.{Absent}
+use Rattle.lexing.proofs.Losses.{by-lost}
 use Rattle.lexing.proofs.blanks.Laws.{gap-none, gap-some}
 use Rattle.lexing.proofs.Repetition.{ManyAt, many0-step}
 use Rattle.lexing.proofs.Slicing.{Took, rest-self, rest-from, rebase, blank-took, or-here, took}
@@ -104,13 +105,16 @@ module _ {b c n : ℕ} {u r : List ℕ} (i : CountingItems b u c n) (q : Rest b 
           clear : BlankTo (record { next = t .next; doc = Absent }) (t .next) v
           clear = clear-blank (rest-clear (blank-took q w) q')
 
+          stopped : (k p : ℕ) → DeclarationCountTo (NoCount (Stop k p)) (t .next) v → Dec (t .next ≡ c) → CountTo unhoisted-item item (NoCount (Stop k p)) c r
+          stopped k p g (yes y) = item-lost w within g y refl
+          stopped k p g (no y) = item-blank w within g y refl refl
+
           go : (l : Lost) → DeclarationCountTo (NoCount l) (t .next) v → lostReply l ≡ all-items b u
-          go (Fail p) g = all-lost (passed g .run) q' (bytes-left q' e) (Fail p) (count-lost (Fail p) refl (t .next) v (item-lost clear (rest-self (t .next) v) g refl refl))
-          go (Stop k p) g = all-lost (i .run) q (omega (arith, bytes-left q' e, q .size, q' .size, w .up)) (Stop k p) (count-lost (Stop k p) refl c r (stopped (ℕ-discrete (t .next) c)))
-            where
-              stopped : Dec (t .next ≡ c) → CountTo unhoisted-item item (NoCount (Stop k p)) c r
-              stopped (yes y) = item-lost w within g y refl
-              stopped (no y) = item-blank w within g y refl refl
+          go =
+              by-lost
+              (λ l. DeclarationCountTo (NoCount l) (t .next) v → lostReply l ≡ all-items b u)
+              (λ p g. all-lost (passed g .run) q' (bytes-left q' e) (Fail p) (count-lost (Fail p) refl (t .next) v (item-lost clear (rest-self (t .next) v) g refl refl)))
+              (λ k p g. all-lost (i .run) q (omega (arith, bytes-left q' e, q .size, q' .size, w .up)) (Stop k p) (count-lost (Stop k p) refl c r (stopped k p g (ℕ-discrete (t .next) c))))
 
   pub items-ended : {t : Blank} → BlankTo t c r → t .next ≡ b + length u → CountTo (each unhoisted-item) all-items (Words n (t .next)) b u
   items-ended {t} w e =
