@@ -87,6 +87,7 @@ fn operation_by(part: &[u8], base: usize, key: &[u8], operation: Operation) -> O
     requires { ⌜ operation-of (now key) ≡ operation ⌝ }
     ensures { λ r. ⌜ OperationTo (keyword (now (key .entry))) r base (now (part .entry)) ⌝ }
 {
+    let part = &part[..];
     let word = keyword(part, base, key);
     let Step::Next(c) = word else {
         return OperationRead::NoOperation;
@@ -212,6 +213,7 @@ fn attribute_head(part: &[u8], base: usize) -> AttributeHeadRead
     requires { ⌜ base + length (now part) ≤ text-limit ⌝ }
     ensures { λ r. ⌜ AttributeHeadTo r base (now (part .entry)) ⌝ }
 {
+    let part = &part[..];
     let q = keywords_set(part, base, 4);
     let c1 = blank_at(part, base, q.next);
     let attribute = keyword(rest_at(part, base, c1), c1, b"attribute");

@@ -51,6 +51,7 @@ pub fn choice_head(part: &[u8], base: usize, from: usize, key: &[u8]) -> ChoiceH
     requires { ⌜ ChoiceFrom from base (now part) ⌝ }
     ensures { λ r. ⌜ ChoiceHeadTo (now (key .entry)) r base (now (part .entry)) ⌝ }
 {
+    let part = &part[..];
     let named = keyword_name(rest_at(part, base, from), from, key);
     let Named::Name(name, end, c1) = named else {
         return ChoiceHeadRead::NoChoiceHead(named_lost(named));

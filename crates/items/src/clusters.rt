@@ -213,6 +213,7 @@ pub fn member_kind(part: &[u8], base: usize) -> Candidate
     requires { ⌜ whitespace0 base (now part) ≡ ok no-doc base (now part) ⌝ }
     ensures { λ r. ⌜ KindTo r base (now (part .entry)) ⌝ }
 {
+    let part = &part[..];
     let word = keyword(part, base, b"shared");
     let Step::Next(c1) = word else {
         let kind = word_kind(part, base);
@@ -229,6 +230,7 @@ pub fn parse_revision(part: &[u8], base: usize) -> Number
     requires { ⌜ base + length (now part) ≤ text-limit ⌝ }
     ensures { λ r. ⌜ RevisionTo r base (now (part .entry)) ⌝ }
 {
+    let part = &part[..];
     let number = keyword_number(part, base, b"revision");
     let Number::Value(n, c1) = number else {
         return Number::NoNumber(number_lost(number));
@@ -365,6 +367,7 @@ pub fn cluster_head(part: &[u8], base: usize) -> ClusterHeadRead
     requires { ⌜ base + length (now part) ≤ text-limit ⌝ }
     ensures { λ r. ⌜ ClusterHeadTo r base (now (part .entry)) ⌝ }
 {
+    let part = &part[..];
     let o = optional(side(part, base), base);
     let Step::Next(c1) = o else {
         return ClusterHeadRead::NoClusterHead(step_lost(o));

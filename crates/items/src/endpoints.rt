@@ -133,6 +133,7 @@ pub fn device_type(part: &[u8], base: usize) -> DeviceTypeRead
     requires { ⌜ base + length (now part) ≤ text-limit ⌝ }
     ensures { λ r. ⌜ DeviceTypeTo r base (now (part .entry)) ⌝ }
 {
+    let part = &part[..];
     let named = name_behind(part, base, b"device", b"type");
     let Named::Name(name, end, c1) = named else {
         return DeviceTypeRead::NoDeviceType(named_lost(named));
@@ -327,6 +328,7 @@ fn instance(part: &[u8], base: usize) -> InstanceRead
     requires { ⌜ base + length (now part) ≤ text-limit ⌝ }
     ensures { λ r. ⌜ InstanceTo r base (now (part .entry)) ⌝ }
 {
+    let part = &part[..];
     let attribute = attribute_instantiation(part, base);
     if let InstanceRead::AttributeInstance(_, _) = attribute {
         return attribute;
@@ -415,6 +417,7 @@ pub fn instantiation_head(part: &[u8], base: usize) -> Named
     requires { ⌜ base + length (now part) ≤ text-limit ⌝ }
     ensures { λ r. ⌜ NamedTo instantiation-head r base (now (part .entry)) ⌝ }
 {
+    let part = &part[..];
     let c1 = blank_at(part, base, base);
     let named = name_behind(rest_at(part, base, c1), c1, b"server", b"cluster");
     let Named::Name(name, end, c2) = named else {

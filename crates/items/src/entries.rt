@@ -134,6 +134,7 @@ pub fn constant_entry(part: &[u8], base: usize) -> EntryRead
     requires { ⌜ base + length (now part) ≤ text-limit ⌝ }
     ensures { λ r. ⌜ EntryTo constant-entry r base (now (part .entry)) ⌝ }
 {
+    let part = &part[..];
     let m = maturity_between(part, base);
     let start = m.next;
     let name = id_at(part, base, start);

@@ -88,6 +88,7 @@ fn declaration_start(part: &[u8], base: usize) -> DeclarationStart
     requires { ⌜ whitespace0 base (now part) ≡ ok no-doc base (now part) ⌝ }
     ensures { λ r. ⌜ StartTo r base (now (part .entry)) ⌝ }
 {
+    let part = &part[..];
     if starts(part, base, b"endpoint") {
         return DeclarationStart {
             kind: DeclarationKind::Endpoint,

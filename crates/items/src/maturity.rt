@@ -71,6 +71,7 @@ pub fn maturity_blank(part: &[u8], base: usize) -> Maturity
     requires { ⌜ base + length (now part) ≤ u64-max ⌝ }
     ensures { λ r. ⌜ MaturityTo maturity-blank r base (now (part .entry)) ⌝ }
 {
+    let part = &part[..];
     let m = api_maturity(part, base);
     let next = blank_at(part, base, m.next);
     Maturity {

@@ -189,6 +189,7 @@ pub fn access_opening(part: &[u8], base: usize) -> Step
     requires { ⌜ base + length (now part) ≤ text-limit ⌝ }
     ensures { λ r. ⌜ Skips access-opening r base (now (part .entry)) ⌝ }
 {
+    let part = &part[..];
     let access = keyword_behind(part, base, base, b"access");
     let Step::Next(c) = access else {
         return access;
@@ -201,6 +202,7 @@ pub fn colon_privilege(part: &[u8], base: usize, c: usize) -> Level
     requires { ⌜ ((base ≤ c) × (c ≤ base + length (now part))) × (base + length (now part) ≤ text-limit) ⌝ }
     ensures { λ r. ⌜ LevelAt colon-privilege r base (now (part .entry)) c ⌝ }
 {
+    let part = &part[..];
     let colon = tag(rest_at(part, base, c), c, b':');
     let Step::Next(c1) = colon else {
         return Level::NoLevel(step_lost(colon));
@@ -215,6 +217,7 @@ pub fn access_to(part: &[u8], base: usize, key: &[u8], otherwise: u8) -> Privile
     requires { ⌜ otherwise < 4 ⌝ }
     ensures { λ r. ⌜ PrivilegeTo (now (key .entry)) otherwise r base (now (part .entry)) ⌝ }
 {
+    let part = &part[..];
     let absent = Privilege {
         level: otherwise,
         next: base,
@@ -293,6 +296,7 @@ pub fn event_head(part: &[u8], base: usize) -> EventHeadRead
     requires { ⌜ base + length (now part) ≤ text-limit ⌝ }
     ensures { λ r. ⌜ EventHeadTo r base (now (part .entry)) ⌝ }
 {
+    let part = &part[..];
     let qualities = event_qualities(part, base);
     let EventQualitiesRead::EventQualities(q, c1) = qualities else {
         return EventHeadRead::NoEventHead(event_qualities_lost(qualities));
@@ -435,6 +439,7 @@ pub fn parse_command_after_doc_maturity(part: &[u8], base: usize) -> CommandRead
     requires { ⌜ base + length (now part) ≤ text-limit ⌝ }
     ensures { λ r. ⌜ CommandTo r base (now (part .entry)) ⌝ }
 {
+    let part = &part[..];
     let r1 = command_head(part, base);
     let CommandHeadRead::CommandHead(head, c1) = r1 else {
         return CommandRead::NoCommand(command_head_lost(r1));

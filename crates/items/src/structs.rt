@@ -270,6 +270,7 @@ pub fn closed_field(part: &[u8], base: usize) -> StructFieldRead
     requires { ⌜ base + length (now part) ≤ text-limit ⌝ }
     ensures { λ r. ⌜ StructFieldTo closed-field r base (now (part .entry)) ⌝ }
 {
+    let part = &part[..];
     let r = parse_struct_field(part, base);
     let StructFieldRead::StructField(field, c1) = r else {
         return StructFieldRead::NoStructField(struct_field_lost(r));
@@ -303,6 +304,7 @@ pub fn struct_fields(part: &[u8], base: usize) -> Count
     requires { ⌜ base + length (now part) ≤ text-limit ⌝ }
     ensures { λ r. ⌜ CountTo (map field-record) struct-fields r base (now (part .entry)) ⌝ }
 {
+    let part = &part[..];
     let brace = tag(part, base, b'{');
     let Step::Next(c) = brace else {
         return Count::NoCount(step_lost(brace));
@@ -328,6 +330,7 @@ fn struct_word_by(part: &[u8], base: usize, key: &[u8], kind: StructKind) -> Str
     requires { ⌜ struct-kind (now key) ≡ typeBy kind ⌝ }
     ensures { λ r. ⌜ StructWordTo (keyword (now (key .entry))) r base (now (part .entry)) ⌝ }
 {
+    let part = &part[..];
     let word = keyword(part, base, key);
     let Step::Next(c) = word else {
         return StructWord {
@@ -388,6 +391,7 @@ pub fn struct_head(part: &[u8], base: usize, from: usize) -> StructHeadRead
     requires { ⌜ StructFrom from base (now part) ⌝ }
     ensures { λ r. ⌜ StructHeadTo r base (now (part .entry)) ⌝ }
 {
+    let part = &part[..];
     let word = struct_word(part, base, from);
     let kind = word.kind;
     let start = word.next;

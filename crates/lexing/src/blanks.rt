@@ -257,10 +257,12 @@ fn more_blanks(part: &[u8], base: usize, from: usize) -> Run
 
 // Any number of blanks, without a test for the common cases first. It is called at several places, so that it stays a function of its own and what is left
 // of its callers, `whitespace0` and the steps behind blanks, is short. It answers in plain numbers, since an enum that a call has just written is slow to copy.
+// The part is taken anew, so that the compiler hands it over in registers (docs/DECISIONS.md, 39).
 pub fn blank_run(part: &[u8], base: usize) -> Run
     requires { ⌜ base + length (now part) ≤ u64-max ⌝ }
     ensures { λ r. ⌜ RunTo r base (now (part .entry)) ⌝ }
 {
+    let part = &part[..];
     let n = white_length(part);
     let next = base + n;
     if peek(part, n) == b'/' {

@@ -5,13 +5,16 @@ ghost use lib.ListN.{length};
 ghost use mathlib.Core.List.{[], _∷_};
 ghost use Rattle.lexing.specs.buffers.{put, big-endian, words-bytes};
 
-// Words one behind the other.
+// Words one behind the other. The compiler joins the eight stores of a word into one only where no other store stands before them in the same
+// block. So a test stands between two words: it always holds, by `requires`.
 pub fn put_two(out: &mut [u8], at: usize, a: u64, b: u64)
     requires { ⌜ at + 16 ≤ length (now out) ⌝ }
     ensures { λ _. ⌜ now (out .exit) ≡ put at (words-bytes (a ∷ b ∷ [])) (now (out .entry)) ⌝ }
 {
     put_word(out, at, a);
-    put_word(out, at + 8, b);
+    if at + 16 <= out.len() {
+        put_word(out, at + 8, b);
+    }
 }
 
 pub fn put_three(out: &mut [u8], at: usize, a: u64, b: u64, c: u64)
@@ -19,7 +22,9 @@ pub fn put_three(out: &mut [u8], at: usize, a: u64, b: u64, c: u64)
     ensures { λ _. ⌜ now (out .exit) ≡ put at (words-bytes (a ∷ b ∷ c ∷ [])) (now (out .entry)) ⌝ }
 {
     put_two(out, at, a, b);
-    put_word(out, at + 16, c);
+    if at + 24 <= out.len() {
+        put_word(out, at + 16, c);
+    }
 }
 
 pub fn put_four(out: &mut [u8], at: usize, a: u64, b: u64, c: u64, d: u64)
@@ -27,7 +32,9 @@ pub fn put_four(out: &mut [u8], at: usize, a: u64, b: u64, c: u64, d: u64)
     ensures { λ _. ⌜ now (out .exit) ≡ put at (words-bytes (a ∷ b ∷ c ∷ d ∷ [])) (now (out .entry)) ⌝ }
 {
     put_two(out, at, a, b);
-    put_two(out, at + 16, c, d);
+    if at + 32 <= out.len() {
+        put_two(out, at + 16, c, d);
+    }
 }
 
 // A word as eight bytes, the most significant first.

@@ -163,6 +163,7 @@ fn any_integer(part: &[u8], base: usize) -> Number
     requires { ⌜ base + length (now part) ≤ u64-max ⌝ }
     ensures { λ r. ⌜ numberReply r base (now (part .entry)) ≡ positive-integer base (now (part .entry)) ⌝ }
 {
+    let part = &part[..];
     if is_hex_ahead(part) {
         return hex_integer(part, base);
     }

@@ -40,6 +40,7 @@ pub fn word_behind(part: &[u8], base: usize, c: usize) -> Named
     requires { ⌜ ((base ≤ c) × (c ≤ base + length (now part))) × (base + length (now part) ≤ u64-max) ⌝ }
     ensures { λ r. ⌜ NamedAt blank-word r base (now (part .entry)) c ⌝ }
 {
+    let part = &part[..];
     let c1 = blank_at(part, base, c);
     let name = id_at(part, base, c1);
     let Step::Next(c2) = name else {
@@ -69,6 +70,7 @@ pub fn keyword_name(part: &[u8], base: usize, key: &[u8]) -> Named
     requires { ⌜ base + length (now part) ≤ u64-max ⌝ }
     ensures { λ r. ⌜ NamedTo (keyword-name (now (key .entry))) r base (now (part .entry)) ⌝ }
 {
+    let part = &part[..];
     let word = keyword(part, base, key);
     let Step::Next(c1) = word else {
         return Named::NoName(step_lost(word));
@@ -89,6 +91,7 @@ pub fn name_behind(part: &[u8], base: usize, first: &[u8], second: &[u8]) -> Nam
     requires { ⌜ base + length (now part) ≤ u64-max ⌝ }
     ensures { λ r. ⌜ NamedTo (name-behind (now (first .entry)) (now (second .entry))) r base (now (part .entry)) ⌝ }
 {
+    let part = &part[..];
     let one = keyword(part, base, first);
     let Step::Next(c1) = one else {
         return Named::NoName(step_lost(one));
@@ -109,6 +112,7 @@ pub fn named_after(part: &[u8], base: usize, first: &[u8], second: &[u8]) -> Nam
     requires { ⌜ base + length (now part) ≤ u64-max ⌝ }
     ensures { λ r. ⌜ NamedTo (named-after (now (first .entry)) (now (second .entry))) r base (now (part .entry)) ⌝ }
 {
+    let part = &part[..];
     let named = name_behind(part, base, first, second);
     let Named::Name(name, end, c1) = named else {
         return Named::NoName(named_lost(named));
@@ -125,6 +129,7 @@ pub fn keyword_number(part: &[u8], base: usize, key: &[u8]) -> Number
     requires { ⌜ base + length (now part) ≤ u64-max ⌝ }
     ensures { λ r. ⌜ numberReply r base (now (part .entry)) ≡ keyword-number (now (key .entry)) base (now (part .entry)) ⌝ }
 {
+    let part = &part[..];
     let word = keyword(part, base, key);
     let Step::Next(c1) = word else {
         return Number::NoNumber(step_lost(word));
@@ -145,6 +150,7 @@ pub fn type_behind(part: &[u8], base: usize) -> Named
     requires { ⌜ base + length (now part) ≤ u64-max ⌝ }
     ensures { λ r. ⌜ NamedTo type-behind r base (now (part .entry)) ⌝ }
 {
+    let part = &part[..];
     let colon = tag_behind(part, base, base, b':');
     let Step::Next(c1) = colon else {
         return Named::NoName(step_lost(colon));
@@ -178,6 +184,7 @@ pub fn code_behind(part: &[u8], base: usize, c: usize) -> Number
     requires { ⌜ ((base ≤ c) × (c ≤ base + length (now part))) × (base + length (now part) ≤ u64-max) ⌝ }
     ensures { λ r. ⌜ NumberAt (behind-blanks equals-code) r base (now (part .entry)) c ⌝ }
 {
+    let part = &part[..];
     let n = blank_at(part, base, c);
     code_at(part, base, n)
 }

@@ -70,6 +70,7 @@ pub fn keyword_behind(part: &[u8], base: usize, c: usize, key: &[u8]) -> Step
     requires { ⌜ ((base ≤ c) × (c ≤ base + length (now part))) × (base + length (now part) ≤ u64-max) ⌝ }
     ensures { λ r. ⌜ SkipsAt (behind-blanks (keyword (now (key .entry)))) r base (now (part .entry)) c ⌝ }
 {
+    let part = &part[..];
     let n = blank_at(part, base, c);
     let word = keyword(rest_at(part, base, n), n, key);
     let Step::Next(end) = word else {
@@ -83,6 +84,7 @@ pub fn integer_behind(part: &[u8], base: usize, c: usize) -> Number
     requires { ⌜ ((base ≤ c) × (c ≤ base + length (now part))) × (base + length (now part) ≤ u64-max) ⌝ }
     ensures { λ r. ⌜ NumberAt (behind-blanks positive-integer) r base (now (part .entry)) c ⌝ }
 {
+    let part = &part[..];
     let n = blank_at(part, base, c);
     positive_integer(rest_at(part, base, n), n)
 }

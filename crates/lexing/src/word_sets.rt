@@ -254,6 +254,7 @@ fn words_of_set(part: &[u8], base: usize, set: u8) -> WordSet
     requires { ⌜ base + length (now part) ≤ u64-max ⌝ }
     ensures { λ r. ⌜ WordSetTo r set base (now (part .entry)) ⌝ }
 {
+    let part = &part[..];
     let count = keyword_count(set);
     let mut flags = 0;
     let mut next = base;

@@ -12,16 +12,16 @@ use lib.ListN.{length}
 use Rattle.lexing.proofs.word_sets.Laws.{set-most, SetAt, set-start, set-no-start, set-no-initial, start-took, WalkAt, walk-start, walk-end, walk-more, walk-found, walk-again}
 
 abbrev Inv-loop : tie.InvT-loop
-Inv-loop part base set count flags₀ next₀ first₀ start rest k₀ flags next first k = WalkAt set base part flags next first start rest k × (next ≡ next₀)
+Inv-loop part base set part' count flags₀ next₀ first₀ start rest k₀ flags next first k = WalkAt set base part flags next first start rest k × (next ≡ next₀)
 
 abbrev μ-loop : tie.MeasureT-loop
-μ-loop part base set count flags₀ next₀ first₀ start rest k₀ flags next first k = count - k
+μ-loop part base set part' count flags₀ next₀ first₀ start rest k₀ flags next first k = count - k
 
 abbrev Inv-words : tie.InvT-words
-Inv-words part base set count flags₀ next₀ first₀ flags next first = SetAt set base part flags next first
+Inv-words part base set part' count flags₀ next₀ first₀ flags next first = SetAt set base part flags next first
 
 abbrev μ-words : tie.MeasureT-words
-μ-words part base set count flags₀ next₀ first₀ flags next first = base + length part - next
+μ-words part base set part' count flags₀ next₀ first₀ flags next first = base + length part - next
 
 keyword-count-requires : tie.Need-keyword-count-requires Inv-loop μ-loop Inv-words μ-words
 keyword-count-requires c κs = tt
