@@ -16,13 +16,12 @@ fn print_number(label: &[u8], n: usize) {
 
 // A failure is document 01's refusal 3; a stop has its number.
 fn print_lost(l: Lost) {
-    match l {
-        Lost::Fail(p) => print_number(b" refused 3 ", p),
-        Lost::Stop(n, p) => {
-            print_number(b" refused ", n);
-            print_number(b" ", p);
-        }
+    if l.cause == 0 {
+        print_number(b" refused 3 ", l.place);
+        return;
     }
+    print_number(b" refused ", l.cause - 1);
+    print_number(b" ", l.place);
 }
 
 fn print_byte(b: u8) {
