@@ -1,12 +1,12 @@
 use borrow.Author.Needs.{needs}
 use Rattle.lexing.proofs.integers.decimal_integer.Statement.{statement}
 use Rattle.lexing.proofs.integers.decimal_integer.Tie as tie
+use borrow.Author.Tests.{not-true, not-false}
 use mathlib.Core.Path.{refl, sym, _∙_, ap}
 use mathlib.Core.Bool.{false}
 use Prim.Native.Nat.{zero-le}
 use native.Mathlib.Omega.{arith}
 use denote.Ref.{now}
-use borrow.Author.Tests.{not-true, not-false}
 use Rattle.lexing.specs.bytes.{isDigit}
 use Rattle.lexing.proofs.integers.Laws.{digits-inside, decimal-no, integer-over, integer-value}
 
