@@ -117,11 +117,11 @@ at-most : {w c : ℕ} {f : ℕ → ℕ} → Eight w f → ((j : ℕ) → f j ≤
 at-most {w} {c} {f} p h = omega (arith, p .is, pack-le 8 f (λ j. c) h)
 
 -- a test of all numbers below n
-unfoldable every : ℕ → (ℕ → Bool) → Bool
+unfoldable pub every : ℕ → (ℕ → Bool) → Bool
 every zero t = true
 every (suc n) t = t n && every n t
 
-every-at : (n : ℕ) (t : ℕ → Bool) → every n t ≡ true → (x : ℕ) → x < n → t x ≡ true
+pub every-at : (n : ℕ) (t : ℕ → Bool) → every n t ≡ true → (x : ℕ) → x < n → t x ≡ true
 unfolding every
 every-at zero t e x h = absurd (omega arith)
 every-at (suc n) t e x h = go (eqb x n) refl (every-at n t (and-right (t n) (every n t) e) x)
