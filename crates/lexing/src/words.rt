@@ -6,7 +6,7 @@ ghost use lib.ListN.{length};
 ghost use Rattle.lexing.specs.integers.{u64-max};
 ghost use Rattle.lexing.specs.words.{parse-id, isKeyLetter, isKey, keyword, tag};
 ghost use Rattle.lexing.specs.answers.{wordReply, WordAt, tagReply};
-ghost use Rattle.lexing.specs.inner.words.{wordEnd, isKeyByte, HasKey};
+ghost use Rattle.lexing.specs.inner.words.{wordEnd, isKeyByte, KeyAt, HasKey};
 use crate::answers::Lost;
 use crate::answers::Step;
 use crate::bytes::is_between;
@@ -121,7 +121,22 @@ fn is_key_byte(x: u8, k: u8) -> bool
     (x | 0x20) == k
 }
 
-// Whether a keyword's bytes stand at the front.
+// How many of a keyword's bytes stand at the front as they are, where eight are compared at once: eight or none.
+fn eight_alike(part: &[u8], key: &[u8]) -> usize
+    requires { ⌜ length (now key) ≤ length (now part) ⌝ }
+    requires { ⌜ isKey (now key) ≡ true ⌝ }
+    ensures { λ r. ⌜ KeyAt (now (key .entry)) (now (part .entry)) r ⌝ }
+{
+    if key.len() < 8 {
+        return 0;
+    }
+    if eight_at(part, 0) == eight_at(key, 0) {
+        return 8;
+    }
+    0
+}
+
+// Whether a keyword's bytes stand at the front. Most are written in lower case.
 fn has_key(part: &[u8], key: &[u8]) -> bool
     requires { ⌜ isKey (now key) ≡ true ⌝ }
     ensures { λ r. ⌜ HasKey r (now (key .entry)) (now (part .entry)) ⌝ }
@@ -129,7 +144,7 @@ fn has_key(part: &[u8], key: &[u8]) -> bool
     if part.len() < key.len() {
         return false;
     }
-    let mut i = 0;
+    let mut i = eight_alike(part, key);
     while i < key.len() {
         if !is_key_byte(part[i], key[i]) {
             return false;

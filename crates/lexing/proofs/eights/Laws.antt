@@ -67,6 +67,10 @@ byte-pack (suc n) f p (suc j) h =
     let z : (pack n (λ j. f (suc j)) * 256 + f 0) / 256 ≡ pack n (λ j. f (suc j)) = omega (arith, p 0) in
     rw z (byte-pack n (λ j. f (suc j)) (λ j. p (suc j)) j (omega arith))
 
+-- equal numbers have equal bytes
+pub pack-alike : (n : ℕ) (f g : ℕ → ℕ) → Bytes f → Bytes g → pack n f ≡ pack n g → (j : ℕ) → j < n → f j ≡ g j
+pack-alike n f g p q e j h = sym (byte-pack n f p j h) ∙ (ap (λ (w : ℕ). byteAt w j) e ∙ byte-pack n g q j h)
+
 -- four bytes, and twice four, as the code sums them
 module _ (u : List ℕ) (i : ℕ) where
   pub four-sum : getD u i 0 + getD u (i + 1) 0 * 0x100 + getD u (i + 2) 0 * 0x10000 + getD u (i + 3) 0 * 0x1000000 ≡ pack 4 (bytesFrom u i)

@@ -21,9 +21,9 @@ use Rattle.lexing.specs.declared.answers.Lost.{Lost}
 use Rattle.lexing.specs.declared.answers.Lost.the-variants.{Fail}
 use Rattle.lexing.specs.declared.answers.Step.{Step}
 use Rattle.lexing.specs.declared.answers.Step.the-variants.{Next, Not}
-use Rattle.lexing.proofs.Scans.{first-of, take-run, drop-run, run-cons, run-le, run-byte, run-stops, run-passes, RunAt, runs-on}
+use Rattle.lexing.proofs.Scans.{first-of, take-run, drop-run, run-cons, run-le, run-byte, run-stops, run-passes, RunAt, turns, runs-on}
 use Rattle.lexing.proofs.Slicing.{Took, rest-from, word-took, step-lost}
-use Rattle.lexing.proofs.eights.Laws.{Bytes, every, every-at, no-bits, passing}
+use Rattle.lexing.proofs.eights.Laws.{Bytes, pack-alike, every, every-at, no-bits, passing}
 use Rattle.lexing.proofs.Tests.{eq-of, and-left, and-right, false-if, digit-no-letter}
 
 letter-word : (x : ℕ) → isLetter x ≡ true → isWord x ≡ true
@@ -315,6 +315,11 @@ key-more k u i h lt e =
 
 pub key-end : (k u : List ℕ) (i : ℕ) → KeyAt k u i → length k ≤ i → KeyAt k u (length k)
 key-end k u i h le = let z : i ≡ length k = omega (arith, h .inside) in rw z at h
+
+-- eight bytes at once
+pub key-eight : (k u : List ℕ) → isKey k ≡ true → length k ≤ length u → 8 ≤ length k → Bytes (λ j. getD u j 0) → Bytes (λ j. getD k j 0) → pack 8 (bytesFrom u 0) ≡ pack 8 (bytesFrom k 0) → KeyAt k u 8
+key-eight k u key le eight p q e = turns (KeyAt k u) 0 8 (key-start k u le) λ j l h.
+    key-more k u (0 + j) h (omega arith) (sym (key-same _ _ (p (0 + j)) (q (0 + j)) (key-letter k key (0 + j) (omega arith)) (pack-alike 8 (bytesFrom u 0) (bytesFrom k 0) (λ j. p (0 + j)) (λ j. q (0 + j)) e j l)))
 
 pub key-none : (t : Bool) (k : List ℕ) (b : ℕ) (u : List ℕ) → HasKey t k u → t ≡ false → fail b ≡ keyword k b u
 key-none t k b u h e = (rw e at h) b
