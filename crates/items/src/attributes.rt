@@ -1,9 +1,10 @@
 // Attributes, and their lists of privileges.
 ghost use mathlib.Core.Path.{_≡_};
+ghost use mathlib.Core.Bool.{true};
 ghost use mathlib.Core.List.{[], _∷_};
 ghost use Prim.Native.Nat.{_+_, _≤_};
 ghost use lib.ListN.{length};
-ghost use Rattle.lexing.specs.words.{keyword, any-keyword};
+ghost use Rattle.lexing.specs.words.{isKey, keyword, any-keyword};
 ghost use Rattle.lexing.specs.answers.{docOf};
 ghost use Rattle.items.specs.layout.{text-limit, layout-20, catalogue-bytes};
 ghost use Rattle.lexing.specs.buffers.{put};
@@ -85,6 +86,7 @@ struct Entries {
 fn operation_by(part: &[u8], base: usize, key: &[u8], operation: Operation) -> OperationRead
     requires { ⌜ base + length (now part) ≤ text-limit ⌝ }
     requires { ⌜ operation-of (now key) ≡ operation ⌝ }
+    requires { ⌜ isKey (now key) ≡ true ⌝ }
     ensures { λ r. ⌜ OperationTo (keyword (now (key .entry))) r base (now (part .entry)) ⌝ }
 {
     let part = &part[..];

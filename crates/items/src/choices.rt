@@ -1,7 +1,9 @@
 // Enums and bitmaps: one but for the keyword.
 ghost use mathlib.Core.Path.{_≡_};
+ghost use mathlib.Core.Bool.{true};
 ghost use Prim.Native.Nat.{_+_, _≤_};
 ghost use lib.ListN.{length};
+ghost use Rattle.lexing.specs.words.{isKey};
 ghost use mathlib.Core.List.{[], _∷_};
 ghost use Rattle.lexing.specs.answers.{docOf};
 ghost use Rattle.items.specs.entries.{choice-after-doc-maturity};
@@ -49,6 +51,7 @@ pub enum ChoiceHeadRead {
 pub fn choice_head(part: &[u8], base: usize, from: usize, key: &[u8]) -> ChoiceHeadRead
     requires { ⌜ base + length (now part) ≤ text-limit ⌝ }
     requires { ⌜ ChoiceFrom from base (now part) ⌝ }
+    requires { ⌜ isKey (now key) ≡ true ⌝ }
     ensures { λ r. ⌜ ChoiceHeadTo (now (key .entry)) r base (now (part .entry)) ⌝ }
 {
     let part = &part[..];
@@ -86,6 +89,7 @@ pub fn choice_head_lost(r: ChoiceHeadRead) -> Lost
 pub fn choice_after_doc_maturity(part: &[u8], base: usize, from: usize, key: &[u8]) -> Count
     requires { ⌜ base + length (now part) ≤ text-limit ⌝ }
     requires { ⌜ ChoiceFrom from base (now part) ⌝ }
+    requires { ⌜ isKey (now key) ≡ true ⌝ }
     ensures { λ r. ⌜ ChoiceCountTo (now (key .entry)) r base (now (part .entry)) ⌝ }
 {
     let head = choice_head(part, base, from, key);
@@ -136,6 +140,7 @@ pub fn write_choice(
     requires { ⌜ ChoiceFrom from base (now part) ⌝ }
     requires { ⌜ FrontFits front ⌝ }
     requires { ⌜ Room (choice-records (front .kind) (front .place)) (choice-after-doc-maturity (now key) (docOf (front .doc)) (front .maturity)) base (now part) at (length (now out)) ⌝ }
+    requires { ⌜ isKey (now key) ≡ true ⌝ }
     ensures { λ r. ⌜ Written (choice-records (front .kind) (front .place)) (choice-after-doc-maturity (now (key .entry)) (docOf (front .doc)) (front .maturity)) base (now (part .entry)) at r (now (out .entry)) (now (out .exit)) ⌝ }
 {
     let head = choice_head(part, base, from, key);

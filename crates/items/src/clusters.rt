@@ -1,12 +1,12 @@
 // Clusters: their members, each by the kind that its first word says.
 ghost use mathlib.Core.Path.{_≡_};
-ghost use mathlib.Core.Bool.{cond};
+ghost use mathlib.Core.Bool.{true, cond};
 ghost use mathlib.Core.List.{[], _∷_};
 ghost use Prim.Native.Nat.{_+_, _≤_, _<_};
 ghost use lib.ListN.{length};
 ghost use Rattle.lexing.specs.bytes.{ascii};
 ghost use Rattle.lexing.specs.reply.{ok, fail};
-ghost use Rattle.lexing.specs.words.{keyword, any-keyword};
+ghost use Rattle.lexing.specs.words.{isKey, keyword, any-keyword};
 ghost use Rattle.lexing.specs.answers.{wordReply, docOf, Skips, NameIn};
 ghost use Rattle.lexing.specs.declared.answers.Step.the-variants.{Next};
 ghost use Rattle.lexing.specs.blanks.{no-doc, whitespace0};
@@ -104,6 +104,7 @@ pub struct MembersWrote {
 // Whether a keyword is the first word.
 pub fn starts(part: &[u8], base: usize, key: &[u8]) -> bool
     requires { ⌜ base + length (now part) ≤ text-limit ⌝ }
+    requires { ⌜ isKey (now key) ≡ true ⌝ }
     ensures { λ r. ⌜ r ≡ found (any-keyword (now (key .entry) ∷ []) base (now (part .entry))) ⌝ }
 {
     let word = keyword(part, base, key);
@@ -129,6 +130,7 @@ fn third_letter_kind(y: u8) -> MemberKind
 // The kind that a first word leaves, where events start with a keyword and commands with others.
 fn event_or_command(part: &[u8], base: usize, key: &[u8]) -> MemberKind
     requires { ⌜ base + length (now part) ≤ text-limit ⌝ }
+    requires { ⌜ isKey (now key) ≡ true ⌝ }
     ensures { λ r. ⌜ r ≡ cond (found (any-keyword (now (key .entry) ∷ []) base (now (part .entry)))) Event Command ⌝ }
 {
     if starts(part, base, key) {
@@ -343,6 +345,7 @@ fn braced_members(part: &[u8], base: usize) -> Count
 // One keyword or, where it is not there, another.
 fn either(part: &[u8], base: usize, first: &[u8], second: &[u8]) -> Step
     requires { ⌜ base + length (now part) ≤ text-limit ⌝ }
+    requires { ⌜ (isKey (now first) ≡ true) × (isKey (now second) ≡ true) ⌝ }
     ensures { λ r. ⌜ wordReply r base (now (part .entry)) ≡ any-keyword (now (first .entry) ∷ now (second .entry) ∷ []) base (now (part .entry)) ⌝ }
 {
     let word = keyword(part, base, first);

@@ -1,7 +1,9 @@
 // Maturities: stable, provisional, internal, deprecated = 0 to 3.
 ghost use mathlib.Core.Path.{_≡_};
+ghost use mathlib.Core.Bool.{true};
 ghost use Prim.Native.Nat.{_+_, _≤_, _<_};
 ghost use lib.ListN.{length};
+ghost use Rattle.lexing.specs.words.{isKey};
 ghost use Rattle.lexing.specs.integers.{u64-max};
 ghost use Rattle.items.specs.entries.{api-maturity};
 ghost use Rattle.items.specs.answers.{MaturityTo, maturity-blank, maturity-between};
@@ -23,6 +25,7 @@ pub struct Maturity {
 fn maturity_by(part: &[u8], base: usize, key: &[u8], level: u8) -> Maturity
     requires { ⌜ base + length (now part) ≤ u64-max ⌝ }
     requires { ⌜ level < 4 ⌝ }
+    requires { ⌜ isKey (now key) ≡ true ⌝ }
     ensures { λ r. ⌜ MaturityBy (now (key .entry)) level r base (now (part .entry)) ⌝ }
 {
     let word = keyword(part, base, key);

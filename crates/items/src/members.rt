@@ -1,9 +1,11 @@
 // Events and commands.
 ghost use mathlib.Core.Path.{_≡_};
+ghost use mathlib.Core.Bool.{true};
 ghost use mathlib.Core.List.{[], _∷_};
 ghost use Prim.Native.Nat.{_+_, _-_, _≤_, _<_};
 ghost use lib.Dec.{ltb};
 ghost use lib.ListN.{length};
+ghost use Rattle.lexing.specs.words.{isKey};
 ghost use Rattle.lexing.specs.answers.{docOf, Skips, SkipsAt};
 ghost use Rattle.items.specs.layout.{text-limit, layout-20, further-word, catalogue-bytes};
 ghost use Rattle.lexing.specs.buffers.{put};
@@ -128,6 +130,7 @@ pub enum CommandRead {
 pub fn level_by(part: &[u8], base: usize, key: &[u8], level: u8) -> Level
     requires { ⌜ base + length (now part) ≤ text-limit ⌝ }
     requires { ⌜ level < 4 ⌝ }
+    requires { ⌜ isKey (now key) ≡ true ⌝ }
     ensures { λ r. ⌜ LevelTo (numbered (now (key .entry)) level) r base (now (part .entry)) ⌝ }
 {
     let word = keyword(part, base, key);
@@ -215,6 +218,7 @@ pub fn colon_privilege(part: &[u8], base: usize, c: usize) -> Level
 pub fn access_to(part: &[u8], base: usize, key: &[u8], otherwise: u8) -> Privilege
     requires { ⌜ base + length (now part) ≤ text-limit ⌝ }
     requires { ⌜ otherwise < 4 ⌝ }
+    requires { ⌜ isKey (now key) ≡ true ⌝ }
     ensures { λ r. ⌜ PrivilegeTo (now (key .entry)) otherwise r base (now (part .entry)) ⌝ }
 {
     let part = &part[..];

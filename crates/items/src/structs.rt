@@ -1,9 +1,10 @@
 // Fields and structs.
 ghost use mathlib.Core.Path.{_≡_};
+ghost use mathlib.Core.Bool.{true};
 ghost use mathlib.Core.List.{[], _∷_, map};
 ghost use Prim.Native.Nat.{_+_, _≤_};
 ghost use lib.ListN.{length, take};
-ghost use Rattle.lexing.specs.words.{isLower, keyword, any-keyword};
+ghost use Rattle.lexing.specs.words.{isKey, isLower, keyword, any-keyword};
 ghost use Rattle.lexing.specs.answers.{numberReply, docOf};
 ghost use Rattle.items.specs.layout.{text-limit, layout-20, catalogue-bytes};
 ghost use Rattle.lexing.specs.buffers.{put};
@@ -328,6 +329,7 @@ fn kind_by(part: &[u8], n: usize, kind: StructKind) -> StructKind
 fn struct_word_by(part: &[u8], base: usize, key: &[u8], kind: StructKind) -> StructWord
     requires { ⌜ base + length (now part) ≤ text-limit ⌝ }
     requires { ⌜ struct-kind (now key) ≡ typeBy kind ⌝ }
+    requires { ⌜ isKey (now key) ≡ true ⌝ }
     ensures { λ r. ⌜ StructWordTo (keyword (now (key .entry))) r base (now (part .entry)) ⌝ }
 {
     let part = &part[..];

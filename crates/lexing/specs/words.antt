@@ -1,10 +1,10 @@
 -- Words, keywords and tags.
 use Prim.Native.Nat.{ℕ, suc, _+_}
-use mathlib.Core.Bool.{Bool, true, false, _&&_}
+use mathlib.Core.Bool.{Bool, true, false, _&&_, _||_}
 use mathlib.Core.List.{List, [], _∷_}
-use lib.Dec.{eqb}
+use lib.Dec.{leb, eqb}
 use lib.ListN.{length}
-use Rattle.lexing.specs.bytes.{isLetter, isWord, lower, takeWhile, dropWhile}
+use Rattle.lexing.specs.bytes.{underscore, isLetter, isWord, lower, takeWhile, dropWhile}
 use Rattle.lexing.specs.reply.{ok, fail, Parser, ret, _>>=_, _or_, position, failAt, pick}
 
 -- its offset and its bytes
@@ -25,6 +25,19 @@ parse-id b (x ∷ u) =
       | true ↦ ok (word b (x ∷ takeWhile isWord u)) (b + suc (length (takeWhile isWord u))) (dropWhile isWord u)
       | false ↦ fail b
     ]
+
+-- what a keyword is made of: letters from a to z and underscores. It is no `within`, which has to be unfolded, so that it computes where a function is handed a literal
+abbrev pub isKeyLetter : ℕ → Bool
+isKeyLetter x = leb 0x61 x && leb x 0x7a || eqb x underscore
+
+abbrev pub areKeyLetters : List ℕ → Bool
+areKeyLetters [] = true
+areKeyLetters (x ∷ k) = isKeyLetter x && areKeyLetters k
+
+-- a keyword that the readers take: it has at least one byte
+abbrev pub isKey : List ℕ → Bool
+isKey [] = false
+isKey (x ∷ k) = areKeyLetters (x ∷ k)
 
 -- `eq_ignore_ascii_case` with a keyword k, which is in lower case
 unfoldable pub isKeyword : List ℕ → List ℕ → Bool

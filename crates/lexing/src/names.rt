@@ -1,8 +1,10 @@
 // What several heads have in them: a keyword and a name or a number, a colon and a type's name, an equals sign and a code.
 ghost use mathlib.Core.Path.{_≡_};
+ghost use mathlib.Core.Bool.{true};
 ghost use Prim.Native.Nat.{_+_, _≤_};
 ghost use lib.ListN.{length};
 ghost use Rattle.lexing.specs.integers.{u64-max};
+ghost use Rattle.lexing.specs.words.{isKey};
 ghost use Rattle.lexing.specs.answers.{numberReply, NumberAt, behind-blanks};
 ghost use Rattle.lexing.specs.names.{namedLost, NamedTo, NamedAt, blank-word, gap-word, keyword-name, name-behind, named-after, keyword-number, type-behind, equals-code};
 use crate::answers::Lost;
@@ -68,6 +70,7 @@ pub fn word_apart(part: &[u8], base: usize, c: usize) -> Named
 // A keyword and the name behind it.
 pub fn keyword_name(part: &[u8], base: usize, key: &[u8]) -> Named
     requires { ⌜ base + length (now part) ≤ u64-max ⌝ }
+    requires { ⌜ isKey (now key) ≡ true ⌝ }
     ensures { λ r. ⌜ NamedTo (keyword-name (now (key .entry))) r base (now (part .entry)) ⌝ }
 {
     let part = &part[..];
@@ -89,6 +92,7 @@ pub fn keyword_name(part: &[u8], base: usize, key: &[u8]) -> Named
 // Two keywords and the name behind them.
 pub fn name_behind(part: &[u8], base: usize, first: &[u8], second: &[u8]) -> Named
     requires { ⌜ base + length (now part) ≤ u64-max ⌝ }
+    requires { ⌜ (isKey (now first) ≡ true) × (isKey (now second) ≡ true) ⌝ }
     ensures { λ r. ⌜ NamedTo (name-behind (now (first .entry)) (now (second .entry))) r base (now (part .entry)) ⌝ }
 {
     let part = &part[..];
@@ -110,6 +114,7 @@ pub fn name_behind(part: &[u8], base: usize, first: &[u8], second: &[u8]) -> Nam
 // Two keywords, a name and a semicolon.
 pub fn named_after(part: &[u8], base: usize, first: &[u8], second: &[u8]) -> Named
     requires { ⌜ base + length (now part) ≤ u64-max ⌝ }
+    requires { ⌜ (isKey (now first) ≡ true) × (isKey (now second) ≡ true) ⌝ }
     ensures { λ r. ⌜ NamedTo (named-after (now (first .entry)) (now (second .entry))) r base (now (part .entry)) ⌝ }
 {
     let part = &part[..];
@@ -127,6 +132,7 @@ pub fn named_after(part: &[u8], base: usize, first: &[u8], second: &[u8]) -> Nam
 // A keyword and the number behind it.
 pub fn keyword_number(part: &[u8], base: usize, key: &[u8]) -> Number
     requires { ⌜ base + length (now part) ≤ u64-max ⌝ }
+    requires { ⌜ isKey (now key) ≡ true ⌝ }
     ensures { λ r. ⌜ numberReply r base (now (part .entry)) ≡ keyword-number (now (key .entry)) base (now (part .entry)) ⌝ }
 {
     let part = &part[..];

@@ -1,8 +1,10 @@
 // Steps from an offset of a part: blanks, and tokens behind blanks.
+ghost use mathlib.Core.Path.{_≡_};
+ghost use mathlib.Core.Bool.{true};
 ghost use Prim.Native.Nat.{_+_, _≤_};
 ghost use lib.ListN.{length};
 ghost use Rattle.lexing.specs.integers.{u64-max, positive-integer};
-ghost use Rattle.lexing.specs.words.{tag, keyword};
+ghost use Rattle.lexing.specs.words.{tag, isKey, keyword};
 ghost use Rattle.lexing.specs.blanks.{whitespace1};
 ghost use Rattle.lexing.specs.answers.{BlankAt, SkipsAt, NumberAt, behind-blanks};
 use crate::answers::Lost;
@@ -68,6 +70,7 @@ pub fn tag_behind(part: &[u8], base: usize, c: usize, t: u8) -> Step
 // Blanks and a keyword, which is handed on by its parts.
 pub fn keyword_behind(part: &[u8], base: usize, c: usize, key: &[u8]) -> Step
     requires { ⌜ ((base ≤ c) × (c ≤ base + length (now part))) × (base + length (now part) ≤ u64-max) ⌝ }
+    requires { ⌜ isKey (now key) ≡ true ⌝ }
     ensures { λ r. ⌜ SkipsAt (behind-blanks (keyword (now (key .entry)))) r base (now (part .entry)) c ⌝ }
 {
     let part = &part[..];

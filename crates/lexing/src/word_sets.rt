@@ -1,10 +1,11 @@
 // Word sets: the keywords before a field, a struct, an event, a command or an attribute, in any order and with blanks between them.
 ghost use mathlib.Core.Path.{_≡_};
+ghost use mathlib.Core.Bool.{true};
 ghost use Prim.Native.Nat.{_+_, _^_, _≤_, _<_};
 ghost use mathlib.Core.List.{[]};
 ghost use lib.ListN.{length, take, getD};
 ghost use Rattle.lexing.specs.integers.{u64-max};
-ghost use Rattle.lexing.specs.words.{isLower};
+ghost use Rattle.lexing.specs.words.{isKey, isLower};
 ghost use Rattle.lexing.specs.word_sets.{set-of};
 ghost use Rattle.lexing.specs.answers.{WordSetTo};
 ghost use Rattle.lexing.specs.inner.word_sets.{KeywordEnd, set-gap, startReply, with-flag, initial, LowerAt};
@@ -54,6 +55,7 @@ fn keyword_count(set: u8) -> usize
 // The offset behind a keyword, or base where it does not stand there. It is no Step, since one that several calls can return goes through memory.
 fn keyword_end(part: &[u8], base: usize, key: &[u8]) -> usize
     requires { ⌜ base + length (now part) ≤ u64-max ⌝ }
+    requires { ⌜ isKey (now key) ≡ true ⌝ }
     ensures { λ r. ⌜ KeywordEnd (now (key .entry)) base (now (part .entry)) r ⌝ }
 {
     let word = keyword(part, base, key);

@@ -1,11 +1,12 @@
 // Words, keywords and tags.
 ghost use mathlib.Core.Path.{_≡_};
+ghost use mathlib.Core.Bool.{true};
 ghost use Prim.Native.Nat.{_+_, _-_, _≤_};
 ghost use lib.ListN.{length};
 ghost use Rattle.lexing.specs.integers.{u64-max};
-ghost use Rattle.lexing.specs.words.{parse-id, keyword, tag};
+ghost use Rattle.lexing.specs.words.{parse-id, isKeyLetter, isKey, keyword, tag};
 ghost use Rattle.lexing.specs.answers.{wordReply, WordAt, tagReply};
-ghost use Rattle.lexing.specs.inner.words.{wordEnd, isKeyByte, HasKey};
+ghost use Rattle.lexing.specs.inner.words.{wordEnd, isKeyByte, KeyAt, HasKey};
 use crate::answers::Lost;
 use crate::answers::Step;
 use crate::bytes::is_between;
@@ -85,33 +86,65 @@ pub fn parse_id(part: &[u8], base: usize) -> Step
     id_at(part, base, base)
 }
 
-// Whether a byte is one of a word and, in lower case, the keyword's byte k. Where k is a constant, all but the comparisons of x are known.
+// Whether a keyword can have a byte.
+fn is_key_letter(x: u8) -> bool
+    ensures { λ r. ⌜ r ≡ isKeyLetter x ⌝ }
+{
+    if is_between(b'a', b'z', x) {
+        return true;
+    }
+    x == b'_'
+}
+
+// Whether bytes are a keyword that `keyword` takes, for a caller that does not know it.
+pub fn is_key(key: &[u8]) -> bool
+    ensures { λ r. ⌜ r ≡ isKey (now (key .entry)) ⌝ }
+{
+    let mut i = 0;
+    while i < key.len() {
+        if !is_key_letter(key[i]) {
+            return false;
+        }
+        i += 1;
+    }
+    0 < i
+}
+
+// Whether a byte is one of a word and, in lower case, the keyword's byte k. The bit 0x20 is all that tells a capital letter from a small one.
 fn is_key_byte(x: u8, k: u8) -> bool
+    requires { ⌜ isKeyLetter k ≡ true ⌝ }
     ensures { λ r. ⌜ r ≡ isKeyByte x k ⌝ }
 {
     if x == k {
-        if is_between(b'a', b'z', k) {
-            return true;
-        }
-        if is_digit(k) {
-            return true;
-        }
-        return k == b'_';
+        return true;
     }
-    if !is_between(b'a', b'z', k) {
-        return false;
-    }
-    x == k - 32
+    (x | 0x20) == k
 }
 
-// Whether a keyword's bytes stand at the front.
+// How many of a keyword's bytes stand at the front as they are, where eight are compared at once: eight or none.
+fn eight_alike(part: &[u8], key: &[u8]) -> usize
+    requires { ⌜ length (now key) ≤ length (now part) ⌝ }
+    requires { ⌜ isKey (now key) ≡ true ⌝ }
+    ensures { λ r. ⌜ KeyAt (now (key .entry)) (now (part .entry)) r ⌝ }
+{
+    if key.len() < 8 {
+        return 0;
+    }
+    if eight_at(part, 0) == eight_at(key, 0) {
+        return 8;
+    }
+    0
+}
+
+// Whether a keyword's bytes stand at the front. Most are written in lower case.
 fn has_key(part: &[u8], key: &[u8]) -> bool
+    requires { ⌜ isKey (now key) ≡ true ⌝ }
     ensures { λ r. ⌜ HasKey r (now (key .entry)) (now (part .entry)) ⌝ }
 {
     if part.len() < key.len() {
         return false;
     }
-    let mut i = 0;
+    let mut i = eight_alike(part, key);
     while i < key.len() {
         if !is_key_byte(part[i], key[i]) {
             return false;
@@ -121,9 +154,11 @@ fn has_key(part: &[u8], key: &[u8]) -> bool
     true
 }
 
-// A whole word that is the keyword: its bytes are compared first, since most words differ in the first one.
+// A whole word that is the keyword: its bytes are compared first, since most words differ in the first one. A keyword begins like a word, so
+// that where it stands and no byte of a word follows, it is the word.
 pub fn keyword(part: &[u8], base: usize, key: &[u8]) -> Step
     requires { ⌜ base + length (now part) ≤ u64-max ⌝ }
+    requires { ⌜ isKey (now key) ≡ true ⌝ }
     ensures { λ r. ⌜ wordReply r base (now (part .entry)) ≡ keyword (now (key .entry)) base (now (part .entry)) ⌝ }
 {
     if !has_key(part, key) {
@@ -139,7 +174,7 @@ pub fn keyword(part: &[u8], base: usize, key: &[u8]) -> Step
             place: base,
         });
     }
-    word_by_end(part, base, base, n)
+    Step::Next(base + n)
 }
 
 // One given byte.

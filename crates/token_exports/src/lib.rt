@@ -7,12 +7,17 @@ pub extern "C" fn token_blanks(text: &[u8]) -> usize {
     b.next
 }
 
-// The offset behind a word that is the keyword, or the largest number.
+// The offset behind a word that is the keyword, or the largest number. C can hand over any bytes as the keyword, and the reader takes only letters
+// from a to z and underscores: others are answered like a word that is not there. By the definition they are read nowhere, but for a keyword with
+// a digit behind its first byte, and the language has none.
 #[no_mangle]
 pub extern "C" fn token_keyword(text: &[u8], key: &[u8]) -> usize {
-    let r = lexing::words::keyword(text, 0, key);
-    let lexing::answers::Step::Next(c) = r else {
-        return 0xffff_ffff_ffff_ffff;
-    };
-    c
+    if lexing::words::is_key(key) {
+        let r = lexing::words::keyword(text, 0, key);
+        let lexing::answers::Step::Next(c) = r else {
+            return 0xffff_ffff_ffff_ffff;
+        };
+        return c;
+    }
+    0xffff_ffff_ffff_ffff
 }

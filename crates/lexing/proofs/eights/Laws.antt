@@ -67,6 +67,10 @@ byte-pack (suc n) f p (suc j) h =
     let z : (pack n (λ j. f (suc j)) * 256 + f 0) / 256 ≡ pack n (λ j. f (suc j)) = omega (arith, p 0) in
     rw z (byte-pack n (λ j. f (suc j)) (λ j. p (suc j)) j (omega arith))
 
+-- equal numbers have equal bytes
+pub pack-alike : (n : ℕ) (f g : ℕ → ℕ) → Bytes f → Bytes g → pack n f ≡ pack n g → (j : ℕ) → j < n → f j ≡ g j
+pack-alike n f g p q e j h = sym (byte-pack n f p j h) ∙ (ap (λ (w : ℕ). byteAt w j) e ∙ byte-pack n g q j h)
+
 -- four bytes, and twice four, as the code sums them
 module _ (u : List ℕ) (i : ℕ) where
   pub four-sum : getD u i 0 + getD u (i + 1) 0 * 0x100 + getD u (i + 2) 0 * 0x10000 + getD u (i + 3) 0 * 0x1000000 ≡ pack 4 (bytesFrom u i)
@@ -117,11 +121,11 @@ at-most : {w c : ℕ} {f : ℕ → ℕ} → Eight w f → ((j : ℕ) → f j ≤
 at-most {w} {c} {f} p h = omega (arith, p .is, pack-le 8 f (λ j. c) h)
 
 -- a test of all numbers below n
-unfoldable every : ℕ → (ℕ → Bool) → Bool
+unfoldable pub every : ℕ → (ℕ → Bool) → Bool
 every zero t = true
 every (suc n) t = t n && every n t
 
-every-at : (n : ℕ) (t : ℕ → Bool) → every n t ≡ true → (x : ℕ) → x < n → t x ≡ true
+pub every-at : (n : ℕ) (t : ℕ → Bool) → every n t ≡ true → (x : ℕ) → x < n → t x ≡ true
 unfolding every
 every-at zero t e x h = absurd (omega arith)
 every-at (suc n) t e x h = go (eqb x n) refl (every-at n t (and-right (t n) (every n t) e) x)

@@ -1,28 +1,29 @@
 -- Words, keywords and tags: one law for each way through a reader.
 use mathlib.Core.Path.{_≡_, refl, sym, ap, _∙_}
 use mathlib.Core.List.{List, [], _∷_}
-use mathlib.Core.Bool.{Bool, true, false, false≢true}
+use mathlib.Core.Bool.{Bool, true, false, _||_, not, false≢true}
 use mathlib.Core.Logic.{_⊎_, inl, inr}
 use Prim.Native.Nat.{ℕ, zero, suc, _+_, _-_, _/_, _≤_, _<_, zero-le}
 use native.Mathlib.Omega.{arith}
+use lib.Bits.{bitOr}
 use lib.Count.{trailingZeros, trailing-le}
 use lib.Dec.{eqb, ltb}
 use lib.ListN.{length, drop, getD}
 use borrow.Author.Count.{below-none, below-more}
-use borrow.Author.Tests.{eq-eqb, ne-eqb, eqb-false, le-leb, ltb-true, ltb-false}
+use borrow.Author.Tests.{eq-eqb, ne-eqb, lt-ltb, ltb-true, ltb-false}
 use Rattle.lexing.specs.bytes.{within, isLetter, isDigit, isWord, lower, takeWhile, dropWhile}
 use Rattle.lexing.specs.reply.{Reply, ok, fail, stop, Parser, ret, _>>=_, position, failAt, pick}
-use Rattle.lexing.specs.words.{Word, word, bytesOf, parse-id, isKeyword, keyword, tag}
+use Rattle.lexing.specs.words.{Word, word, bytesOf, parse-id, isKeyLetter, areKeyLetters, isKey, isKeyword, keyword, tag}
 use Rattle.lexing.specs.answers.{Rest, lostOf, lostReply, wordAt, wordReply, WordAt, Fail}
 use Rattle.lexing.specs.inner.eights.{pack, bytesFrom, failing, isAlpha}
 use Rattle.lexing.specs.inner.words.{wordEnd, isKeyByte, Agree, KeyAt, HasKey}
 use Rattle.lexing.specs.declared.answers.Lost.{Lost}
 use Rattle.lexing.specs.declared.answers.Step.{Step}
 use Rattle.lexing.specs.declared.answers.Step.the-variants.{Next, Not}
-use Rattle.lexing.proofs.Scans.{first-of, take-run, drop-run, run-cons, run-le, run-byte, run-stops, run-passes, RunAt, runs-on}
+use Rattle.lexing.proofs.Scans.{first-of, take-run, drop-run, run-cons, run-le, run-byte, run-stops, run-passes, RunAt, turns, runs-on}
 use Rattle.lexing.proofs.Slicing.{Took, rest-from, word-took, step-lost}
-use Rattle.lexing.proofs.eights.Laws.{Bytes, no-bits, passing}
-use Rattle.lexing.proofs.Tests.{eq-of, and-left, and-right, false-if, within-of, digit-no-letter}
+use Rattle.lexing.proofs.eights.Laws.{Bytes, pack-alike, every, every-at, no-bits, passing}
+use Rattle.lexing.proofs.Tests.{eq-of, and-left, and-right, false-if, digit-no-letter}
 
 letter-word : (x : ℕ) → isLetter x ≡ true → isWord x ≡ true
 unfolding isWord
@@ -136,11 +137,11 @@ small-word : (x : ℕ) → within 0x61 0x7a x ≡ true → isWord x ≡ true
 unfolding isWord isLetter
 small-word x e = rw e
 
-capital-word : (x : ℕ) → within 0x41 0x5a x ≡ true → isWord x ≡ true
-unfolding isWord isLetter
-capital-word x e = go (within 0x61 0x7a x) refl
+capital-letter : (x : ℕ) → within 0x41 0x5a x ≡ true → isLetter x ≡ true
+unfolding isLetter
+capital-letter x e = go (within 0x61 0x7a x) refl
   where
-    go : (t : Bool) → within 0x61 0x7a x ≡ t → isWord x ≡ true
+    go : (t : Bool) → within 0x61 0x7a x ≡ t → isLetter x ≡ true
     go true d = rw d
     go false d = rw (d, e)
 
@@ -149,24 +150,8 @@ unfolding isAlpha
 alpha-word x e = go (lower-either x)
   where
     go : ((within 0x41 0x5a x ≡ true) × (lower x ≡ x + 32)) ⊎ (lower x ≡ x) → isWord x ≡ true
-    go (inl c) = capital-word x (c .0)
+    go (inl c) = letter-word x (capital-letter x (c .0))
     go (inr c) = small-word x (rw c at e)
-
-digit-word : (x : ℕ) → isDigit x ≡ true → isWord x ≡ true
-unfolding isWord
-digit-word x e = rw (digit-no-letter x e, e)
-
-underscore-word : isWord 0x5f ≡ true
-unfolding isWord isLetter within
-underscore-word = refl
-
-word-capital : (x : ℕ) → isWord x ≡ true → within 0x61 0x7a x ≡ false → isDigit x ≡ false → eqb x 0x5f ≡ false → within 0x41 0x5a x ≡ true
-unfolding isWord isLetter
-word-capital x w s d u = go (within 0x41 0x5a x) refl
-  where
-    go : (t : Bool) → within 0x41 0x5a x ≡ t → within 0x41 0x5a x ≡ true
-    go true e = e
-    go false e = absurd (false≢true (rw (s, e, u, d) at w))
 
 word-letter : (x : ℕ) → isWord x ≡ true → isDigit x ≡ false → isLetter x ≡ true
 unfolding isWord
@@ -180,63 +165,78 @@ no-word : isWord 0 ≡ false
 unfolding isWord isLetter isDigit within
 no-word = refl
 
-module _ (x k : ℕ) where
-  is-key : lower x ≡ k → isWord x ≡ true → true ≡ isKeyByte x k
-  unfolding isKeyByte
-  is-key e w = rw (eq-eqb (lower x) k e, w)
+-- the bytes of a keyword: one is met by itself and, where it is a letter, by its capital
+abbrev same : Bool → Bool → Bool
+same true b = b
+same false b = not b
 
-  no-key : (lower x ≡ k → isWord x ≡ true → ⊥) → false ≡ isKeyByte x k
-  unfolding isKeyByte
-  no-key h = sym (false-if (isKeyByte x k) (λ e. h (eq-of (lower x) k (and-left (eqb (lower x) k) (isWord x) e)) (and-right (eqb (lower x) k) (isWord x) e)))
+same-is : (a b : Bool) → same a b ≡ true → a ≡ b
+same-is true true e = refl
+same-is true false e = absurd (false≢true e)
+same-is false true e = absurd (false≢true e)
+same-is false false e = refl
 
-  pub key-small : x ≡ k → within 0x61 0x7a k ≡ true → true ≡ isKeyByte x k
-  key-small e s =
-      let c : within 0x41 0x5a x ≡ false = false-if _ (λ q. omega (arith, within-of 0x41 0x5a x q, within-of 0x61 0x7a k s)) in
-      is-key (lower-kept x c ∙ e) (small-word x (rw e s))
+key-bytes : every 256 (λ k. not (isKeyLetter k) || every 256 (λ x. same (eqb x k || eqb (bitOr x 0x20) k) (isKeyByte x k))) ≡ true
+unfolding every isKeyByte lower isWord isLetter isDigit within
+key-bytes = refl
 
-  pub key-digit : x ≡ k → isDigit k ≡ true → true ≡ isKeyByte x k
-  unfolding isDigit
-  key-digit e d =
-      let c : within 0x41 0x5a x ≡ false = false-if _ (λ q. omega (arith, within-of 0x41 0x5a x q, within-of 0x30 0x39 k d)) in
-      is-key (lower-kept x c ∙ e) (digit-word x (rw e d))
+key-byte : (x k : ℕ) → x < 256 → k < 256 → isKeyLetter k ≡ true → (eqb x k || eqb (bitOr x 0x20) k) ≡ isKeyByte x k
+key-byte x k h l e =
+    let all = every-at 256 (λ k. not (isKeyLetter k) || every 256 (λ x. same (eqb x k || eqb (bitOr x 0x20) k) (isKeyByte x k))) key-bytes k l in
+    same-is _ _ (every-at 256 (λ x. same (eqb x k || eqb (bitOr x 0x20) k) (isKeyByte x k)) (rw e at all) x h)
 
-  pub key-other : x ≡ k → within 0x61 0x7a k ≡ false → isDigit k ≡ false → eqb k 0x5f ≡ isKeyByte x k
-  key-other e s d = go (eqb k 0x5f) refl
-    where
-      go : (t : Bool) → eqb k 0x5f ≡ t → eqb k 0x5f ≡ isKeyByte x k
-      go true q =
-          let z : x ≡ 0x5f = e ∙ eq-of k 0x5f q in
-          let c : within 0x41 0x5a x ≡ false = false-if _ (λ p. omega (arith, within-of 0x41 0x5a x p)) in
-          q ∙ is-key (lower-kept x c ∙ e) (ap isWord z ∙ underscore-word)
-      go false q = q ∙ no-key (λ l w. omega (arith, l, lower-up x (word-capital x w (ap (within 0x61 0x7a) e ∙ s) (ap isDigit e ∙ d) (ap (λ y. eqb y 0x5f) e ∙ q))))
+module _ (x k : ℕ) (h : x < 256) (l : k < 256) (e : isKeyLetter k ≡ true) where
+  pub key-same : x ≡ k → true ≡ isKeyByte x k
+  key-same q = rw (eq-eqb x k q) at (key-byte x k h l e)
 
-  module _ (other : x ≡ k → ⊥) where
-    pub key-neither : within 0x61 0x7a k ≡ false → false ≡ isKeyByte x k
-    unfolding within
-    key-neither s = no-key (λ l w. go l (lower-either x))
-      where
-        go : lower x ≡ k → ((within 0x41 0x5a x ≡ true) × (lower x ≡ x + 32)) ⊎ (lower x ≡ x) → ⊥
-        go l (inl c) =
-            let r = within-of 0x41 0x5a x (c .0) in
-            let t : within 0x61 0x7a k ≡ true = rw (le-leb 0x61 k (omega (arith, c .1)), le-leb k 0x7a (omega (arith, c .1))) in
-            false≢true (sym s ∙ t)
-        go l (inr c) = other (sym c ∙ l)
+  pub key-folded : (x ≡ k → ⊥) → eqb (bitOr x 0x20) k ≡ isKeyByte x k
+  key-folded q = rw (ne-eqb x k q) at (key-byte x k h l e)
 
-    pub key-capital : within 0x61 0x7a k ≡ true → eqb x (k - 32) ≡ isKeyByte x k
-    unfolding within
-    key-capital s = go (eqb x (k - 32)) refl
-      where
-        none : (x ≡ k - 32 → ⊥) → lower x ≡ k → ((within 0x41 0x5a x ≡ true) × (lower x ≡ x + 32)) ⊎ (lower x ≡ x) → ⊥
-        none n l (inl c) = n (omega (arith, c .1))
-        none n l (inr c) = other (sym c ∙ l)
+-- a byte that a keyword can begin with, in either case
+first-letter : (x : ℕ) → isKeyLetter (lower x) ≡ true → isLetter x ≡ true
+unfolding isLetter within
+first-letter x e = go (lower-either x)
+  where
+    small : (a b c : Bool) → (a || c) ≡ true → (a || b || c) ≡ true
+    small true b c q = refl
+    small false true c q = refl
+    small false false c q = q
 
-        go : (t : Bool) → eqb x (k - 32) ≡ t → eqb x (k - 32) ≡ isKeyByte x k
-        go true q =
-            let z = eq-of x (k - 32) q in
-            let r = within-of 0x61 0x7a k s in
-            let c : within 0x41 0x5a x ≡ true = rw (le-leb 0x41 x (omega arith), le-leb x 0x5a (omega arith)) in
-            q ∙ is-key (omega (arith, lower-up x c)) (capital-word x c)
-        go false q = q ∙ no-key (λ l w. none (eqb-false x (k - 32) q) l (lower-either x))
+    go : ((within 0x41 0x5a x ≡ true) × (lower x ≡ x + 32)) ⊎ (lower x ≡ x) → isLetter x ≡ true
+    go (inl c) = capital-letter x (c .0)
+    go (inr c) = small (within 0x61 0x7a x) (within 0x41 0x5a x) (eqb x 0x5f) (rw c at e)
+
+-- the bytes of a keyword one by one
+letter-at : (k : List ℕ) → areKeyLetters k ≡ true → (i : ℕ) → i < length k → isKeyLetter (getD k i 0) ≡ true
+letter-at [] e i h = absurd (omega arith)
+letter-at (x ∷ k) e zero h = and-left (isKeyLetter x) (areKeyLetters k) e
+letter-at (x ∷ k) e (suc i) h = letter-at k (and-right (isKeyLetter x) (areKeyLetters k) e) i (omega arith)
+
+pub key-letter : (k : List ℕ) → isKey k ≡ true → (i : ℕ) → i < length k → isKeyLetter (getD k i 0) ≡ true
+key-letter [] e i h = absurd (omega arith)
+key-letter (x ∷ k) e i h = letter-at (x ∷ k) e i h
+
+key-some : (k : List ℕ) → isKey k ≡ true → 0 < length k
+key-some [] e = absurd (false≢true e)
+key-some (x ∷ k) e = omega arith
+
+-- all of the first i bytes are a keyword's
+abbrev pub KeyLetters : List ℕ → ℕ → Type 0
+KeyLetters k i = (i ≤ length k) × ((j : ℕ) → j < i → isKeyLetter (getD k j 0) ≡ true)
+
+letters-are : (k : List ℕ) → ((j : ℕ) → j < length k → isKeyLetter (getD k j 0) ≡ true) → areKeyLetters k ≡ true
+letters-are [] h = refl
+letters-are (x ∷ k) h = rw (h 0 (omega arith)) (letters-are k (λ j l. h (suc j) (omega arith)))
+
+pub is-key-not : (k : List ℕ) (i : ℕ) → i < length k → isKeyLetter (getD k i 0) ≡ false → false ≡ isKey k
+is-key-not k i h e = sym (false-if (isKey k) (λ q. false≢true (sym e ∙ key-letter k q i h)))
+
+pub is-key-end : (k : List ℕ) (i : ℕ) → KeyLetters k i → length k ≤ i → ltb 0 i ≡ isKey k
+is-key-end k i h le = let z : i ≡ length k = omega (arith, h .0) in rw z (all k (λ j l. h .1 j (omega arith)))
+  where
+    all : (k : List ℕ) → ((j : ℕ) → j < length k → isKeyLetter (getD k j 0) ≡ true) → ltb 0 (length k) ≡ isKey k
+    all [] h = refl
+    all (x ∷ k) h = lt-ltb 0 (length (x ∷ k)) (omega arith) ∙ sym (letters-are (x ∷ k) h)
 
 -- the letters at the front of eight bytes, told by the number of the bytes
 module _ (u : List ℕ) (i w m : ℕ) (b : Bytes (λ j. getD u j 0)) (e : w ≡ pack 8 (bytesFrom u i)) (d : m ≡ failing isAlpha w) (le : i + 8 ≤ length u) {to : ℕ} (r : RunAt isWord u to i) where
@@ -315,6 +315,11 @@ key-more k u i h lt e =
 pub key-end : (k u : List ℕ) (i : ℕ) → KeyAt k u i → length k ≤ i → KeyAt k u (length k)
 key-end k u i h le = let z : i ≡ length k = omega (arith, h .inside) in rw z at h
 
+-- eight bytes at once
+pub key-eight : (k u : List ℕ) → isKey k ≡ true → length k ≤ length u → 8 ≤ length k → Bytes (λ j. getD u j 0) → Bytes (λ j. getD k j 0) → pack 8 (bytesFrom u 0) ≡ pack 8 (bytesFrom k 0) → KeyAt k u 8
+key-eight k u key le eight p q e = turns (KeyAt k u) 0 8 (key-start k u le) λ j l h.
+    key-more k u (0 + j) h (omega arith) (sym (key-same _ _ (p (0 + j)) (q (0 + j)) (key-letter k key (0 + j) (omega arith)) (pack-alike 8 (bytesFrom u 0) (bytesFrom k 0) (λ j. p (0 + j)) (λ j. q (0 + j)) e j l)))
+
 pub key-none : (t : Bool) (k : List ℕ) (b : ℕ) (u : List ℕ) → HasKey t k u → t ≡ false → fail b ≡ keyword k b u
 key-none t k b u h e = (rw e at h) b
 
@@ -343,7 +348,7 @@ module _ (k : List ℕ) (b : ℕ) (u : List ℕ) where
   key-no-byte i lt e = key-differs i lt (λ l w. false≢true (sym e ∙ rw (eq-eqb (lower (getD u i 0)) (getD k i 0) l, w)))
 
 -- a longer word is not the keyword; one that ends there is
-module _ (k u : List ℕ) (h : KeyAt k u (length k)) where
+module _ (k u : List ℕ) (key : isKey k ≡ true) (h : KeyAt k u (length k)) where
   pub key-longer : isWord (getD u (length k) 0) ≡ true → (b : ℕ) → fail b ≡ keyword k b u
   key-longer w b = not-keyword k b u λ e. omega (arith, word-agrees _ _ e .0, run-longer u (length k) (h .word) w)
 
@@ -351,15 +356,11 @@ module _ (k u : List ℕ) (h : KeyAt k u (length k)) where
     key-size : length k ≡ length (takeWhile isWord u)
     key-size = omega (arith, h .word, run-shorter u (length k) w)
 
-    pub key-end-at : (b : ℕ) → length k ≡ wordEnd u (b - b)
-    key-end-at b = let z : b - b ≡ 0 = omega arith in rw z (omega (arith, key-size))
+    key-begins : isLetter (getD u 0 0) ≡ true
+    key-begins = let some = key-some k key in first-letter (getD u 0 0) (rw (h .agree 0 some) (key-letter k key 0 some))
 
-    pub key-whole : (b : ℕ) → parse-id b u ≡ keyword k b u
-    key-whole b = go (isLetter (getD u 0 0)) refl
-      where
-        bytes : (j : ℕ) → j < length k → lower (getD (takeWhile isWord u) j 0) ≡ getD k j 0
-        bytes j l = ap lower (run-byte isWord u j (omega (arith, h .word))) ∙ h .agree j l
+    key-bytes-at : (j : ℕ) → j < length k → lower (getD (takeWhile isWord u) j 0) ≡ getD k j 0
+    key-bytes-at j l = ap lower (run-byte isWord u j (omega (arith, h .word))) ∙ h .agree j l
 
-        go : (t : Bool) → isLetter (getD u 0 0) ≡ t → parse-id b u ≡ keyword k b u
-        go false e = sym (parse-id-no b u e) ∙ keyword-no-word k b u e
-        go true e = parse-id-run b u e ∙ sym (keyword-same k b u e (agrees-word _ _ (sym key-size) bytes))
+    pub key-read : (b : ℕ) → ok (wordAt b u (b + length k)) (b + length k) (drop (b + length k - b) u) ≡ keyword k b u
+    key-read b = parse-id-yes b u (length k) key-begins key-size ∙ (parse-id-run b u key-begins ∙ sym (keyword-same k b u key-begins (agrees-word _ _ (sym key-size) key-bytes-at)))

@@ -26,7 +26,7 @@ slice-aggregate-keyword : tie.Need-slice-aggregate-keyword
 slice-aggregate-keyword c = search needs
 
 keyword-requires : tie.Need-keyword-requires
-keyword-requires c κs = omega (arith, c .before .rest-at .ensures .size, c .before .before .before .before .before .pre)
+keyword-requires c κs = (omega (arith, c .before .rest-at .ensures .size, c .before .before .before .before .before .pre), search needs)
 
 enum-known-attribute : tie.Need-enum-known-attribute
 enum-known-attribute c = c .match .keys1

@@ -26,10 +26,10 @@ is-lower-requires : tie.Need-is-lower-requires
 is-lower-requires c κs = let t = (keyword-took (rest-self _ _) (c .before .word .given .1) (c .before .before .before .before .before .before .args .key .now) (c .before .before .before .keyword .ensures)) in omega (arith, t .up, t .inside)
 
 returns-2 : tie.Need-returns-2
-returns-2 c = operation-is (c .before .before .before .before .before .before .before .before .args .key .now) (c .before .before .before .before .before .keyword .ensures) (c .before .before .before .word .given .1) (c .before .before .before .before .before .before .before .before .args .operation) (c .before .before .before .before .before .before .before .before .pre .1) true (sym (c .before .is-lower .ensures) ∙ c .if1 .taken)
+returns-2 c = operation-is (c .before .before .before .before .before .before .before .before .args .key .now) (c .before .before .before .before .before .keyword .ensures) (c .before .before .before .word .given .1) (c .before .before .before .before .before .before .before .before .args .operation) (c .before .before .before .before .before .before .before .before .pre .1 .0) true (sym (c .before .is-lower .ensures) ∙ c .if1 .taken)
 
 returns-3 : tie.Need-returns-3
-returns-3 c = operation-is (c .before .before .before .before .before .before .before .before .args .key .now) (c .before .before .before .before .before .keyword .ensures) (c .before .before .before .word .given .1) (c .before .before .before .before .before .before .before .before .args .operation) (c .before .before .before .before .before .before .before .before .pre .1) false (sym (c .before .is-lower .ensures) ∙ c .if1 .left)
+returns-3 c = operation-is (c .before .before .before .before .before .before .before .before .args .key .now) (c .before .before .before .before .before .keyword .ensures) (c .before .before .before .word .given .1) (c .before .before .before .before .before .before .before .before .args .operation) (c .before .before .before .before .before .before .before .before .pre .1 .0) false (sym (c .before .is-lower .ensures) ∙ c .if1 .left)
 
 pub operation-by-spec : {M : Type 1} → statement M
 operation-by-spec =

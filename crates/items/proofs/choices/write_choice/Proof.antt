@@ -11,7 +11,7 @@ use Rattle.items.proofs.writing.Laws.{written-same}
 use Rattle.items.proofs.choices.Laws.{choice-head-onward, entries-list-onward, choice-headed, choice-first-is, choice-in-limit}
 
 choice-head-requires : tie.Need-choice-head-requires
-choice-head-requires c κs = (c .before .before .before .pre .0, c .before .before .before .pre .1 .0)
+choice-head-requires c κs = (c .before .before .before .pre .0, (c .before .before .before .pre .1 .0, c .before .before .before .pre .1 .1 .1 .1))
 
 enum-known-head : tie.Need-enum-known-head
 enum-known-head c = c .match .keys1
@@ -20,25 +20,25 @@ enum-told : tie.Need-enum-told
 enum-told c = c .match .keys2
 
 returns : tie.Need-returns
-returns c = absurd (headed-found (choice-headed _) (frontOf (c .before .before .before .before .before .before .args .front)) (c .before .before .before .before .before .before .pre .1 .1 .1) (c .enum-told .given .0 .0) (read-lost (c .before .before .choice-head .ensures) (c .enum-told .given .1) choiceHeadLost (sym (ap choiceHeadLost (c .enum-told .given .1))) refl))
+returns c = absurd (headed-found (choice-headed _) (frontOf (c .before .before .before .before .before .before .args .front)) (c .before .before .before .before .before .before .pre .1 .1 .1 .0) (c .enum-told .given .0 .0) (read-lost (c .before .before .choice-head .ensures) (c .enum-told .given .1) choiceHeadLost (sym (ap choiceHeadLost (c .enum-told .given .1))) refl))
 
 rest-at-requires : tie.Need-rest-at-requires
 rest-at-requires c κs = omega (arith, (read-took (c .before .before .before .choice-head .ensures) (c .before .head .given .1) (choice-head-onward _) (rest-self _ _) refl) .up, (read-took (c .before .before .before .choice-head .ensures) (c .before .head .given .1) (choice-head-onward _) (rest-self _ _) refl) .inside)
 
 add-write-entries-list : tie.Need-add-write-entries-list
-add-write-entries-list c = let z = (headed-room (choice-headed _) (frontOf (c .before .before .before .before .before .before .before .before .before .args .front)) (c .before .before .before .before .before .before .before .before .before .pre .1 .1 .1) entries-list-onward (read-took (c .before .before .before .before .before .choice-head .ensures) (c .before .before .before .head .given .1) (choice-head-onward _) (rest-self _ _) refl) (c .before .rest-at .ensures)) in omega (arith, z .fits)
+add-write-entries-list c = let z = (headed-room (choice-headed _) (frontOf (c .before .before .before .before .before .before .before .before .before .args .front)) (c .before .before .before .before .before .before .before .before .before .pre .1 .1 .1 .0) entries-list-onward (read-took (c .before .before .before .before .before .choice-head .ensures) (c .before .before .before .head .given .1) (choice-head-onward _) (rest-self _ _) refl) (c .before .rest-at .ensures)) in omega (arith, z .fits)
 
 write-entries-list-requires : tie.Need-write-entries-list-requires
-write-entries-list-requires c κs = (omega (arith, c .before .rest-at .ensures .size, c .before .before .before .before .before .before .before .before .before .pre .0), (headed-room (choice-headed _) (frontOf (c .before .before .before .before .before .before .before .before .before .args .front)) (c .before .before .before .before .before .before .before .before .before .pre .1 .1 .1) entries-list-onward (read-took (c .before .before .before .before .before .choice-head .ensures) (c .before .before .before .head .given .1) (choice-head-onward _) (rest-self _ _) refl) (c .before .rest-at .ensures)))
+write-entries-list-requires c κs = (omega (arith, c .before .rest-at .ensures .size, c .before .before .before .before .before .before .before .before .before .pre .0), (headed-room (choice-headed _) (frontOf (c .before .before .before .before .before .before .before .before .before .args .front)) (c .before .before .before .before .before .before .before .before .before .pre .1 .1 .1 .0) entries-list-onward (read-took (c .before .before .before .before .before .choice-head .ensures) (c .before .before .before .head .given .1) (choice-head-onward _) (rest-self _ _) refl) (c .before .rest-at .ensures)))
 
 put-choice-requires : tie.Need-put-choice-requires
-put-choice-requires c κs = let z = (headed-room (choice-headed _) (frontOf (c .before .before .before .before .before .before .before .before .before .before .before .before .before .args .front)) (c .before .before .before .before .before .before .before .before .before .before .before .before .before .pre .1 .1 .1) entries-list-onward (read-took (c .before .before .before .before .before .before .before .before .before .choice-head .ensures) (c .before .before .before .before .before .before .before .head .given .1) (choice-head-onward _) (rest-self _ _) refl) (c .before .before .before .before .before .rest-at .ensures)) in let y = written-same z (c .before .before .before .write-entries-list .ensures) refl in (omega (arith, z .fits, y), (c .before .before .before .before .before .before .before .before .before .before .before .before .before .pre .1 .1 .0, choice-in-limit (read-within (c .before .before .before .before .before .before .before .before .before .choice-head .ensures) (c .before .before .before .before .before .before .before .head .given .1)) (omega (arith, (read-took (c .before .before .before .before .before .before .before .before .before .choice-head .ensures) (c .before .before .before .before .before .before .before .head .given .1) (choice-head-onward _) (rest-self _ _) refl) .inside, c .before .before .before .before .before .before .before .before .before .before .before .before .before .pre .0))))
+put-choice-requires c κs = let z = (headed-room (choice-headed _) (frontOf (c .before .before .before .before .before .before .before .before .before .before .before .before .before .args .front)) (c .before .before .before .before .before .before .before .before .before .before .before .before .before .pre .1 .1 .1 .0) entries-list-onward (read-took (c .before .before .before .before .before .before .before .before .before .choice-head .ensures) (c .before .before .before .before .before .before .before .head .given .1) (choice-head-onward _) (rest-self _ _) refl) (c .before .before .before .before .before .rest-at .ensures)) in let y = written-same z (c .before .before .before .write-entries-list .ensures) refl in (omega (arith, z .fits, y), (c .before .before .before .before .before .before .before .before .before .before .before .before .before .pre .1 .1 .0, choice-in-limit (read-within (c .before .before .before .before .before .before .before .before .before .choice-head .ensures) (c .before .before .before .before .before .before .before .head .given .1)) (omega (arith, (read-took (c .before .before .before .before .before .before .before .before .before .choice-head .ensures) (c .before .before .before .before .before .before .before .head .given .1) (choice-head-onward _) (rest-self _ _) refl) .inside, c .before .before .before .before .before .before .before .before .before .before .before .before .before .pre .0))))
 
 same-length : tie.Need-same-length
-same-length c = written-same (c .before .before .before .before .before .before .before .before .before .before .before .before .before .before .before .before .pre .1 .1 .1) (headed-written (choice-headed _) (frontOf (c .before .before .before .before .before .before .before .before .before .before .before .before .before .before .before .before .args .front)) (c .before .before .before .before .before .before .before .before .before .before .before .before .before .before .before .before .pre .1 .1 .1) entries-list-onward (read-took (c .before .before .before .before .before .before .before .before .before .before .before .before .choice-head .ensures) (c .before .before .before .before .before .before .before .before .before .before .head .given .1) (choice-head-onward _) (rest-self _ _) refl) (c .before .before .before .before .before .before .before .before .rest-at .ensures) (c .before .before .before .before .before .before .write-entries-list .ensures) refl (choice-first-is (c .before .before .before .before .before .before .before .before .before .before .before .before .before .before .before .before .args .front) (c .before .before .before .before .before .before .before .before .before .before .before .before .before .before .before .before .args .key .now) _ (c .before .before .before .before .before .before .before .before .before .before .before .before .before .before .before .before .args .part .now) _ _ _ (read-within (c .before .before .before .before .before .before .before .before .before .before .before .before .choice-head .ensures) (c .before .before .before .before .before .before .before .before .before .before .head .given .1)) ((read-took (c .before .before .before .before .before .before .before .before .before .before .before .before .choice-head .ensures) (c .before .before .before .before .before .before .before .before .before .before .head .given .1) (choice-head-onward _) (rest-self _ _) refl) .inside)) (c .before .before .put-choice .ensures)) refl
+same-length c = written-same (c .before .before .before .before .before .before .before .before .before .before .before .before .before .before .before .before .pre .1 .1 .1 .0) (headed-written (choice-headed _) (frontOf (c .before .before .before .before .before .before .before .before .before .before .before .before .before .before .before .before .args .front)) (c .before .before .before .before .before .before .before .before .before .before .before .before .before .before .before .before .pre .1 .1 .1 .0) entries-list-onward (read-took (c .before .before .before .before .before .before .before .before .before .before .before .before .choice-head .ensures) (c .before .before .before .before .before .before .before .before .before .before .head .given .1) (choice-head-onward _) (rest-self _ _) refl) (c .before .before .before .before .before .before .before .before .rest-at .ensures) (c .before .before .before .before .before .before .write-entries-list .ensures) refl (choice-first-is (c .before .before .before .before .before .before .before .before .before .before .before .before .before .before .before .before .args .front) (c .before .before .before .before .before .before .before .before .before .before .before .before .before .before .before .before .args .key .now) _ (c .before .before .before .before .before .before .before .before .before .before .before .before .before .before .before .before .args .part .now) _ _ _ (read-within (c .before .before .before .before .before .before .before .before .before .before .before .before .choice-head .ensures) (c .before .before .before .before .before .before .before .before .before .before .head .given .1)) ((read-took (c .before .before .before .before .before .before .before .before .before .before .before .before .choice-head .ensures) (c .before .before .before .before .before .before .before .before .before .before .head .given .1) (choice-head-onward _) (rest-self _ _) refl) .inside)) (c .before .before .put-choice .ensures)) refl
 
 returns-2 : tie.Need-returns-2
-returns-2 c = (headed-written (choice-headed _) (frontOf (c .before .before .before .before .before .before .before .before .before .before .before .before .before .before .before .before .args .front)) (c .before .before .before .before .before .before .before .before .before .before .before .before .before .before .before .before .pre .1 .1 .1) entries-list-onward (read-took (c .before .before .before .before .before .before .before .before .before .before .before .before .choice-head .ensures) (c .before .before .before .before .before .before .before .before .before .before .head .given .1) (choice-head-onward _) (rest-self _ _) refl) (c .before .before .before .before .before .before .before .before .rest-at .ensures) (c .before .before .before .before .before .before .write-entries-list .ensures) refl (choice-first-is (c .before .before .before .before .before .before .before .before .before .before .before .before .before .before .before .before .args .front) (c .before .before .before .before .before .before .before .before .before .before .before .before .before .before .before .before .args .key .now) _ (c .before .before .before .before .before .before .before .before .before .before .before .before .before .before .before .before .args .part .now) _ _ _ (read-within (c .before .before .before .before .before .before .before .before .before .before .before .before .choice-head .ensures) (c .before .before .before .before .before .before .before .before .before .before .head .given .1)) ((read-took (c .before .before .before .before .before .before .before .before .before .before .before .before .choice-head .ensures) (c .before .before .before .before .before .before .before .before .before .before .head .given .1) (choice-head-onward _) (rest-self _ _) refl) .inside)) (c .before .before .put-choice .ensures))
+returns-2 c = (headed-written (choice-headed _) (frontOf (c .before .before .before .before .before .before .before .before .before .before .before .before .before .before .before .before .args .front)) (c .before .before .before .before .before .before .before .before .before .before .before .before .before .before .before .before .pre .1 .1 .1 .0) entries-list-onward (read-took (c .before .before .before .before .before .before .before .before .before .before .before .before .choice-head .ensures) (c .before .before .before .before .before .before .before .before .before .before .head .given .1) (choice-head-onward _) (rest-self _ _) refl) (c .before .before .before .before .before .before .before .before .rest-at .ensures) (c .before .before .before .before .before .before .write-entries-list .ensures) refl (choice-first-is (c .before .before .before .before .before .before .before .before .before .before .before .before .before .before .before .before .args .front) (c .before .before .before .before .before .before .before .before .before .before .before .before .before .before .before .before .args .key .now) _ (c .before .before .before .before .before .before .before .before .before .before .before .before .before .before .before .before .args .part .now) _ _ _ (read-within (c .before .before .before .before .before .before .before .before .before .before .before .before .choice-head .ensures) (c .before .before .before .before .before .before .before .before .before .before .head .given .1)) ((read-took (c .before .before .before .before .before .before .before .before .before .before .before .before .choice-head .ensures) (c .before .before .before .before .before .before .before .before .before .before .head .given .1) (choice-head-onward _) (rest-self _ _) refl) .inside)) (c .before .before .put-choice .ensures))
 
 pub write-choice-spec : {M : Type 1} → statement M
 write-choice-spec =

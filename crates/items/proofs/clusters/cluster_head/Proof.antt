@@ -40,7 +40,7 @@ slice-aggregate-keyword-name : tie.Need-slice-aggregate-keyword-name
 slice-aggregate-keyword-name c = search needs
 
 keyword-name-requires : tie.Need-keyword-name-requires
-keyword-name-requires c κs = omega (arith, c .before .rest-at .ensures .size, c .before .before .before .before .before .before .before .before .pre)
+keyword-name-requires c κs = (omega (arith, c .before .rest-at .ensures .size, c .before .before .before .before .before .before .before .before .pre), search needs)
 
 enum-known-named : tie.Need-enum-known-named
 enum-known-named c = c .match2 .keys1

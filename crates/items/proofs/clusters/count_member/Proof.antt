@@ -1,6 +1,7 @@
 use borrow.Author.Needs.{needs}
 use Rattle.items.proofs.clusters.count_member.Statement.{statement}
 use Rattle.items.proofs.clusters.count_member.Tie as tie
+use mathlib.Core.Path.{refl}
 use Rattle.lexing.specs.answers.{docOf}
 use Rattle.items.proofs.clusters.Laws.{from-kind, kind-counts, counts-revision, counts-bitmap, counts-enum, counts-struct, counts-attribute, counts-command, counts-event, counts-unknown}
 
@@ -17,7 +18,7 @@ slice-aggregate-choice-after-doc-maturity : tie.Need-slice-aggregate-choice-afte
 slice-aggregate-choice-after-doc-maturity c = search needs
 
 choice-after-doc-maturity-requires : tie.Need-choice-after-doc-maturity-requires
-choice-after-doc-maturity-requires c κs = (c .before .before .before .before .pre .0, from-kind (c .before .before .before .before .args .k .from) (c .before .before .before .before .args .base) (c .before .before .before .before .args .part .now) (c .before .enum-told2 .given .1) (c .before .before .before .before .pre .1))
+choice-after-doc-maturity-requires c κs = (c .before .before .before .before .pre .0, (from-kind (c .before .before .before .before .args .k .from) (c .before .before .before .before .args .base) (c .before .before .before .before .args .part .now) (c .before .enum-told2 .given .1) (c .before .before .before .before .pre .1), refl))
 
 enum-told-3 : tie.Need-enum-told-3
 enum-told-3 c = c .match .keys3
@@ -26,7 +27,7 @@ slice-aggregate-choice-after-doc-maturity-2 : tie.Need-slice-aggregate-choice-af
 slice-aggregate-choice-after-doc-maturity-2 c = search needs
 
 choice-after-doc-maturity-requires-2 : tie.Need-choice-after-doc-maturity-requires-2
-choice-after-doc-maturity-requires-2 c κs = (c .before .before .before .before .pre .0, from-kind (c .before .before .before .before .args .k .from) (c .before .before .before .before .args .base) (c .before .before .before .before .args .part .now) (c .before .enum-told3 .given .1) (c .before .before .before .before .pre .1))
+choice-after-doc-maturity-requires-2 c κs = (c .before .before .before .before .pre .0, (from-kind (c .before .before .before .before .args .k .from) (c .before .before .before .before .args .base) (c .before .before .before .before .args .part .now) (c .before .enum-told3 .given .1) (c .before .before .before .before .pre .1), refl))
 
 enum-told-4 : tie.Need-enum-told-4
 enum-told-4 c = c .match .keys4

@@ -23,7 +23,7 @@ slice-aggregate-starts : tie.Need-slice-aggregate-starts
 slice-aggregate-starts c = search needs
 
 starts-requires : tie.Need-starts-requires
-starts-requires c κs = omega (arith, c .before .rest-at2 .ensures .size, c .before .before .before .before .before .before .pre .0)
+starts-requires c κs = (omega (arith, c .before .rest-at2 .ensures .size, c .before .before .before .before .before .before .pre .0), refl)
 
 returns-2 : tie.Need-returns-2
 returns-2 c = kind-bitmap _ _ (c .before .before .before .before .before .before .before .before .pre .1 .0) _ (c .before .before .before .before .before .before .before .before .pre .1 .1) (c .before .before .before .before .before .before .rest-at .ensures) _ (c .before .before .before .before .before .whitespace0 .ensures) (c .before .before .before .before .if1 .left) (rest-starts (c .before .before .before .rest-at2 .ensures) (ascii "bitmap") (c .before .starts .ensures) (c .if2 .taken))
@@ -32,7 +32,7 @@ slice-aggregate-starts-2 : tie.Need-slice-aggregate-starts-2
 slice-aggregate-starts-2 c = search needs
 
 starts-requires-2 : tie.Need-starts-requires-2
-starts-requires-2 c κs = omega (arith, c .before .before .before .before .rest-at2 .ensures .size, c .before .before .before .before .before .before .before .before .before .pre .0)
+starts-requires-2 c κs = (omega (arith, c .before .before .before .before .rest-at2 .ensures .size, c .before .before .before .before .before .before .before .before .before .pre .0), refl)
 
 returns-3 : tie.Need-returns-3
 returns-3 c = kind-enum _ _ (c .before .before .before .before .before .before .before .before .before .before .before .pre .1 .0) _ (c .before .before .before .before .before .before .before .before .before .before .before .pre .1 .1) (c .before .before .before .before .before .before .before .before .before .rest-at .ensures) _ (c .before .before .before .before .before .before .before .before .whitespace0 .ensures) (c .before .before .before .before .before .before .before .if1 .left) (rest-starts (c .before .before .before .before .before .before .rest-at2 .ensures) (ascii "enum") (c .before .starts2 .ensures) (c .if3 .taken))

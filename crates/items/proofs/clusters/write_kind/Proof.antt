@@ -24,7 +24,7 @@ slice-aggregate-write-choice : tie.Need-slice-aggregate-write-choice
 slice-aggregate-write-choice c = search needs
 
 write-choice-requires : tie.Need-write-choice-requires
-write-choice-requires c κs = (c .before .before .before .before .before .before .pre .0, (from-kind (c .before .before .before .before .before .before .args .k .from) (c .before .before .before .before .before .before .args .base) (c .before .before .before .before .before .before .args .part .now) (c .before .before .enum-told2 .given .1) (c .before .before .before .before .before .before .pre .1 .0), (record { place-fits = omega arith; maturity-fits = c .before .before .before .before .before .before .pre .1 .1 .1 .0; doc-fits = c .before .before .before .before .before .before .pre .1 .1 .0 }, kind-room (bitmaps (docOf (c .before .before .before .before .before .before .args .doc)) (c .before .before .before .before .before .before .args .maturity)) (c .before .before .enum-told2 .given .1) _ _ (c .before .before .before .before .before .before .pre .1 .1 .1 .1))))
+write-choice-requires c κs = (c .before .before .before .before .before .before .pre .0, (from-kind (c .before .before .before .before .before .before .args .k .from) (c .before .before .before .before .before .before .args .base) (c .before .before .before .before .before .before .args .part .now) (c .before .before .enum-told2 .given .1) (c .before .before .before .before .before .before .pre .1 .0), (record { place-fits = omega arith; maturity-fits = c .before .before .before .before .before .before .pre .1 .1 .1 .0; doc-fits = c .before .before .before .before .before .before .pre .1 .1 .0 }, (kind-room (bitmaps (docOf (c .before .before .before .before .before .before .args .doc)) (c .before .before .before .before .before .before .args .maturity)) (c .before .before .enum-told2 .given .1) _ _ (c .before .before .before .before .before .before .pre .1 .1 .1 .1), refl))))
 
 kept-requires : tie.Need-kept-requires
 kept-requires c κs = tt
@@ -36,7 +36,7 @@ slice-aggregate-write-choice-2 : tie.Need-slice-aggregate-write-choice-2
 slice-aggregate-write-choice-2 c = search needs
 
 write-choice-requires-2 : tie.Need-write-choice-requires-2
-write-choice-requires-2 c κs = (c .before .before .before .before .before .before .pre .0, (from-kind (c .before .before .before .before .before .before .args .k .from) (c .before .before .before .before .before .before .args .base) (c .before .before .before .before .before .before .args .part .now) (c .before .before .enum-told3 .given .1) (c .before .before .before .before .before .before .pre .1 .0), (record { place-fits = omega arith; maturity-fits = c .before .before .before .before .before .before .pre .1 .1 .1 .0; doc-fits = c .before .before .before .before .before .before .pre .1 .1 .0 }, kind-room (enums (docOf (c .before .before .before .before .before .before .args .doc)) (c .before .before .before .before .before .before .args .maturity)) (c .before .before .enum-told3 .given .1) _ _ (c .before .before .before .before .before .before .pre .1 .1 .1 .1))))
+write-choice-requires-2 c κs = (c .before .before .before .before .before .before .pre .0, (from-kind (c .before .before .before .before .before .before .args .k .from) (c .before .before .before .before .before .before .args .base) (c .before .before .before .before .before .before .args .part .now) (c .before .before .enum-told3 .given .1) (c .before .before .before .before .before .before .pre .1 .0), (record { place-fits = omega arith; maturity-fits = c .before .before .before .before .before .before .pre .1 .1 .1 .0; doc-fits = c .before .before .before .before .before .before .pre .1 .1 .0 }, (kind-room (enums (docOf (c .before .before .before .before .before .before .args .doc)) (c .before .before .before .before .before .before .args .maturity)) (c .before .before .enum-told3 .given .1) _ _ (c .before .before .before .before .before .before .pre .1 .1 .1 .1), refl))))
 
 kept-requires-2 : tie.Need-kept-requires-2
 kept-requires-2 c κs = tt

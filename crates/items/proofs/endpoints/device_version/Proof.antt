@@ -28,7 +28,7 @@ slice-aggregate-keyword-behind : tie.Need-slice-aggregate-keyword-behind
 slice-aggregate-keyword-behind c = search needs
 
 keyword-behind-requires : tie.Need-keyword-behind-requires
-keyword-behind-requires c κs = let t = tag-behind-took 44 (c .before .before .comma .given .1) (c .before .before .before .before .tag-behind .ensures) in omega (arith, t .up, t .inside, c .before .before .before .before .before .before .pre)
+keyword-behind-requires c κs = let t = tag-behind-took 44 (c .before .before .comma .given .1) (c .before .before .before .before .tag-behind .ensures) in (omega (arith, t .up, t .inside, c .before .before .before .before .before .before .pre), search needs)
 
 enum-known-key : tie.Need-enum-known-key
 enum-known-key c = c .match2 .keys1

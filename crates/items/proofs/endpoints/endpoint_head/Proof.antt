@@ -18,7 +18,7 @@ slice-aggregate-keyword-number : tie.Need-slice-aggregate-keyword-number
 slice-aggregate-keyword-number c = search needs
 
 keyword-number-requires : tie.Need-keyword-number-requires
-keyword-number-requires c κs = omega (arith, c .before .rest-at .ensures .size, c .before .before .before .before .pre)
+keyword-number-requires c κs = (omega (arith, c .before .rest-at .ensures .size, c .before .before .before .before .pre), search needs)
 
 enum-known-number : tie.Need-enum-known-number
 enum-known-number c = c .match .keys1

@@ -24,7 +24,7 @@ slice-aggregate-name-behind-2 : tie.Need-slice-aggregate-name-behind-2
 slice-aggregate-name-behind-2 c = search needs
 
 name-behind-requires : tie.Need-name-behind-requires
-name-behind-requires c κs = omega (arith, c .before .before .rest-at .ensures .size, c .before .before .before .before .before .pre)
+name-behind-requires c κs = (omega (arith, c .before .before .rest-at .ensures .size, c .before .before .before .before .before .pre), search needs)
 
 enum-known-named : tie.Need-enum-known-named
 enum-known-named c = c .match .keys1

@@ -1,6 +1,7 @@
 use borrow.Author.Needs.{needs}
 use Rattle.items.proofs.items.count_declaration.Statement.{statement}
 use Rattle.items.proofs.items.count_declaration.Tie as tie
+use mathlib.Core.Path.{refl}
 use Rattle.items.proofs.items.Laws.{from-kind, clusters, endpoints, enums, bitmaps, structs, top, kind-counted, kind-unknown}
 
 enum-told : tie.Need-enum-told
@@ -22,7 +23,7 @@ slice-aggregate-choice-after-doc-maturity : tie.Need-slice-aggregate-choice-afte
 slice-aggregate-choice-after-doc-maturity c = search needs
 
 choice-after-doc-maturity-requires : tie.Need-choice-after-doc-maturity-requires
-choice-after-doc-maturity-requires c κs = (c .before .before .before .before .pre .0, from-kind (c .before .before .before .before .args .s .from) (c .before .before .before .before .args .s .next) (c .before .before .before .before .args .part .now) (c .before .enum-told3 .given .1) (c .before .before .before .before .pre .1))
+choice-after-doc-maturity-requires c κs = (c .before .before .before .before .pre .0, (from-kind (c .before .before .before .before .args .s .from) (c .before .before .before .before .args .s .next) (c .before .before .before .before .args .part .now) (c .before .enum-told3 .given .1) (c .before .before .before .before .pre .1), refl))
 
 enum-told-4 : tie.Need-enum-told-4
 enum-told-4 c = c .match .keys4
@@ -31,7 +32,7 @@ slice-aggregate-choice-after-doc-maturity-2 : tie.Need-slice-aggregate-choice-af
 slice-aggregate-choice-after-doc-maturity-2 c = search needs
 
 choice-after-doc-maturity-requires-2 : tie.Need-choice-after-doc-maturity-requires-2
-choice-after-doc-maturity-requires-2 c κs = (c .before .before .before .before .pre .0, from-kind (c .before .before .before .before .args .s .from) (c .before .before .before .before .args .s .next) (c .before .before .before .before .args .part .now) (c .before .enum-told4 .given .1) (c .before .before .before .before .pre .1))
+choice-after-doc-maturity-requires-2 c κs = (c .before .before .before .before .pre .0, (from-kind (c .before .before .before .before .args .s .from) (c .before .before .before .before .args .s .next) (c .before .before .before .before .args .part .now) (c .before .enum-told4 .given .1) (c .before .before .before .before .pre .1), refl))
 
 enum-told-5 : tie.Need-enum-told-5
 enum-told-5 c = c .match .keys5

@@ -27,7 +27,7 @@ slice-aggregate-write-choice : tie.Need-slice-aggregate-write-choice
 slice-aggregate-write-choice c = search needs
 
 write-choice-requires : tie.Need-write-choice-requires
-write-choice-requires c κs = (c .before .before .before .before .before .before .pre .0, (from-kind (c .before .before .before .before .before .before .args .s .from) (c .before .before .before .before .before .before .args .s .next) (c .before .before .before .before .before .before .args .part .now) (c .before .before .enum-told3 .given .1) (c .before .before .before .before .before .before .pre .1 .0), (record { place-fits = omega arith; maturity-fits = c .before .before .before .before .before .before .pre .1 .1 .1 .0; doc-fits = c .before .before .before .before .before .before .pre .1 .1 .0 }, recorded-room (of-kind (docOf (c .before .before .before .before .before .before .args .doc)) (c .before .before .before .before .before .before .args .s .maturity) (c .before .before .enum-told3 .given .1) (enums (docOf (c .before .before .before .before .before .before .args .doc)) (c .before .before .before .before .before .before .args .s .maturity))) (c .before .before .before .before .before .before .pre .1 .1 .1 .1))))
+write-choice-requires c κs = (c .before .before .before .before .before .before .pre .0, (from-kind (c .before .before .before .before .before .before .args .s .from) (c .before .before .before .before .before .before .args .s .next) (c .before .before .before .before .before .before .args .part .now) (c .before .before .enum-told3 .given .1) (c .before .before .before .before .before .before .pre .1 .0), (record { place-fits = omega arith; maturity-fits = c .before .before .before .before .before .before .pre .1 .1 .1 .0; doc-fits = c .before .before .before .before .before .before .pre .1 .1 .0 }, (recorded-room (of-kind (docOf (c .before .before .before .before .before .before .args .doc)) (c .before .before .before .before .before .before .args .s .maturity) (c .before .before .enum-told3 .given .1) (enums (docOf (c .before .before .before .before .before .before .args .doc)) (c .before .before .before .before .before .before .args .s .maturity))) (c .before .before .before .before .before .before .pre .1 .1 .1 .1), refl))))
 
 enum-told-4 : tie.Need-enum-told-4
 enum-told-4 c = c .match .keys4
@@ -36,7 +36,7 @@ slice-aggregate-write-choice-2 : tie.Need-slice-aggregate-write-choice-2
 slice-aggregate-write-choice-2 c = search needs
 
 write-choice-requires-2 : tie.Need-write-choice-requires-2
-write-choice-requires-2 c κs = (c .before .before .before .before .before .before .pre .0, (from-kind (c .before .before .before .before .before .before .args .s .from) (c .before .before .before .before .before .before .args .s .next) (c .before .before .before .before .before .before .args .part .now) (c .before .before .enum-told4 .given .1) (c .before .before .before .before .before .before .pre .1 .0), (record { place-fits = omega arith; maturity-fits = c .before .before .before .before .before .before .pre .1 .1 .1 .0; doc-fits = c .before .before .before .before .before .before .pre .1 .1 .0 }, recorded-room (of-kind (docOf (c .before .before .before .before .before .before .args .doc)) (c .before .before .before .before .before .before .args .s .maturity) (c .before .before .enum-told4 .given .1) (bitmaps (docOf (c .before .before .before .before .before .before .args .doc)) (c .before .before .before .before .before .before .args .s .maturity))) (c .before .before .before .before .before .before .pre .1 .1 .1 .1))))
+write-choice-requires-2 c κs = (c .before .before .before .before .before .before .pre .0, (from-kind (c .before .before .before .before .before .before .args .s .from) (c .before .before .before .before .before .before .args .s .next) (c .before .before .before .before .before .before .args .part .now) (c .before .before .enum-told4 .given .1) (c .before .before .before .before .before .before .pre .1 .0), (record { place-fits = omega arith; maturity-fits = c .before .before .before .before .before .before .pre .1 .1 .1 .0; doc-fits = c .before .before .before .before .before .before .pre .1 .1 .0 }, (recorded-room (of-kind (docOf (c .before .before .before .before .before .before .args .doc)) (c .before .before .before .before .before .before .args .s .maturity) (c .before .before .enum-told4 .given .1) (bitmaps (docOf (c .before .before .before .before .before .before .args .doc)) (c .before .before .before .before .before .before .args .s .maturity))) (c .before .before .before .before .before .before .pre .1 .1 .1 .1), refl))))
 
 enum-told-5 : tie.Need-enum-told-5
 enum-told-5 c = c .match .keys5

@@ -16,7 +16,7 @@ returns : tie.Need-returns
 returns c = by-none _ _ _ _ (c .before .before .keyword .ensures) (c .enum-told .given .1)
 
 returns-2 : tie.Need-returns-2
-returns-2 c = by-word _ _ _ _ (c .before .before .before .before .before .before .pre .1) (c .before .before .before .keyword .ensures) (c .before .word .given .1)
+returns-2 c = by-word _ _ _ _ (c .before .before .before .before .before .before .pre .1 .0) (c .before .before .before .keyword .ensures) (c .before .word .given .1)
 
 pub maturity-by-spec : {M : Type 1} → statement M
 maturity-by-spec =

@@ -1,6 +1,7 @@
 use borrow.Author.Needs.{needs}
 use Rattle.items.proofs.members.access_opening.Statement.{statement}
 use Rattle.items.proofs.members.access_opening.Tie as tie
+use mathlib.Core.Path.{refl}
 use native.Mathlib.Omega.{arith}
 use Rattle.lexing.specs.bytes.{ascii}
 use Rattle.lexing.proofs.steps.Laws.{keyword-behind-took}
@@ -10,7 +11,7 @@ slice-aggregate-keyword-behind : tie.Need-slice-aggregate-keyword-behind
 slice-aggregate-keyword-behind c = search needs
 
 keyword-behind-requires : tie.Need-keyword-behind-requires
-keyword-behind-requires c κs = omega (arith, c .before .before .pre)
+keyword-behind-requires c κs = (omega (arith, c .before .before .pre), refl)
 
 enum-known-access : tie.Need-enum-known-access
 enum-known-access c = c .match .keys1

@@ -1,3 +1,4 @@
+use borrow.Author.Needs.{needs}
 use Rattle.items.proofs.members.access_to.Statement.{statement}
 use Rattle.items.proofs.members.access_to.Tie as tie
 use Rattle.lexing.specs.reply.{_>>_}
@@ -21,10 +22,10 @@ enum-told c = c .match .keys2
 
 returns : tie.Need-returns
 unfolding access-to
-returns c = privilege-none (c .before .before .before .before .before .args .key .now) (c .before .before .before .before .before .args .otherwise) (c .enum-told .given .0 .0) (c .before .before .before .before .before .pre .1) (begin (whitespace0 >> access-to (c .before .before .before .before .before .args .key .now)) _ _ (four-fall _ _ _ _ _ (c .enum-told .given .0 .0) (rest-self _ _) (skip-none (c .enum-told .given .1) (c .before .before .access-opening .ensures))))
+returns c = privilege-none (c .before .before .before .before .before .args .key .now) (c .before .before .before .before .before .args .otherwise) (c .enum-told .given .0 .0) (c .before .before .before .before .before .pre .1 .0) (begin (whitespace0 >> access-to (c .before .before .before .before .before .args .key .now)) _ _ (four-fall _ _ _ _ _ (c .enum-told .given .0 .0) (rest-self _ _) (skip-none (c .enum-told .given .1) (c .before .before .access-opening .ensures))))
 
 keyword-behind-requires : tie.Need-keyword-behind-requires
-keyword-behind-requires c κs = let t = skip-took opening-on (rest-self _ _) (c .before .opening .given .1) (c .before .before .before .access-opening .ensures) in omega (arith, t .up, t .inside, c .before .before .before .before .before .before .pre)
+keyword-behind-requires c κs = let t = skip-took opening-on (rest-self _ _) (c .before .opening .given .1) (c .before .before .before .access-opening .ensures) in (omega (arith, t .up, t .inside, c .before .before .before .before .before .before .pre), search needs)
 
 enum-known-operation : tie.Need-enum-known-operation
 enum-known-operation c = c .match2 .keys1
@@ -34,7 +35,7 @@ enum-told-2 c = c .match2 .keys2
 
 returns-2 : tie.Need-returns-2
 unfolding access-to
-returns-2 c = privilege-none (c .before .before .before .before .before .before .before .before .before .args .key .now) (c .before .before .before .before .before .before .before .before .before .args .otherwise) (c .enum-told2 .given .0 .0) (c .before .before .before .before .before .before .before .before .before .pre .1) (begin (whitespace0 >> access-to (c .before .before .before .before .before .before .before .before .before .args .key .now)) _ _ (four-on _ _ _ _ _ (skip-took opening-on (rest-self _ _) (c .before .before .before .before .opening .given .1) (c .before .before .before .before .before .before .access-opening .ensures)) (pair-fall _ _ _ (c .enum-told2 .given .0 .0) (c .before .before .keyword-behind .ensures .at) (skips-none (c .enum-told2 .given .1) (c .before .before .keyword-behind .ensures)))))
+returns-2 c = privilege-none (c .before .before .before .before .before .before .before .before .before .args .key .now) (c .before .before .before .before .before .before .before .before .before .args .otherwise) (c .enum-told2 .given .0 .0) (c .before .before .before .before .before .before .before .before .before .pre .1 .0) (begin (whitespace0 >> access-to (c .before .before .before .before .before .before .before .before .before .args .key .now)) _ _ (four-on _ _ _ _ _ (skip-took opening-on (rest-self _ _) (c .before .before .before .before .opening .given .1) (c .before .before .before .before .before .before .access-opening .ensures)) (pair-fall _ _ _ (c .enum-told2 .given .0 .0) (c .before .before .keyword-behind .ensures .at) (skips-none (c .enum-told2 .given .1) (c .before .before .keyword-behind .ensures)))))
 
 colon-privilege-requires : tie.Need-colon-privilege-requires
 colon-privilege-requires c κs = let t = keyword-behind-took _ (c .before .operation .given .1) (c .before .before .before .keyword-behind .ensures) in omega (arith, t .up, t .inside, c .before .before .before .keyword-behind .ensures .at .from, c .before .before .before .before .before .before .before .before .before .before .pre)
@@ -47,7 +48,7 @@ enum-told-3 c = c .match3 .keys2
 
 returns-3 : tie.Need-returns-3
 unfolding access-to
-returns-3 c = privilege-none (c .before .before .before .before .before .before .before .before .before .before .before .before .before .args .key .now) (c .before .before .before .before .before .before .before .before .before .before .before .before .before .args .otherwise) (c .enum-told3 .given .0 .0) (c .before .before .before .before .before .before .before .before .before .before .before .before .before .pre .1) (begin (whitespace0 >> access-to (c .before .before .before .before .before .before .before .before .before .before .before .before .before .args .key .now)) _ _ (four-on _ _ _ _ _ (skip-took opening-on (rest-self _ _) (c .before .before .before .before .before .before .before .before .opening .given .1) (c .before .before .before .before .before .before .before .before .before .before .access-opening .ensures)) (pair-on _ _ _ (keyword-behind-took _ (c .before .before .before .before .operation .given .1) (c .before .before .before .before .before .before .keyword-behind .ensures)) (three-lose _ _ _ _ (c .enum-told3 .given .0 .0) (c .before .before .colon-privilege .ensures .at) (level-at-none (c .before .before .colon-privilege .ensures) (c .enum-told3 .given .1))))))
+returns-3 c = privilege-none (c .before .before .before .before .before .before .before .before .before .before .before .before .before .args .key .now) (c .before .before .before .before .before .before .before .before .before .before .before .before .before .args .otherwise) (c .enum-told3 .given .0 .0) (c .before .before .before .before .before .before .before .before .before .before .before .before .before .pre .1 .0) (begin (whitespace0 >> access-to (c .before .before .before .before .before .before .before .before .before .before .before .before .before .args .key .now)) _ _ (four-on _ _ _ _ _ (skip-took opening-on (rest-self _ _) (c .before .before .before .before .before .before .before .before .opening .given .1) (c .before .before .before .before .before .before .before .before .before .before .access-opening .ensures)) (pair-on _ _ _ (keyword-behind-took _ (c .before .before .before .before .operation .given .1) (c .before .before .before .before .before .before .keyword-behind .ensures)) (three-lose _ _ _ _ (c .enum-told3 .given .0 .0) (c .before .before .colon-privilege .ensures .at) (level-at-none (c .before .before .colon-privilege .ensures) (c .enum-told3 .given .1))))))
 
 tag-behind-requires : tie.Need-tag-behind-requires
 tag-behind-requires c κs = let t = level-at-took (c .before .before .before .colon-privilege .ensures) colon-on (c .before .granted .given .1) in omega (arith, t .up, t .inside, c .before .before .before .colon-privilege .ensures .at .from, c .before .before .before .before .before .before .before .before .before .before .before .before .before .before .pre)
@@ -60,7 +61,7 @@ enum-told-4 c = c .match4 .keys2
 
 returns-4 : tie.Need-returns-4
 unfolding access-to
-returns-4 c = privilege-none (c .before .before .before .before .before .before .before .before .before .before .before .before .before .before .before .before .before .args .key .now) (c .before .before .before .before .before .before .before .before .before .before .before .before .before .before .before .before .before .args .otherwise) (c .enum-told4 .given .0 .0) (c .before .before .before .before .before .before .before .before .before .before .before .before .before .before .before .before .before .pre .1) (begin (whitespace0 >> access-to (c .before .before .before .before .before .before .before .before .before .before .before .before .before .before .before .before .before .args .key .now)) _ _ (four-on _ _ _ _ _ (skip-took opening-on (rest-self _ _) (c .before .before .before .before .before .before .before .before .before .before .before .before .opening .given .1) (c .before .before .before .before .before .before .before .before .before .before .before .before .before .before .access-opening .ensures)) (pair-on _ _ _ (keyword-behind-took _ (c .before .before .before .before .before .before .before .before .operation .given .1) (c .before .before .before .before .before .before .before .before .before .before .keyword-behind .ensures)) (three-go _ _ _ _ (level-at-took (c .before .before .before .before .before .before .colon-privilege .ensures) colon-on (c .before .before .before .before .granted .given .1)) (pair-fall _ _ _ (c .enum-told4 .given .0 .0) (c .before .before .tag-behind .ensures .at) (skips-none (c .enum-told4 .given .1) (c .before .before .tag-behind .ensures)))))))
+returns-4 c = privilege-none (c .before .before .before .before .before .before .before .before .before .before .before .before .before .before .before .before .before .args .key .now) (c .before .before .before .before .before .before .before .before .before .before .before .before .before .before .before .before .before .args .otherwise) (c .enum-told4 .given .0 .0) (c .before .before .before .before .before .before .before .before .before .before .before .before .before .before .before .before .before .pre .1 .0) (begin (whitespace0 >> access-to (c .before .before .before .before .before .before .before .before .before .before .before .before .before .before .before .before .before .args .key .now)) _ _ (four-on _ _ _ _ _ (skip-took opening-on (rest-self _ _) (c .before .before .before .before .before .before .before .before .before .before .before .before .opening .given .1) (c .before .before .before .before .before .before .before .before .before .before .before .before .before .before .access-opening .ensures)) (pair-on _ _ _ (keyword-behind-took _ (c .before .before .before .before .before .before .before .before .operation .given .1) (c .before .before .before .before .before .before .before .before .before .before .keyword-behind .ensures)) (three-go _ _ _ _ (level-at-took (c .before .before .before .before .before .before .colon-privilege .ensures) colon-on (c .before .before .before .before .granted .given .1)) (pair-fall _ _ _ (c .enum-told4 .given .0 .0) (c .before .before .tag-behind .ensures .at) (skips-none (c .enum-told4 .given .1) (c .before .before .tag-behind .ensures)))))))
 
 returns-5 : tie.Need-returns-5
 unfolding access-to

@@ -21,7 +21,7 @@ slice-aggregate-keyword-behind : tie.Need-slice-aggregate-keyword-behind
 slice-aggregate-keyword-behind c = search needs
 
 keyword-behind-requires : tie.Need-keyword-behind-requires
-keyword-behind-requires c κs = let t = set-took (rest-self _ _) (c .before .keywords-set .ensures) in omega (arith, t .up, t .inside, c .before .before .before .pre)
+keyword-behind-requires c κs = let t = set-took (rest-self _ _) (c .before .keywords-set .ensures) in (omega (arith, t .up, t .inside, c .before .before .before .pre), search needs)
 
 enum-known-command : tie.Need-enum-known-command
 enum-known-command c = c .match .keys1
@@ -43,7 +43,7 @@ slice-aggregate-access-to : tie.Need-slice-aggregate-access-to
 slice-aggregate-access-to c = search needs
 
 access-to-requires : tie.Need-access-to-requires
-access-to-requires c κs = (omega (arith, c .before .rest-at .ensures .size, c .before .before .before .before .before .before .before .before .before .pre), omega arith)
+access-to-requires c κs = (omega (arith, c .before .rest-at .ensures .size, c .before .before .before .before .before .before .before .before .before .pre), (omega arith, refl))
 
 word-behind-requires : tie.Need-word-behind-requires
 word-behind-requires c κs = let t = (read-as (c .access-to .ensures) refl (access-on _) (c .before .before .rest-at .ensures) refl) .step in omega (arith, t .up, t .inside, c .before .before .rest-at .ensures .from, c .before .before .before .before .before .before .before .before .before .before .pre)

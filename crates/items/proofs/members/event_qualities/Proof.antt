@@ -62,7 +62,7 @@ slice-aggregate-access-to : tie.Need-slice-aggregate-access-to
 slice-aggregate-access-to c = search needs
 
 access-to-requires : tie.Need-access-to-requires
-access-to-requires c κs = (omega (arith, c .before .rest-at2 .ensures .size, c .before .before .before .before .before .before .before .before .before .before .before .before .before .before .pre), omega arith)
+access-to-requires c κs = (omega (arith, c .before .rest-at2 .ensures .size, c .before .before .before .before .before .before .before .before .before .before .before .before .before .before .pre), (omega arith, refl))
 
 returns-3 : tie.Need-returns-3
 unfolding event-qualities

@@ -1,6 +1,7 @@
 use borrow.Author.Needs.{needs}
 use Rattle.items.proofs.members.event_word.Statement.{statement}
 use Rattle.items.proofs.members.event_word.Tie as tie
+use mathlib.Core.Path.{refl}
 use native.Mathlib.Omega.{arith}
 use Rattle.lexing.specs.bytes.{ascii}
 use Rattle.lexing.specs.answers.{wordAt}
@@ -31,7 +32,7 @@ slice-aggregate-keyword : tie.Need-slice-aggregate-keyword
 slice-aggregate-keyword c = search needs
 
 keyword-requires : tie.Need-keyword-requires
-keyword-requires c κs = omega (arith, c .before .rest-at .ensures .size, c .before .before .before .before .before .before .before .pre .1)
+keyword-requires c κs = (omega (arith, c .before .rest-at .ensures .size, c .before .before .before .before .before .before .before .pre .1), refl)
 
 enum-known-event : tie.Need-enum-known-event
 enum-known-event c = c .match2 .keys1

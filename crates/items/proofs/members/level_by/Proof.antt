@@ -22,7 +22,7 @@ returns c = read-not (Fail (c .before .before .before .before .before .args .bas
 
 returns-2 : tie.Need-returns-2
 unfolding numbered
-returns-2 c = read-is refl (keyword-value _ (c .before .before .before .before .before .before .args .level) _ _ _ (c .before .before .before .keyword .ensures) _ (c .before .word .given .1)) (c .before .before .before .before .before .before .pre .1)
+returns-2 c = read-is refl (keyword-value _ (c .before .before .before .before .before .before .args .level) _ _ _ (c .before .before .before .keyword .ensures) _ (c .before .word .given .1)) (c .before .before .before .before .before .before .pre .1 .0)
 
 pub level-by-spec : {M : Type 1} → statement M
 level-by-spec = tie.close (tie.spec keyword-requires enum-known-word enum-told returns returns-2)

@@ -1,7 +1,7 @@
 use borrow.Author.Needs.{needs}
 use Rattle.items.proofs.structs.struct_word.Statement.{statement}
 use Rattle.items.proofs.structs.struct_word.Tie as tie
-use mathlib.Core.Path.{sym, ap, _∙_}
+use mathlib.Core.Path.{refl, sym, ap, _∙_}
 use Rattle.lexing.specs.bytes.{lower}
 use Rattle.items.proofs.structs.Laws.{request-kind, response-kind, shared-fits, word-shared, word-unshared, request-left, response-left}
 
@@ -21,13 +21,13 @@ slice-aggregate-struct-word-by : tie.Need-slice-aggregate-struct-word-by
 slice-aggregate-struct-word-by c = search needs
 
 struct-word-by-requires : tie.Need-struct-word-by-requires
-struct-word-by-requires c κs = (c .before .before .before .before .before .before .pre .0, request-kind)
+struct-word-by-requires c κs = (c .before .before .before .before .before .before .pre .0, (request-kind, refl))
 
 slice-aggregate-struct-word-by-2 : tie.Need-slice-aggregate-struct-word-by-2
 slice-aggregate-struct-word-by-2 c = search needs
 
 struct-word-by-requires-2 : tie.Need-struct-word-by-requires-2
-struct-word-by-requires-2 c κs = (c .before .before .before .before .before .before .pre .0, response-kind)
+struct-word-by-requires-2 c κs = (c .before .before .before .before .before .before .pre .0, (response-kind, refl))
 
 returns-2 : tie.Need-returns-2
 returns-2 c = request-left (word-unshared (c .before .before .before .before .before .before .before .pre .1) (c .before .before .before .before .before .if1 .left)) ((ap lower (sym (c .before .before .before .before .peek .ensures)) ∙ sym (c .before .before .before .lower-of .ensures)) ∙ c .before .before .match .keys1) (c .struct-word-by .ensures)

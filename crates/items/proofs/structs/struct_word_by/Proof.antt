@@ -32,7 +32,7 @@ blank-at-requires-2 : tie.Need-blank-at-requires-2
 blank-at-requires-2 c κs = let k = (keyword-took (rest-self _ _) (c .before .before .word .given .1) (c .before .before .before .before .before .before .before .args .key .now) (c .before .before .before .before .keyword .ensures)) in omega (arith, k .up, k .inside, c .before .before .before .before .before .before .before .pre .0)
 
 returns-2 : tie.Need-returns-2
-returns-2 c = word-is (c .before .before .before .before .before .before .before .before .args .key .now) (c .before .before .before .before .before .before .before .before .args .kind) _ (told-next (wordAt _ _) _ _ _ _ _ (c .before .before .before .word .given .1) (c .before .before .before .before .before .keyword .ensures)) (c .before .before .before .before .before .before .before .before .pre .1) (c .before .kind-by .ensures) (c .blank-at2 .ensures)
+returns-2 c = word-is (c .before .before .before .before .before .before .before .before .args .key .now) (c .before .before .before .before .before .before .before .before .args .kind) _ (told-next (wordAt _ _) _ _ _ _ _ (c .before .before .before .word .given .1) (c .before .before .before .before .before .keyword .ensures)) (c .before .before .before .before .before .before .before .before .pre .1 .0) (c .before .kind-by .ensures) (c .blank-at2 .ensures)
 
 pub struct-word-by-spec : {M : Type 1} → statement M
 struct-word-by-spec =

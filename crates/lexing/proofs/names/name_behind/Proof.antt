@@ -46,7 +46,7 @@ rest-at-requires : tie.Need-rest-at-requires
 rest-at-requires c κs = let t = gap-at-took (c .before .gap .given .1) (c .before .before .before .gap-at .ensures) in omega (arith, t .up, t .inside, c .before .before .before .gap-at .ensures .at .from)
 
 keyword-name-requires : tie.Need-keyword-name-requires
-keyword-name-requires c κs = omega (arith, c .rest-at .ensures .size, c .before .before .before .before .before .before .before .before .before .before .before .before .pre)
+keyword-name-requires c κs = (omega (arith, c .rest-at .ensures .size, c .before .before .before .before .before .before .before .before .before .before .before .before .pre), search needs)
 
 enum-known-named : tie.Need-enum-known-named
 enum-known-named c = c .match3 .keys1

@@ -14,7 +14,7 @@ rest-at-requires : tie.Need-rest-at-requires
 rest-at-requires c κs = omega (arith, blank-bounds (c .blank-at .ensures .skips), c .blank-at .ensures .at .size, c .blank-at .ensures .at .from)
 
 keyword-requires : tie.Need-keyword-requires
-keyword-requires c κs = omega (arith, c .rest-at .ensures .size, c .before .before .before .before .pre .1)
+keyword-requires c κs = (omega (arith, c .rest-at .ensures .size, c .before .before .before .before .pre .0 .1), c .before .before .before .before .pre .1)
 
 enum-known-word : tie.Need-enum-known-word
 enum-known-word c = c .match .keys1

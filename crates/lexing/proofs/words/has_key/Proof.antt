@@ -7,7 +7,7 @@ use native.Mathlib.Omega.{arith}
 use Prim.Native.Nat.{_-_}
 use lib.ListN.{length}
 use Rattle.lexing.specs.inner.words.{KeyAt}
-use Rattle.lexing.proofs.words.Laws.{key-start, key-short, key-no-byte, key-more, key-end}
+use Rattle.lexing.proofs.words.Laws.{key-letter, key-short, key-no-byte, key-more, key-end}
 
 abbrev Inv-loop : tie.InvT-loop
 Inv-loop part key i₀ i = KeyAt key part i
@@ -18,8 +18,11 @@ abbrev μ-loop : tie.MeasureT-loop
 returns : tie.Need-returns Inv-loop μ-loop
 returns c = λ b. key-short _ b _ (c .if1 .taken)
 
+eight-alike-requires : tie.Need-eight-alike-requires Inv-loop μ-loop
+eight-alike-requires c κs = search needs
+
 loop-holds : tie.Need-loop-holds Inv-loop μ-loop
-loop-holds c = key-start _ _ (c .if1 .left)
+loop-holds c = c .eight-alike .ensures
 
 shared-slice-read-is-key-byte : tie.Need-shared-slice-read-is-key-byte Inv-loop μ-loop
 shared-slice-read-is-key-byte c = omega (arith, c .before .before .loop .inv .enough)
@@ -28,7 +31,7 @@ shared-slice-read-is-key-byte-2 : tie.Need-shared-slice-read-is-key-byte-2 Inv-l
 shared-slice-read-is-key-byte-2 c = search needs
 
 is-key-byte-requires : tie.Need-is-key-byte-requires Inv-loop μ-loop
-is-key-byte-requires c κs = tt
+is-key-byte-requires c κs = key-letter (c .before .before .before .before .before .before .before .before .args .key .now) (c .before .before .before .before .before .before .before .before .pre) _ (c .before .before .loop-test .taken)
 
 returns-2 : tie.Need-returns-2 Inv-loop μ-loop
 returns-2 c = λ b. key-no-byte _ b _ _ (c .before .before .before .before .loop-test .taken) (sym (c .before .is-key-byte .ensures) ∙ not-true _ (c .if2 .taken))
@@ -52,6 +55,7 @@ has-key-spec =
     Inv-loop
     μ-loop
     returns
+    eight-alike-requires
     loop-holds
     shared-slice-read-is-key-byte
     shared-slice-read-is-key-byte-2
