@@ -1,8 +1,8 @@
 -- Laws of the definitions. A module's own laws, for the proofs of its functions, stand in MODULE/Laws.antt.
 
--- bytes; runs of bytes and texts that end at a cut; loops that scan a run
-pub mod Losses
+-- bytes; tests computed for every byte; runs of bytes and texts that end at a cut; loops that scan a run
 pub mod Tests
+pub mod EveryByte
 pub mod Runs
 pub mod Scans
 -- a parser that succeeds ends inside its text
@@ -13,7 +13,8 @@ pub mod Shift
 pub mod Chain
 pub mod Locality
 pub mod TokenLocality
--- what a reader's answer gives its caller; loops of the code against `many0` and `iter`
+-- what is lost, by its cause; what a reader's answer gives its caller; loops of the code against `many0` and `iter`
+pub mod Losses
 pub mod Slicing
 pub mod Repetition
 -- a parser made of parsers; what an answer gives its caller; several steps taken as one; parts that are dropped; words by their offsets

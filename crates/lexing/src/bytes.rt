@@ -29,10 +29,7 @@ pub fn is_space(x: u8) -> bool
 pub fn is_letter(x: u8) -> bool
     ensures { λ r. ⌜ r ≡ isLetter x ⌝ }
 {
-    if is_between(b'a', b'z', x) {
-        return true;
-    }
-    if is_between(b'A', b'Z', x) {
+    if is_between(b'a', b'z', x | 0x20) {
         return true;
     }
     x == b'_'

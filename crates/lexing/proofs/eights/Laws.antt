@@ -15,6 +15,7 @@ use borrow.Author.Tests.{eq-eqb, ne-eqb, eqb-true, eqb-false}
 use Rattle.lexing.specs.bytes.{within, lower}
 use Rattle.lexing.specs.inner.eights.{pack, byteAt, bytesFrom, failed, failing, isAlpha, isAscii, isByte, isCapital}
 use Rattle.lexing.specs.answers.{LacksIf}
+use Rattle.lexing.proofs.EveryByte.{every, every-at}
 use Rattle.lexing.proofs.Tests.{eq-of, and-left, and-right}
 
 -- all are bytes
@@ -119,20 +120,6 @@ module _ {w v : ℕ} {f g : ℕ → ℕ} (p : Eight w f) (q : Eight v g) where
 
 at-most : {w c : ℕ} {f : ℕ → ℕ} → Eight w f → ((j : ℕ) → f j ≤ c) → w ≤ pack 8 (λ j. c)
 at-most {w} {c} {f} p h = omega (arith, p .is, pack-le 8 f (λ j. c) h)
-
--- a test of all numbers below n
-unfoldable pub every : ℕ → (ℕ → Bool) → Bool
-every zero t = true
-every (suc n) t = t n && every n t
-
-pub every-at : (n : ℕ) (t : ℕ → Bool) → every n t ≡ true → (x : ℕ) → x < n → t x ≡ true
-unfolding every
-every-at zero t e x h = absurd (omega arith)
-every-at (suc n) t e x h = go (eqb x n) refl (every-at n t (and-right (t n) (every n t) e) x)
-  where
-    go : (b : Bool) → eqb x n ≡ b → (x < n → t x ≡ true) → t x ≡ true
-    go true q ih = ap t (eq-of x n q) ∙ and-left (t n) (every n t) e
-    go false q ih = ih (omega (arith, eqb-false x n q))
 
 -- bits g of a byte that tell where it fails a test: one law for all tests of eight bytes, and g is looked at once for each byte
 fails-by : (t : ℕ → Bool) (g : ℕ → ℕ) → every 256 (λ x. eqb (g x) (failed (t x))) ≡ true → (w : ℕ) {m : ℕ} → Eight m (λ j. g (byteAt w j)) → m ≡ failing t w

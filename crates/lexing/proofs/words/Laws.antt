@@ -22,7 +22,8 @@ use Rattle.lexing.specs.declared.answers.Step.{Step}
 use Rattle.lexing.specs.declared.answers.Step.the-variants.{Next, Not}
 use Rattle.lexing.proofs.Scans.{first-of, take-run, drop-run, run-cons, run-le, run-byte, run-stops, run-passes, RunAt, turns, runs-on}
 use Rattle.lexing.proofs.Slicing.{Took, rest-from, word-took, step-lost}
-use Rattle.lexing.proofs.eights.Laws.{Bytes, pack-alike, every, every-at, no-bits, passing}
+use Rattle.lexing.proofs.eights.Laws.{Bytes, pack-alike, no-bits, passing}
+use Rattle.lexing.proofs.EveryByte.{every, every-at, same, alike-at}
 use Rattle.lexing.proofs.Tests.{eq-of, and-left, and-right, false-if, digit-no-letter}
 
 letter-word : (x : ℕ) → isLetter x ≡ true → isWord x ≡ true
@@ -166,16 +167,6 @@ unfolding isWord isLetter isDigit within
 no-word = refl
 
 -- the bytes of a keyword: one is met by itself and, where it is a letter, by its capital
-abbrev same : Bool → Bool → Bool
-same true b = b
-same false b = not b
-
-same-is : (a b : Bool) → same a b ≡ true → a ≡ b
-same-is true true e = refl
-same-is true false e = absurd (false≢true e)
-same-is false true e = absurd (false≢true e)
-same-is false false e = refl
-
 key-bytes : every 256 (λ k. not (isKeyLetter k) || every 256 (λ x. same (eqb x k || eqb (bitOr x 0x20) k) (isKeyByte x k))) ≡ true
 unfolding every isKeyByte lower isWord isLetter isDigit within
 key-bytes = refl
@@ -183,7 +174,7 @@ key-bytes = refl
 key-byte : (x k : ℕ) → x < 256 → k < 256 → isKeyLetter k ≡ true → (eqb x k || eqb (bitOr x 0x20) k) ≡ isKeyByte x k
 key-byte x k h l e =
     let all = every-at 256 (λ k. not (isKeyLetter k) || every 256 (λ x. same (eqb x k || eqb (bitOr x 0x20) k) (isKeyByte x k))) key-bytes k l in
-    same-is _ _ (every-at 256 (λ x. same (eqb x k || eqb (bitOr x 0x20) k) (isKeyByte x k)) (rw e at all) x h)
+    alike-at (λ x. eqb x k || eqb (bitOr x 0x20) k) (λ x. isKeyByte x k) (rw e at all) x h
 
 module _ (x k : ℕ) (h : x < 256) (l : k < 256) (e : isKeyLetter k ≡ true) where
   pub key-same : x ≡ k → true ≡ isKeyByte x k

@@ -1,0 +1,2 @@
+-- Laws of bytes.
+pub mod Laws
