@@ -3,6 +3,7 @@ ghost use mathlib.Core.Path.{_≡_};
 ghost use mathlib.Core.Bool.{true};
 ghost use Prim.Native.Nat.{_+_, _≤_, _<_};
 ghost use lib.ListN.{length};
+ghost use Rattle.lexing.specs.bytes.{lower};
 ghost use Rattle.lexing.specs.words.{isKey};
 ghost use Rattle.lexing.specs.integers.{u64-max};
 ghost use Rattle.items.specs.entries.{api-maturity};
@@ -58,9 +59,11 @@ pub fn api_maturity(part: &[u8], base: usize) -> Maturity
 
 // Whether a maturity begins with a letter.
 fn is_initial(x: u8) -> bool
-    ensures { λ r. ⌜ r ≡ isInitial x ⌝ }
+    ensures { λ r. ⌜ r ≡ isInitial (lower x) ⌝ }
 {
-    match x {
+    // the small letter of a letter, and no letter else
+    let y = x | 0x20;
+    match y {
         b's' => true,
         b'p' => true,
         b'i' => true,
@@ -89,7 +92,7 @@ pub fn maturity_between(part: &[u8], base: usize) -> Maturity
     ensures { λ r. ⌜ MaturityTo maturity-between r base (now (part .entry)) ⌝ }
 {
     let c1 = blank_at(part, base, base);
-    if !is_initial(lower_of(peek(part, c1 - base))) {
+    if !is_initial(peek(part, c1 - base)) {
         return Maturity { level: 0, next: c1 };
     }
     maturity_blank(rest_at(part, base, c1), c1)

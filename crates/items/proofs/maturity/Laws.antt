@@ -1,5 +1,7 @@
 -- Maturities.
 use mathlib.Core.Path.{_≡_, refl, sym, ap, _∙_, subst}
+use Rattle.lexing.proofs.EveryByte.{every, same, alike-at}
+use lib.Bits.{bitOr}
 use mathlib.Core.Bool.{Bool, true, false, true≢false}
 use mathlib.Core.List.{List, [], _∷_}
 use Prim.Native.Nat.{ℕ, _-_, _<_}
@@ -7,7 +9,7 @@ use native.Mathlib.Omega.{arith}
 use native.Mathlib.Nat.{add-zero}
 use lib.ListN.{drop, getD}
 use lib.Seq.{getD-drop}
-use Rattle.lexing.specs.bytes.{ascii, lower}
+use Rattle.lexing.specs.bytes.{ascii, lower, within}
 use Rattle.lexing.specs.reply.{ok, Parser, ret, _>>_}
 use Rattle.lexing.specs.words.{keyword}
 use Rattle.lexing.specs.blanks.{Doc, no-doc, whitespace0}
@@ -112,6 +114,14 @@ between-took = took-as between-on
 
 pub between-is : {b n : ℕ} {u r : List ℕ} {d : Doc} {t : Maturity} → Took whitespace0 b u b d n → Rest b u n r → MaturityTo maturity-blank t n r → MaturityTo maturity-between t b u
 between-is k q h = reads-as between-on _ _ _ _ (h .small) (begin maturity-between _ _ (on maturity-blank k (sym (took-as blanked-on q h .goes))))
+
+-- their letters in either case, by the bit that tells small letters from capitals
+initials : every 256 (λ x. same (isInitial (bitOr x 0x20)) (isInitial (lower x))) ≡ true
+unfolding every lower within
+initials = refl
+
+pub initial-folded : (x : ℕ) → x < 256 → isInitial (bitOr x 0x20) ≡ isInitial (lower x)
+initial-folded = alike-at (λ x. isInitial (bitOr x 0x20)) (λ x. isInitial (lower x)) initials
 
 -- none of their letters stands behind the blanks: no maturity, and no further blank
 pub between-none : {b n : ℕ} {u : List ℕ} {d : Doc} → Took whitespace0 b u b d n → {x y : ℕ} → x ≡ getD u (n - b) 0 → y ≡ lower x → {t : Bool} → t ≡ isInitial y → t ≡ false → MaturityTo maturity-between (record { level = 0; next = n }) b u
