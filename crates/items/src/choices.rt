@@ -92,6 +92,7 @@ pub fn choice_after_doc_maturity(part: &[u8], base: usize, from: usize, key: &[u
     requires { ⌜ isKey (now key) ≡ true ⌝ }
     ensures { λ r. ⌜ ChoiceCountTo (now (key .entry)) r base (now (part .entry)) ⌝ }
 {
+    let part = &part[..];
     let head = choice_head(part, base, from, key);
     let ChoiceHeadRead::ChoiceHead(_, c1) = head else {
         return Count::NoCount(choice_head_lost(head));
@@ -143,6 +144,7 @@ pub fn write_choice(
     requires { ⌜ isKey (now key) ≡ true ⌝ }
     ensures { λ r. ⌜ Written (choice-records (front .kind) (front .place)) (choice-after-doc-maturity (now (key .entry)) (docOf (front .doc)) (front .maturity)) base (now (part .entry)) at r (now (out .entry)) (now (out .exit)) ⌝ }
 {
+    let part = &part[..];
     let head = choice_head(part, base, from, key);
     let ChoiceHeadRead::ChoiceHead(h, c) = head else {
         return Wrote { next: base, to: at };

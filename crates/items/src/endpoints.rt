@@ -521,6 +521,7 @@ pub fn endpoint_head(part: &[u8], base: usize) -> Number
     requires { ⌜ base + length (now part) ≤ text-limit ⌝ }
     ensures { λ r. ⌜ numberReply r base (now (part .entry)) ≡ endpoint-head base (now (part .entry)) ⌝ }
 {
+    let part = &part[..];
     let c1 = blank_at(part, base, base);
     let number = keyword_number(rest_at(part, base, c1), c1, b"endpoint");
     let Number::Value(id, c2) = number else {

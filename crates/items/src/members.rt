@@ -43,7 +43,6 @@ use lexing::parts::peek;
 use lexing::parts::rest_at;
 use lexing::steps::blank_at;
 use lexing::steps::gap_at;
-use lexing::steps::keyword_behind;
 use lexing::steps::tag_behind;
 use lexing::word_sets::keywords_set;
 use lexing::words::id_at;
@@ -193,7 +192,9 @@ pub fn access_opening(part: &[u8], base: usize) -> Step
     ensures { λ r. ⌜ Skips access-opening r base (now (part .entry)) ⌝ }
 {
     let part = &part[..];
-    let access = keyword_behind(part, base, base, b"access");
+    // In place, and not by `keyword_behind`, which is too long to be copied into its callers, while its two steps are copied one by one.
+    let n = blank_at(part, base, base);
+    let access = keyword(rest_at(part, base, n), n, b"access");
     let Step::Next(c) = access else {
         return access;
     };
@@ -230,15 +231,16 @@ pub fn access_to(part: &[u8], base: usize, key: &[u8], otherwise: u8) -> Privile
     let Step::Next(c1) = opening else {
         return absent;
     };
-    let operation = keyword_behind(part, base, c1, key);
-    let Step::Next(c2) = operation else {
+    let c2 = blank_at(part, base, c1);
+    let operation = keyword(rest_at(part, base, c2), c2, key);
+    let Step::Next(c3) = operation else {
         return absent;
     };
-    let granted = colon_privilege(part, base, c2);
-    let Level::Chosen(level, c3) = granted else {
+    let granted = colon_privilege(part, base, c3);
+    let Level::Chosen(level, c4) = granted else {
         return absent;
     };
-    let closing = tag_behind(part, base, c3, b')');
+    let closing = tag_behind(part, base, c4, b')');
     let Step::Next(next) = closing else {
         return absent;
     };
@@ -358,14 +360,15 @@ pub fn command_head(part: &[u8], base: usize) -> CommandHeadRead
 {
     let q = keywords_set(part, base, 3);
     let c1 = q.next;
-    let command = keyword_behind(part, base, c1, b"command");
-    let Step::Next(c2) = command else {
+    let c2 = blank_at(part, base, c1);
+    let command = keyword(rest_at(part, base, c2), c2, b"command");
+    let Step::Next(c3) = command else {
         return CommandHeadRead::NoCommandHead(step_lost(command));
     };
-    let access = access_to(rest_at(part, base, c2), c2, b"invoke", 1);
-    let c3 = access.next;
-    let named = word_behind(part, base, c3);
-    let Named::Name(name, end, c4) = named else {
+    let access = access_to(rest_at(part, base, c3), c3, b"invoke", 1);
+    let c4 = access.next;
+    let named = word_behind(part, base, c4);
+    let Named::Name(name, end, c5) = named else {
         return CommandHeadRead::NoCommandHead(named_lost(named));
     };
     CommandHeadRead::CommandHead(
@@ -375,7 +378,7 @@ pub fn command_head(part: &[u8], base: usize) -> CommandHeadRead
             name,
             end,
         },
-        c4,
+        c5,
     )
 }
 

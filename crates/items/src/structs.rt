@@ -504,6 +504,7 @@ pub fn write_struct_fields(part: &[u8], base: usize, out: &mut [u8], at: usize) 
     requires { ⌜ Room (map field-record) struct-fields base (now part) at (length (now out)) ⌝ }
     ensures { λ r. ⌜ Written (map field-record) struct-fields base (now (part .entry)) at r (now (out .entry)) (now (out .exit)) ⌝ }
 {
+    let part = &part[..];
     let nothing = Wrote { next: base, to: at };
     let brace = tag(part, base, b'{');
     let Step::Next(c1) = brace else {
@@ -583,6 +584,7 @@ pub fn write_struct(
     requires { ⌜ Room (struct-records (front .place)) (parse-struct-after-doc-maturity (docOf (front .doc)) (front .maturity)) base (now part) at (length (now out)) ⌝ }
     ensures { λ r. ⌜ Written (struct-records (front .place)) (parse-struct-after-doc-maturity (docOf (front .doc)) (front .maturity)) base (now (part .entry)) at r (now (out .entry)) (now (out .exit)) ⌝ }
 {
+    let part = &part[..];
     let head = struct_head(part, base, from);
     let StructHeadRead::Head(h, c) = head else {
         return Wrote { next: base, to: at };

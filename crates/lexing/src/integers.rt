@@ -176,6 +176,7 @@ pub fn positive_integer(part: &[u8], base: usize) -> Number
     requires { ⌜ base + length (now part) ≤ u64-max ⌝ }
     ensures { λ r. ⌜ numberReply r base (now (part .entry)) ≡ positive-integer base (now (part .entry)) ⌝ }
 {
+    let part = &part[..];
     let x = peek(part, 0);
     if !is_digit(x) {
         return Number::NoNumber(Lost {

@@ -54,8 +54,8 @@ returns-4 c = c .any-integer .ensures
 digit-of-requires : tie.Need-digit-of-requires
 digit-of-requires c κs = (sym (c .before .before .before .before .before .before .is-digit .ensures) ∙ not-false _ (c .before .before .before .before .before .if1 .left))
 
-add-t15 : tie.Need-add-t15
-add-t15 c = omega (arith, digit-inside (now (c .before .before .before .before .before .before .before .before .before .before .args .part)) (ap isDigit (sym (c .before .before .before .before .before .before .before .before .peek .ensures)) ∙ (sym (c .before .before .before .before .before .before .before .is-digit .ensures) ∙ not-false _ (c .before .before .before .before .before .before .if1 .left))))
+add-t17 : tie.Need-add-t17
+add-t17 c = omega (arith, digit-inside (now (c .before .before .before .before .before .before .before .before .before .before .args .part)) (ap isDigit (sym (c .before .before .before .before .before .before .before .before .peek .ensures)) ∙ (sym (c .before .before .before .before .before .before .before .is-digit .ensures) ∙ not-false _ (c .before .before .before .before .before .before .if1 .left))))
 
 returns-5 : tie.Need-returns-5
 returns-5 c = one-digit _ (now (c .before .before .before .before .before .before .before .before .before .before .args .part)) _ (c .before .before .before .before .before .peek2 .ensures) _ (c .before .before .before .before .before .before .before .before .peek .ensures) (sym (c .before .before .before .before .before .before .before .is-digit .ensures) ∙ not-false _ (c .before .before .before .before .before .before .if1 .left)) (sym (c .before .before .before .before .is-digit2 .ensures) ∙ c .before .before .before .if2 .left) _ (c .before .before .is-x .ensures) (c .before .if3 .left) _ (c .digit-of .ensures)
@@ -79,5 +79,5 @@ positive-integer-spec =
     any-integer-requires
     returns-4
     digit-of-requires
-    add-t15
+    add-t17
     returns-5)
