@@ -27,7 +27,7 @@ use lexing::buffers::put_two;
 use lexing::integers::Number;
 use lexing::integers::number_lost;
 use lexing::names::Named;
-use lexing::names::code_behind;
+use lexing::names::code_at;
 use lexing::names::named_lost;
 use lexing::names::word_behind;
 use lexing::optional::optional;
@@ -141,8 +141,8 @@ pub fn constant_entry(part: &[u8], base: usize) -> EntryRead
     let Step::Next(end) = name else {
         return EntryRead::NoEntry(step_lost(name));
     };
-    // from the rest on, since a part that is handed on whole is copied first
-    let value = code_behind(rest_at(part, base, end), end, end);
+    let equals = blank_at(part, base, end);
+    let value = code_at(part, base, equals);
     let Number::Value(code, c) = value else {
         return EntryRead::NoEntry(number_lost(value));
     };

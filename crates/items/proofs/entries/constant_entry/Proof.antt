@@ -3,15 +3,16 @@ use Rattle.items.proofs.entries.constant_entry.Statement.{statement}
 use Rattle.items.proofs.entries.constant_entry.Tie as tie
 use Rattle.items.specs.entries.{constant-entry}
 use Rattle.items.specs.inner.entries.{entry-end}
-use Rattle.items.proofs.entries.Laws.{end-up, end-took, end-none, number-here}
+use Rattle.items.proofs.entries.Laws.{end-up, end-took, end-none}
 use mathlib.Core.Path.{refl, sym}
 use native.Mathlib.Omega.{arith}
-use Rattle.lexing.proofs.Slicing.{rest-self, begin, go, lose, integer-lost}
+use Rattle.lexing.proofs.Slicing.{rest-self, begin, go, on, lose}
 use Rattle.lexing.proofs.AnswerLaws.{read-is, read-not, last-lost}
-use Rattle.lexing.proofs.Pairs.{four-go, four-lose, between-go}
+use Rattle.lexing.proofs.Pairs.{three-go, three-lose, between-go}
 use Rattle.items.proofs.maturity.Laws.{between-took}
+use Rattle.lexing.proofs.steps.Laws.{blank-at-took}
 use Rattle.lexing.proofs.words.Laws.{word-at-took, word-at-lost}
-use Rattle.lexing.proofs.names.Laws.{number-took, code-behind-on}
+use Rattle.lexing.proofs.names.Laws.{equals-code-on, number-at-took, number-at-lost}
 
 maturity-between-requires : tie.Need-maturity-between-requires
 maturity-between-requires c κs = search needs
@@ -32,11 +33,11 @@ returns : tie.Need-returns
 unfolding constant-entry entry-end
 returns c = read-not _ refl tt (begin (constant-entry) _ _ (between-go _ _ _ _ (between-took (rest-self _ _) (c .before .before .before .before .maturity-between .ensures)) (lose _ _ (c .step-lost .result) (c .before .before .before .id-at .ensures .at) (word-at-lost (c .step-lost .ensures) (c .before .enum-told .given .1) (c .before .before .before .id-at .ensures)))))
 
-rest-at-requires : tie.Need-rest-at-requires
-rest-at-requires c κs = let t = word-at-took (c .before .name .given .1) (c .before .before .before .id-at .ensures) in omega (arith, t .up, t .inside, c .before .before .before .id-at .ensures .at .from)
+blank-at-requires : tie.Need-blank-at-requires
+blank-at-requires c κs = let t = word-at-took (c .before .name .given .1) (c .before .before .before .id-at .ensures) in omega (arith, t .up, t .inside, c .before .before .before .id-at .ensures .at .from, c .before .before .before .before .before .before .pre)
 
-code-behind-requires : tie.Need-code-behind-requires
-code-behind-requires c κs = omega (arith, c .rest-at .ensures .size, c .before .before .before .before .before .before .before .pre)
+code-at-requires : tie.Need-code-at-requires
+code-at-requires c κs = let t = blank-at-took (c .blank-at .ensures) in omega (arith, t .up, t .inside, c .blank-at .ensures .at .from, c .before .before .before .before .before .before .before .pre)
 
 enum-known-value : tie.Need-enum-known-value
 enum-known-value c = c .match2 .keys1
@@ -49,13 +50,13 @@ number-lost-requires c κs = tt
 
 returns-2 : tie.Need-returns-2
 unfolding constant-entry entry-end
-returns-2 c = read-not _ refl tt (begin (constant-entry) _ _ (between-go _ _ _ _ (between-took (rest-self _ _) (c .before .before .before .before .before .before .before .before .before .maturity-between .ensures)) (go _ (word-at-took (c .before .before .before .before .before .before .name .given .1) (c .before .before .before .before .before .before .before .before .id-at .ensures)) (four-lose _ _ _ _ _ (c .number-lost .result) (c .before .before .before .before .rest-at .ensures) (integer-lost (c .number-lost .ensures) (c .before .enum-told2 .given .1) _ _ _ (number-here (c .before .before .before .code-behind .ensures)))))))
+returns-2 c = read-not _ refl tt (begin (constant-entry) _ _ (between-go _ _ _ _ (between-took (rest-self _ _) (c .before .before .before .before .before .before .before .before .before .maturity-between .ensures)) (go _ (word-at-took (c .before .before .before .before .before .before .name .given .1) (c .before .before .before .before .before .before .before .before .id-at .ensures)) (on _ (blank-at-took (c .before .before .before .before .blank-at .ensures)) (three-lose _ _ _ _ (c .number-lost .result) (c .before .before .before .code-at .ensures .at) (number-at-lost (c .before .before .before .code-at .ensures) (c .number-lost .ensures) (c .before .enum-told2 .given .1)))))))
 
-rest-at-requires-2 : tie.Need-rest-at-requires-2
-rest-at-requires-2 c κs = let t = number-took code-behind-on (c .before .before .before .before .rest-at .ensures) (c .before .value .given .1) (number-here (c .before .before .before .code-behind .ensures)) in omega (arith, t .up, t .inside, c .before .before .before .before .rest-at .ensures .from)
+rest-at-requires : tie.Need-rest-at-requires
+rest-at-requires c κs = let t = number-at-took (c .before .before .before .code-at .ensures) equals-code-on (c .before .value .given .1) in omega (arith, t .up, t .inside, c .before .before .before .code-at .ensures .at .from)
 
 entry-end-requires : tie.Need-entry-end-requires
-entry-end-requires c κs = omega (arith, c .rest-at2 .ensures .size, c .before .before .before .before .before .before .before .before .before .before .before .before .pre)
+entry-end-requires c κs = omega (arith, c .rest-at .ensures .size, c .before .before .before .before .before .before .before .before .before .before .before .before .pre)
 
 enum-known-last : tie.Need-enum-known-last
 enum-known-last c = c .match3 .keys1
@@ -68,11 +69,11 @@ step-lost-requires-2 c κs = tt
 
 returns-3 : tie.Need-returns-3
 unfolding constant-entry entry-end
-returns-3 c = read-not _ refl tt (begin (constant-entry) _ _ (between-go _ _ _ _ (between-took (rest-self _ _) (c .before .before .before .before .before .before .before .before .before .before .before .before .before .before .maturity-between .ensures)) (go _ (word-at-took (c .before .before .before .before .before .before .before .before .before .before .before .name .given .1) (c .before .before .before .before .before .before .before .before .before .before .before .before .before .id-at .ensures)) (four-go _ _ _ _ _ (number-took code-behind-on (c .before .before .before .before .before .before .before .before .before .rest-at .ensures) (c .before .before .before .before .before .before .value .given .1) (number-here (c .before .before .before .before .before .before .before .before .code-behind .ensures))) (last-lost (entry-end _) (c .step-lost2 .result) (c .before .before .before .before .rest-at2 .ensures) (end-none _ (c .step-lost2 .ensures) (c .before .enum-told3 .given .1) (c .before .before .before .entry-end .ensures)))))))
+returns-3 c = read-not _ refl tt (begin (constant-entry) _ _ (between-go _ _ _ _ (between-took (rest-self _ _) (c .before .before .before .before .before .before .before .before .before .before .before .before .before .before .maturity-between .ensures)) (go _ (word-at-took (c .before .before .before .before .before .before .before .before .before .before .before .name .given .1) (c .before .before .before .before .before .before .before .before .before .before .before .before .before .id-at .ensures)) (on _ (blank-at-took (c .before .before .before .before .before .before .before .before .before .blank-at .ensures)) (three-go _ _ _ _ (number-at-took (c .before .before .before .before .before .before .before .before .code-at .ensures) equals-code-on (c .before .before .before .before .before .before .value .given .1)) (last-lost (entry-end _) (c .step-lost2 .result) (c .before .before .before .before .rest-at .ensures) (end-none _ (c .step-lost2 .ensures) (c .before .enum-told3 .given .1) (c .before .before .before .entry-end .ensures))))))))
 
 returns-4 : tie.Need-returns-4
 unfolding constant-entry entry-end
-returns-4 c = read-is refl (begin (constant-entry) _ _ (between-go _ _ _ _ (between-took (rest-self _ _) (c .before .before .before .before .before .before .before .before .before .before .before .before .before .before .maturity-between .ensures)) (go _ (word-at-took (c .before .before .before .before .before .before .before .before .before .before .before .name .given .1) (c .before .before .before .before .before .before .before .before .before .before .before .before .before .id-at .ensures)) (four-go _ _ _ _ _ (number-took code-behind-on (c .before .before .before .before .before .before .before .before .before .rest-at .ensures) (c .before .before .before .before .before .before .value .given .1) (number-here (c .before .before .before .before .before .before .before .before .code-behind .ensures))) (sym ((end-took _ (c .before .before .before .before .rest-at2 .ensures) (c .before .last .given .1) (c .before .before .before .entry-end .ensures)) .goes)))))) (record { from = c .before .before .before .before .before .before .before .before .before .before .before .before .before .before .maturity-between .ensures .up; up = (word-at-took (c .before .before .before .before .before .before .before .before .before .before .before .name .given .1) (c .before .before .before .before .before .before .before .before .before .before .before .before .before .id-at .ensures)) .up; inside = omega (arith, (number-took code-behind-on (c .before .before .before .before .before .before .before .before .before .rest-at .ensures) (c .before .before .before .before .before .before .value .given .1) (number-here (c .before .before .before .before .before .before .before .before .code-behind .ensures))) .up, end-up (c .before .last .given .1) (c .before .before .before .entry-end .ensures)); small = c .before .before .before .before .before .before .before .before .before .before .before .before .before .before .maturity-between .ensures .small })
+returns-4 c = read-is refl (begin (constant-entry) _ _ (between-go _ _ _ _ (between-took (rest-self _ _) (c .before .before .before .before .before .before .before .before .before .before .before .before .before .before .maturity-between .ensures)) (go _ (word-at-took (c .before .before .before .before .before .before .before .before .before .before .before .name .given .1) (c .before .before .before .before .before .before .before .before .before .before .before .before .before .id-at .ensures)) (on _ (blank-at-took (c .before .before .before .before .before .before .before .before .before .blank-at .ensures)) (three-go _ _ _ _ (number-at-took (c .before .before .before .before .before .before .before .before .code-at .ensures) equals-code-on (c .before .before .before .before .before .before .value .given .1)) (sym ((end-took _ (c .before .before .before .before .rest-at .ensures) (c .before .last .given .1) (c .before .before .before .entry-end .ensures)) .goes))))))) (record { from = c .before .before .before .before .before .before .before .before .before .before .before .before .before .before .maturity-between .ensures .up; up = (word-at-took (c .before .before .before .before .before .before .before .before .before .before .before .name .given .1) (c .before .before .before .before .before .before .before .before .before .before .before .before .before .id-at .ensures)) .up; inside = omega (arith, (blank-at-took (c .before .before .before .before .before .before .before .before .before .blank-at .ensures)) .up, (number-at-took (c .before .before .before .before .before .before .before .before .code-at .ensures) equals-code-on (c .before .before .before .before .before .before .value .given .1)) .up, end-up (c .before .last .given .1) (c .before .before .before .entry-end .ensures)); small = c .before .before .before .before .before .before .before .before .before .before .before .before .before .before .maturity-between .ensures .small })
 
 pub constant-entry-spec : {M : Type 1} → statement M
 constant-entry-spec =
@@ -84,13 +85,13 @@ constant-entry-spec =
     enum-told
     step-lost-requires
     returns
-    rest-at-requires
-    code-behind-requires
+    blank-at-requires
+    code-at-requires
     enum-known-value
     enum-told-2
     number-lost-requires
     returns-2
-    rest-at-requires-2
+    rest-at-requires
     entry-end-requires
     enum-known-last
     enum-told-3
