@@ -11,7 +11,7 @@ use Rattle.lexing.specs.bytes.{slash, star, isLetter, isSpace, inLine}
 use Rattle.lexing.specs.reply.{Reply, ok, fail, stop, Parser, ret, _>>=_, _>>_, catch, opt, further, _or_, prepend, manyWithin, many0, iterWithin, iter, keep}
 use Rattle.lexing.specs.words.{Word, parse-id, keyword, any-keyword, tag}
 use Rattle.lexing.specs.blanks.{Doc, line-comment, Until, found, never, until-close, closed, block-comment, multispace1, whitespace-group, one-blank, whitespace0}
-use Rattle.lexing.specs.answers.{lostReply, Fail, Stop}
+use Rattle.lexing.specs.answers.{lostReply}
 use Rattle.lexing.specs.declared.answers.Lost.{Lost}
 use Rattle.lexing.proofs.Losses.{by-lost}
 use Rattle.lexing.proofs.words.Laws.{keyword-says}

@@ -5,7 +5,7 @@ use Prim.Native.Nat.{ℕ, _-_}
 use native.Mathlib.Omega.{arith}
 use lib.ListN.{drop}
 use Rattle.lexing.specs.reply.{Reply, ok, fail, stop, Parser, ret, _>>=_}
-use Rattle.lexing.specs.answers.{Answer, got, Rest, lostReply, reply, ReadTo, Fail, Stop}
+use Rattle.lexing.specs.answers.{Answer, got, Rest, lostReply, reply, ReadTo}
 use Rattle.lexing.specs.declared.answers.Lost.{Lost}
 use Rattle.lexing.proofs.Losses.{by-lost}
 use Rattle.lexing.proofs.Onward.{Onward}

@@ -1,7 +1,7 @@
 -- Parts that are read and dropped: sequences and repetitions.
-use mathlib.Core.Path.{_≡_, refl, sym, ap, _∙_, subst}
+use mathlib.Core.Path.{_≡_, sym, ap, _∙_, subst}
 use mathlib.Core.List.{List, []}
-use Prim.Native.Nat.{ℕ, zero, suc, _-_}
+use Prim.Native.Nat.{ℕ, _-_}
 use lib.ListN.{drop}
 use Rattle.lexing.specs.reply.{ok, Parser, _>>_, opt, many0}
 use Rattle.lexing.specs.words.{Word, word, keyword, tag}

@@ -7,7 +7,7 @@ use lib.ListN.{length, drop, length-drop}
 use Rattle.lexing.specs.reply.{ok, Parser, _>>_, many0}
 use Rattle.lexing.specs.words.{tag}
 use Rattle.lexing.specs.blanks.{whitespace0}
-use Rattle.lexing.specs.answers.{Answer, got, Rest, lostReply, lostOf, reply, ReadTo, SkipsAt, Fail, Stop}
+use Rattle.lexing.specs.answers.{Answer, got, Rest, lostReply, lostOf, reply, ReadTo, SkipsAt, Stop}
 use Rattle.lexing.specs.declared.answers.Lost.{Lost}
 use Rattle.lexing.specs.declared.answers.Step.{Step}
 use Rattle.lexing.specs.declared.answers.Step.the-variants.{Next, Not}

@@ -6,13 +6,13 @@ use mathlib.Core.Option.{Option, none, some}
 use Prim.Native.Nat.{ℕ, zero, suc, _+_, _-_, _*_, _≤_, _<_}
 use native.Mathlib.Omega.{arith}
 use lib.ListN.{length, drop, getD}
-use Rattle.lexing.specs.reply.{Reply, ok, fail, stop, Parser, _>>_, opt}
+use Rattle.lexing.specs.reply.{Reply, ok, fail, Parser, _>>_, opt}
 use Rattle.lexing.specs.bytes.{ascii, lower}
 use Rattle.lexing.specs.words.{Word, keyword}
 use Rattle.lexing.specs.integers.{signed, positive-integer, signed-integer}
 use Rattle.lexing.specs.blanks.{no-doc, whitespace0, whitespace1}
 use Rattle.lexing.specs.strings.{Span, span, default-escape, default-string}
-use Rattle.lexing.specs.answers.{Answer, got, reply, lostReply, Rest, lostOf, numberLost, numberReply, signedReply, spanTo, stringReply, NameIn, wordBetween, Fail, Stop, lostBy}
+use Rattle.lexing.specs.answers.{Answer, got, reply, lostReply, Rest, lostOf, numberLost, numberReply, signedReply, spanTo, stringReply, NameIn, wordBetween, Fail, lostBy}
 use Rattle.lexing.specs.declared.answers.Lost.{Lost}
 use Rattle.lexing.specs.declared.answers.Step.{Step}
 use Rattle.lexing.specs.declared.answers.Step.the-variants.{Next, Not}

@@ -8,11 +8,10 @@ use Rattle.lexing.specs.reply.{Parser, ret, _>>_, opt, many0}
 use Rattle.lexing.specs.words.{Word, word, tag}
 use Rattle.lexing.specs.strings.{span, annotation-escape, quoted-string}
 use Rattle.lexing.specs.blanks.{whitespace0}
-use Rattle.lexing.specs.answers.{Rest, reply, stepAnswer, lostReply, lostOf, spanTo, stringReply, numberReply, NumberAt, Skips, SkipsAt}
+use Rattle.lexing.specs.answers.{Rest, reply, stepAnswer, lostReply, lostOf, spanTo, stringReply, Skips, SkipsAt}
 use Rattle.lexing.specs.declared.answers.Lost.{Lost}
 use Rattle.lexing.specs.declared.answers.Step.{Step}
 use Rattle.lexing.specs.declared.answers.Step.the-variants.{Next, Not}
-use Rattle.lexing.specs.declared.integers.Number.{Number}
 use Rattle.lexing.proofs.Onward.{Onward}
 use Rattle.lexing.proofs.Locality.{Consumes, chain-ret, chain-many0, chain-opt, chain-then, consumes-then-right}
 use Rattle.lexing.proofs.TokenLocality.{whitespace0-chain}
@@ -132,10 +131,6 @@ blank-entry-onward = walks (blank-entry-inside .on-chain)
 pub entry-behind : {b : ℕ} {u : List ℕ} {a : EntryRead} → EntryTo constant-entry a b u → EntryTo blank-entry a b u
 unfolding blank-entry constant-entry
 entry-behind h = read-behind _ _ _ h
-
--- its code, from the rest of the part on
-pub number-here : {m : Parser ℕ} {a : Number} {n : ℕ} {r : List ℕ} → NumberAt m a n r n → numberReply a n r ≡ m n r
-number-here {n = n} h = let z : n - n ≡ 0 = omega arith in rw z at (h .reads)
 
 -- the record of an entry takes two words
 pub entry-words : (e : Entry) → word-count (entry-record e ∷ []) ≡ 2

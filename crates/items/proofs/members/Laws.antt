@@ -12,7 +12,7 @@ use Rattle.lexing.specs.bytes.{ascii}
 use Rattle.lexing.specs.reply.{Reply, ok, fail, stop, Parser, ret, _>>=_, _>>_, opt, position, failAt, pick}
 use Rattle.lexing.specs.words.{Word, parse-id, keyword, tag}
 use Rattle.lexing.specs.blanks.{Doc, no-doc, whitespace0, whitespace1}
-use Rattle.lexing.specs.answers.{Rest, lostReply, lostOf, wordAt, wordReply, docOf, wordBetween, Skips, SkipsAt, optionalStep, NameIn, Fail, Stop}
+use Rattle.lexing.specs.answers.{Rest, lostReply, lostOf, wordAt, wordReply, docOf, wordBetween, Skips, SkipsAt, optionalStep, NameIn, Stop}
 use Rattle.lexing.specs.word_sets.{bit}
 use Rattle.lexing.specs.declared.answers.Lost.{Lost}
 use Rattle.lexing.specs.declared.answers.Step.{Step}

@@ -13,7 +13,7 @@ use Rattle.lexing.specs.bytes.{ascii, within, lower}
 use Rattle.lexing.specs.reply.{Reply, ok, fail, stop, Parser, ret, _or_, further, opt, pick, many0}
 use Rattle.lexing.specs.words.{Word, bytesOf, isKeyword, isLower, keyword, any-keyword}
 use Rattle.lexing.specs.word_sets.{same-bytes, bit}
-use Rattle.lexing.specs.answers.{Rest, lostReply, wordAt, wordReply, numberReply, numberLost, BlankAt, behind-blanks, wordBetween, Fail, Stop}
+use Rattle.lexing.specs.answers.{Rest, lostReply, wordAt, wordReply, numberReply, numberLost, BlankAt, behind-blanks, wordBetween}
 use Rattle.lexing.specs.declared.answers.Lost.{Lost}
 use Rattle.lexing.specs.declared.answers.Step.the-variants.{Next}
 use Rattle.lexing.specs.declared.integers.Number.{Number}

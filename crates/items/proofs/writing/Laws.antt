@@ -8,7 +8,7 @@ use lib.ListN.{length, drop, take, length-append}
 use lib.Seq.{drop-at, take-take, take-append-le, length-take-le}
 use Rattle.lexing.specs.reply.{Reply, ok, fail, stop, Parser, many0}
 use Rattle.lexing.specs.word_sets.{bit}
-use Rattle.lexing.specs.answers.{Rest, lostReply, docOf, BlankTo, Fail, Stop}
+use Rattle.lexing.specs.answers.{Rest, lostReply, docOf, BlankTo, Stop}
 use Rattle.lexing.specs.declared.blanks.Blank.{Blank}
 use Rattle.lexing.specs.declared.answers.Lost.{Lost}
 use Rattle.lexing.specs.declared.blanks.DocSpan.{DocSpan}

@@ -16,7 +16,7 @@ use Rattle.lexing.specs.bytes.{within, lower}
 use Rattle.lexing.specs.inner.eights.{pack, byteAt, bytesFrom, failed, failing, isAlpha, isAscii, isByte, isCapital}
 use Rattle.lexing.specs.answers.{LacksIf}
 use Rattle.lexing.proofs.EveryByte.{every, every-at}
-use Rattle.lexing.proofs.Tests.{eq-of, and-left, and-right}
+use Rattle.lexing.proofs.Tests.{eq-of}
 
 -- all are bytes
 abbrev pub Bytes : (ℕ → ℕ) → Type 0

@@ -365,7 +365,7 @@ any-calm (k ∷ ks) b u = go (keyword k b u) refl (keyword-says k b u) (any-calm
     go (fail p) e h ih = rw (or-fails k ks b u (e ∙ ap fail h), calm-further b (any-keyword ks b u) ih) ih
     go (stop n p) e h ih = absurd h
 
-lost-here : (k : List ℕ) (b : ℕ) (u : List ℕ) (l : Lost) → lostReply l ≡ keyword k b u → fail b ≡ keyword k b u
+pub lost-here : (k : List ℕ) (b : ℕ) (u : List ℕ) (l : Lost) → lostReply l ≡ keyword k b u → fail b ≡ keyword k b u
 lost-here k b u = by-lost (λ l. lostReply l ≡ keyword k b u → fail b ≡ keyword k b u) (λ p e. ap fail (sym (rw (← e) at (keyword-says k b u))) ∙ e) (λ n p e. absurd (rw (← e) at (keyword-says k b u)))
 
 -- the offset behind a keyword, from the step over it

@@ -7,7 +7,7 @@ use Prim.Native.Nat.{ℕ, zero, suc, _+_, _*_, _≤_}
 use native.Mathlib.Omega.{arith}
 use lib.Dec.{leb}
 use lib.ListN.{length}
-use Rattle.lexing.specs.answers.{Rest, lostReply, Fail, Stop}
+use Rattle.lexing.specs.answers.{Rest, lostReply}
 use Rattle.lexing.specs.utf8.{utf8-error, errorOf}
 use Rattle.lexing.specs.declared.answers.Lost.{Lost}
 use Rattle.lexing.specs.declared.utf8.Utf8.{Utf8}
