@@ -25,13 +25,16 @@ use crate::writing::first_word;
 use crate::writing::flag;
 use crate::writing::span_word;
 use lexing::answers::Lost;
+use lexing::answers::Step;
+use lexing::answers::step_lost;
 use lexing::buffers::put_three;
 use lexing::names::Named;
 use lexing::names::keyword_name;
 use lexing::names::named_lost;
-use lexing::names::type_behind;
 use lexing::parts::rest_at;
 use lexing::steps::blank_at;
+use lexing::steps::tag_behind;
+use lexing::words::id_at;
 
 // Up to the entries: whether it is shared, and the offsets of its name and of its base type and behind them. The order of the fields is as in structs::FieldParts.
 pub struct ChoiceHeadParts {
@@ -59,11 +62,17 @@ pub fn choice_head(part: &[u8], base: usize, from: usize, key: &[u8]) -> ChoiceH
     let Named::Name(name, end, c1) = named else {
         return ChoiceHeadRead::NoChoiceHead(named_lost(named));
     };
-    let kind = type_behind(rest_at(part, base, c1), c1);
-    let Named::Name(base_at, base_end, c2) = kind else {
-        return ChoiceHeadRead::NoChoiceHead(named_lost(kind));
+    // In place, and not by `type_behind`, which then is called at one place and copied there.
+    let colon = tag_behind(part, base, c1, b':');
+    let Step::Next(c2) = colon else {
+        return ChoiceHeadRead::NoChoiceHead(step_lost(colon));
     };
-    let c3 = blank_at(part, base, c2);
+    let base_at = blank_at(part, base, c2);
+    let kind = id_at(part, base, base_at);
+    let Step::Next(base_end) = kind else {
+        return ChoiceHeadRead::NoChoiceHead(step_lost(kind));
+    };
+    let c3 = blank_at(part, base, base_end);
     ChoiceHeadRead::ChoiceHead(
         ChoiceHeadParts {
             shared: base < from,
