@@ -15,7 +15,6 @@ ghost use Rattle.items.specs.answers.attributes.{PrivilegesTo, privilege
 ghost use Rattle.items.specs.inner.attributes.{access-words, operation-of, OperationTo, grantsWith, grantsSmall, EntryTo, EntriesTo, AttributeHeadSmall, AttributeHeadTo, attributeHeadLost, attribute-first};
 use crate::counts::Count;
 use crate::members::Level;
-use crate::members::access_opening;
 use crate::members::colon_privilege;
 use crate::structs::StructFieldRead;
 use crate::structs::closed_field;
@@ -184,19 +183,25 @@ pub fn attribute_access(part: &[u8], base: usize) -> PrivilegesRead
             return absent;
         }
     }
-    let opening = access_opening(part, base);
-    let Step::Next(c1) = opening else {
+    // In place, and not by `access_opening`, which then is called at one place and copied there.
+    let c1 = blank_at(part, base, base);
+    let word = keyword(rest_at(part, base, c1), c1, b"access");
+    let Step::Next(c2) = word else {
         return absent;
     };
-    let c2 = blank_at(part, base, c1);
-    let entries = access_entries(rest_at(part, base, c2), c2);
+    let opening = tag_behind(part, base, c2, b'(');
+    let Step::Next(c3) = opening else {
+        return absent;
+    };
+    let c4 = blank_at(part, base, c3);
+    let entries = access_entries(rest_at(part, base, c4), c4);
     let closing = tag_behind(part, base, entries.next, b')');
-    let Step::Next(c3) = closing else {
+    let Step::Next(c5) = closing else {
         return absent;
     };
     let grants = entries.grants;
     match grants {
-        Grants::Granted(read, write) => PrivilegesRead::Privileges(read, write, c3),
+        Grants::Granted(read, write) => PrivilegesRead::Privileges(read, write, c5),
         Grants::RefusedAt(at) => PrivilegesRead::NoPrivileges(stop_by(6, at)),
     }
 }
