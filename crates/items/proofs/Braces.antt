@@ -2,7 +2,7 @@
 use mathlib.Core.Path.{_≡_, refl, sym, ap, _∙_}
 use mathlib.Core.Bool.{Bool, true, false}
 use mathlib.Core.List.{List, [], _∷_}
-use Prim.Native.Nat.{ℕ, zero, suc, _-_}
+use Prim.Native.Nat.{ℕ, _-_}
 use native.Mathlib.Omega.{arith}
 use lib.Dec.{eqb}
 use lib.ListN.{length, drop}
@@ -11,7 +11,7 @@ use Rattle.lexing.specs.bytes.{isLetter, isSpace, within}
 use Rattle.lexing.specs.reply.{Reply, ok, fail, stop, Parser, ret, _>>=_, _>>_, catch, failAt, keep}
 use Rattle.lexing.specs.words.{keyword, tag}
 use Rattle.lexing.specs.blanks.{Doc, no-doc, one-blank, whitespace0}
-use Rattle.lexing.specs.answers.{Rest, lostReply, SkipsAt, Fail, Stop}
+use Rattle.lexing.specs.answers.{Rest, lostReply, SkipsAt, Fail, Stop, onLost}
 use Rattle.lexing.specs.declared.answers.Lost.{Lost}
 use Rattle.lexing.specs.declared.answers.Step.{Step as Answered}
 use Rattle.lexing.specs.declared.answers.Step.the-variants.{Next, Not}
@@ -37,12 +37,8 @@ use Rattle.items.proofs.counts.Laws.{Counted, count-took, count-lost, c
 use Rattle.items.proofs.writing.Laws.{no-room, written-took}
 
 -- what is lost, where a failure is caught
-abbrev caughtBy : {A : Type 0} → (ℕ → Parser A) → ℕ → ℕ → Parser A
-caughtBy h zero p b u = h p b u
-caughtBy h (suc n) p b u = stop n p
-
 abbrev pub caught : {A : Type 0} → (ℕ → Parser A) → Lost → Parser A
-caught h l b u = caughtBy h (l .cause) (l .place) b u
+caught h l b u = onLost (λ p. h p b u) (λ n p. stop n p) l
 
 -- an accepted reply is none that is lost
 pub lost-not : {A : Type 0} {a : A} {c : ℕ} {r : List ℕ} {m : Reply A} → ok a c r ≡ m → (l : Lost) → lostReply l ≡ m → ⊥

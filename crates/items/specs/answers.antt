@@ -7,7 +7,7 @@ pub mod members
 pub mod attributes
 pub mod endpoints
 pub mod items
-use Prim.Native.Nat.{ℕ, zero, suc, _+_, _-_, _*_, _≤_, _<_}
+use Prim.Native.Nat.{ℕ, _+_, _-_, _*_, _≤_, _<_}
 use mathlib.Core.Path.{_≡_}
 use mathlib.Core.Bool.{Bool, true, false}
 use mathlib.Core.Option.{Option, none, some}
@@ -16,7 +16,7 @@ use lib.ListN.{length, take, drop}
 use Rattle.lexing.specs.reply.{Parser, ok, ret, _>>=_, _>>_}
 use Rattle.lexing.specs.words.{word}
 use Rattle.lexing.specs.blanks.{Doc, whitespace0}
-use Rattle.lexing.specs.answers.{Answer, got, lost, reply, docOf, Fail, Stop}
+use Rattle.lexing.specs.answers.{Answer, got, lost, reply, docOf, Fail, Stop, onLost}
 use Rattle.lexing.specs.declared.answers.Lost.{Lost}
 use Rattle.lexing.specs.declared.blanks.DocSpan.{DocSpan}
 use Rattle.lexing.specs.declared.blanks.DocSpan.the-variants.{Absent, At}
@@ -90,12 +90,8 @@ pub record CountsTo {I A : Type 0} (records : I → A → List Record) (m : I �
   pub counts : (i : I) → CountTo (records i) (m i) r b u
 
 -- the count of a repetition, after n words at c, by why its last try was lost
-abbrev pub countEndBy : ℕ → ℕ → ℕ → ℕ → Count
-countEndBy zero p n c = Words n c
-countEndBy (suc i) p n c = NoCount (Stop i p)
-
 abbrev pub countEnd : Lost → ℕ → ℕ → Count
-countEnd l n c = countEndBy (l .cause) (l .place) n c
+countEnd l n c = onLost (λ p. Words n c) (λ i p. NoCount (Stop i p)) l
 
 -- The second pass.
 

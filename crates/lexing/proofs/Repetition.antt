@@ -8,7 +8,7 @@ use Rattle.lexing.specs.reply.{Reply, ok, fail, stop, Parser, prepend, m
 use Rattle.lexing.proofs.Losses.{by-lost}
 use Rattle.lexing.proofs.Chain.{Shorter}
 use Rattle.lexing.proofs.Locality.{Consumes}
-use Rattle.lexing.specs.answers.{lostReply, Rest}
+use Rattle.lexing.specs.answers.{lostReply, Rest, onLost}
 use Rattle.lexing.proofs.Slicing.{Took}
 use Rattle.lexing.specs.declared.answers.Lost.{Lost}
 
@@ -107,12 +107,8 @@ many0-step {A} {m} w {b} {c} {n} {u} {l} {a} i t =
       omega (arith, s, length-drop (c - b) u, length-drop (n - b) u, i .from, t .up, t .inside),
     )
 
-abbrev pub manyEndBy : {A : Type 0} → ℕ → ℕ → List A → ℕ → List ℕ → Reply (List A)
-manyEndBy zero p l c r = ok l c r
-manyEndBy (suc n) p l c r = stop n p
-
 abbrev pub manyEnd : {A : Type 0} → Lost → List A → ℕ → List ℕ → Reply (List A)
-manyEnd x l c r = manyEndBy (x .cause) (x .place) l c r
+manyEnd x l c r = onLost (λ p. ok l c r) (λ n p. stop n p) x
 
 ends-at : {A : Type 0} (m : Parser A) (w : Consumes m) (x : Lost) (l : List A) (c : ℕ) (r : List ℕ) → lostReply x ≡ m c r → before l (many0 m c r) ≡ manyEnd x l c r
 ends-at {A} m w x l c r =

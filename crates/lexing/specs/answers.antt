@@ -50,13 +50,16 @@ Fail p = record { cause = 0; place = p }
 abbrev pub Stop : ℕ → ℕ → Lost
 Stop n p = record { cause = suc n; place = p }
 
--- by its cause and its place
-abbrev pub lostBy : {A : Type 0} → ℕ → ℕ → Reply A
-lostBy zero p = fail p
-lostBy (suc n) p = stop n p
+-- one thing for a failure, by its place, another for what ends all reading, by its number and its place
+abbrev pub lostCase : {T : Type 0} → (ℕ → T) → (ℕ → ℕ → T) → ℕ → ℕ → T
+lostCase f s zero p = f p
+lostCase f s (suc n) p = s n p
+
+abbrev pub onLost : {T : Type 0} → (ℕ → T) → (ℕ → ℕ → T) → Lost → T
+onLost f s l = lostCase f s (l .cause) (l .place)
 
 abbrev pub lostReply : {A : Type 0} → Lost → Reply A
-lostReply l = lostBy (l .cause) (l .place)
+lostReply l = onLost (λ p. fail p) (λ n p. stop n p) l
 
 abbrev pub reply : {A : Type 0} → Answer A → ℕ → List ℕ → Reply A
 reply (got a c) b u = ok a c (drop (c - b) u)
@@ -203,10 +206,6 @@ pub record NumberAt (m : Parser ℕ) (r : Number) (b : ℕ) (u : List ℕ) (c : 
   pub reads : numberReply r c (drop (c - b) u) ≡ m c (drop (c - b) u)
 
 -- the answer of an optional part that stands at b
-abbrev pub optionalLost : ℕ → ℕ → ℕ → Step
-optionalLost zero p b = Next b
-optionalLost (suc n) p b = Not (Stop n p)
-
 abbrev pub optionalStep : Step → ℕ → Step
 optionalStep (Next c) b = Next c
-optionalStep (Not l) b = optionalLost (l .cause) (l .place) b
+optionalStep (Not l) b = onLost (λ p. Next b) (λ n p. Not (Stop n p)) l

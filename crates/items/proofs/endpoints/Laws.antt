@@ -6,13 +6,13 @@ use mathlib.Core.Option.{Option, none, some}
 use Prim.Native.Nat.{ℕ, zero, suc, _+_, _-_, _*_, _≤_, _<_}
 use native.Mathlib.Omega.{arith}
 use lib.ListN.{length, drop, getD}
-use Rattle.lexing.specs.reply.{Reply, ok, fail, Parser, _>>_, opt}
+use Rattle.lexing.specs.reply.{Reply, ok, fail, Parser, _>>_, opt, stop}
 use Rattle.lexing.specs.bytes.{ascii, lower}
 use Rattle.lexing.specs.words.{Word, keyword}
 use Rattle.lexing.specs.integers.{signed, positive-integer, signed-integer}
 use Rattle.lexing.specs.blanks.{no-doc, whitespace0, whitespace1}
 use Rattle.lexing.specs.strings.{Span, span, default-escape, default-string}
-use Rattle.lexing.specs.answers.{Answer, got, reply, lostReply, Rest, lostOf, numberLost, numberReply, signedReply, spanTo, stringReply, NameIn, wordBetween, Fail, lostBy}
+use Rattle.lexing.specs.answers.{Answer, got, reply, lostReply, Rest, lostOf, numberLost, numberReply, signedReply, spanTo, stringReply, NameIn, wordBetween, Fail}
 use Rattle.lexing.specs.declared.answers.Lost.{Lost}
 use Rattle.lexing.specs.declared.answers.Step.{Step}
 use Rattle.lexing.specs.declared.answers.Step.the-variants.{Next, Not}
@@ -20,7 +20,7 @@ use Rattle.lexing.specs.declared.integers.Number.{Number}
 use Rattle.lexing.specs.declared.integers.Number.the-variants.{Value, NoNumber}
 use Rattle.lexing.specs.declared.integers.SignedNumber.{SignedNumber}
 use Rattle.lexing.specs.declared.integers.SignedNumber.the-variants.{Sized, NoSigned}
-use Rattle.lexing.proofs.Losses.{by-lost}
+use Rattle.lexing.proofs.Losses.{by-lost, at-failure}
 use Rattle.lexing.proofs.Onward.{Onward}
 use Rattle.lexing.proofs.Locality.{chain-opt, chain-then}
 use Rattle.lexing.proofs.TokenLocality.{whitespace1-chain}
@@ -93,7 +93,7 @@ module _ (b : ℕ) (u : List ℕ) {a : Number} (h : numberReply a b u ≡ positi
 
     pub number-not : l' .cause ≡ 0 → fail b ≡ mapped positive-integer number b u
     number-not z =
-        let k : fail (l' .place) ≡ positive-integer b u = subst (λ (i : ℕ). lostBy i (l' .place) ≡ positive-integer b u) z lost-integer in
+        let k : fail (l' .place) ≡ positive-integer b u = at-failure (λ p. fail p) (λ n p. stop n p) l' z ∙ lost-integer in
         let y : l' .place ≡ b = rw (← k) at (integer-place b u) in
         mapped-not number positive-integer b u (Fail b) (rw y at k)
 

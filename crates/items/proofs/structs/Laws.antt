@@ -13,12 +13,12 @@ use Rattle.lexing.specs.bytes.{ascii, within, lower}
 use Rattle.lexing.specs.reply.{Reply, ok, fail, stop, Parser, ret, _or_, further, opt, pick, many0}
 use Rattle.lexing.specs.words.{Word, bytesOf, isKeyword, isLower, keyword, any-keyword}
 use Rattle.lexing.specs.word_sets.{same-bytes, bit}
-use Rattle.lexing.specs.answers.{Rest, lostReply, wordAt, wordReply, numberReply, numberLost, BlankAt, behind-blanks, wordBetween}
+use Rattle.lexing.specs.answers.{Rest, lostReply, wordAt, wordReply, numberReply, numberLost, BlankAt, behind-blanks, wordBetween, Stop}
 use Rattle.lexing.specs.declared.answers.Lost.{Lost}
 use Rattle.lexing.specs.declared.answers.Step.the-variants.{Next}
 use Rattle.lexing.specs.declared.integers.Number.{Number}
 use Rattle.lexing.specs.declared.integers.Number.the-variants.{Value, NoNumber}
-use Rattle.lexing.proofs.Losses.{by-lost, at-stop}
+use Rattle.lexing.proofs.Losses.{by-lost, at-stop, at-failure}
 use Rattle.lexing.proofs.Tests.{false-if, and-right}
 use Rattle.lexing.proofs.Locality.{chain-opt, chain-many0}
 use Rattle.lexing.proofs.TokenLocality.{any-keyword-chain, whitespace0-chain}
@@ -36,7 +36,7 @@ use Rattle.items.specs.layout.{packed, width, from-top, offset, size, la
 use Rattle.items.specs.members.{or-else}
 use Rattle.items.specs.answers.{optionOf, Front, Room, Written, first-of, spanWord, docWord, docBit, frontOf}
 use Rattle.items.specs.answers.structs.{fieldAt, fieldLost, FieldBetween, FieldTo, structFieldAt, structFieldLost, StructFieldBetween, StructFieldTo, StructFrom, behind-shared, not-shared, typeOf, headAt, headLost, HeadBetween, StructHeadTo}
-use Rattle.items.specs.inner.structs.{lengthReply, lengthLost, optionalLength, lengthBy, MarkerTo, kindBy, typeBy, struct-words, StructWordTo, codeReply, field-parts, kindNumber, responseNumber, struct-first}
+use Rattle.items.specs.inner.structs.{lengthReply, lengthLost, optionalLength, MarkerTo, kindBy, typeBy, struct-words, StructWordTo, codeReply, field-parts, kindNumber, responseNumber, struct-first}
 use Rattle.items.specs.declared.writing.FrontParts.{FrontParts}
 use Rattle.items.specs.declared.structs.FieldParts.{FieldParts}
 use Rattle.items.specs.declared.structs.FieldRead.{FieldRead}
@@ -73,7 +73,7 @@ use Rattle.lexing.proofs.steps.Laws.{blank-at-took}
 pub length-fail : (r : Number) (b : ℕ) (l k : Lost) → r ≡ NoNumber l → k ≡ numberLost r → k .cause ≡ 0 → Length false 0 b ≡ optionalLength r b
 length-fail r b l k e f g =
     let z : k ≡ l = f ∙ ap numberLost e in
-    ap (λ (i : ℕ). lengthBy i (k .place) b) (sym g) ∙ sym (ap (λ (x : Number). optionalLength x b) (e ∙ ap NoNumber (sym z)))
+    at-failure (λ p. Length false 0 b) (λ n p. NoLength (Stop n p)) k g ∙ sym (ap (λ (x : Number). optionalLength x b) (e ∙ ap NoNumber (sym z)))
 
 pub length-stop : (r : Number) (b : ℕ) (l k : Lost) → r ≡ NoNumber l → k ≡ numberLost r → (k .cause ≡ 0 → ⊥) → NoLength k ≡ optionalLength r b
 length-stop r b l k e f g =

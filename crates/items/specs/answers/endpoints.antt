@@ -1,5 +1,5 @@
 -- What the answers of the readers of endpoints say, as replies of the definitions.
-use Prim.Native.Nat.{ℕ, zero, suc, _+_, _≤_, _<_}
+use Prim.Native.Nat.{ℕ, _+_, _≤_, _<_}
 use mathlib.Core.Path.{_≡_}
 use mathlib.Core.Bool.{true, false}
 use mathlib.Core.List.{List}
@@ -10,7 +10,7 @@ use Rattle.lexing.specs.words.{Word}
 use Rattle.lexing.specs.integers.{signed}
 use Rattle.lexing.specs.blanks.{whitespace1}
 use Rattle.lexing.specs.strings.{span}
-use Rattle.lexing.specs.answers.{Answer, got, lost, reply, ReadTo, NameIn, wordBetween, Fail, Stop}
+use Rattle.lexing.specs.answers.{Answer, got, lost, reply, ReadTo, NameIn, wordBetween, Fail, Stop, onLost}
 use Rattle.lexing.specs.declared.answers.Lost.{Lost}
 use Rattle.items.specs.clusters.{mapped}
 use Rattle.items.specs.records.{Record}
@@ -79,13 +79,9 @@ abbrev pub ValueTo : Parser DefaultOf → DefaultRead → ℕ → List ℕ → T
 ValueTo m r b u = ReadTo defaultAnswer DefaultReadIn (mapped m some) r b u
 
 -- the answer of a default that may be absent at b: where it fails nothing is read
-abbrev pub valueLost : ℕ → ℕ → ℕ → DefaultRead
-valueLost zero p b = Read Absent b
-valueLost (suc n) p b = NoDefault (Stop n p)
-
 abbrev pub optionalValue : DefaultRead → ℕ → DefaultRead
 optionalValue (Read d c) b = Read d c
-optionalValue (NoDefault l) b = valueLost (l .cause) (l .place) b
+optionalValue (NoDefault l) b = onLost (λ p. Read Absent b) (λ n p. NoDefault (Stop n p)) l
 
 abbrev pub OptionalTo : Parser DefaultOf → DefaultRead → ℕ → List ℕ → Type 0
 OptionalTo m r b u = ReadTo defaultAnswer DefaultReadIn (opt m) r b u

@@ -1,5 +1,5 @@
 -- What the private functions of the readers of endpoints promise.
-use Prim.Native.Nat.{ℕ, zero, suc, _-_, max}
+use Prim.Native.Nat.{ℕ, _-_, max}
 use mathlib.Core.Path.{_≡_}
 use mathlib.Core.List.{List, [], _∷_}
 use Rattle.lexing.specs.bytes.{byte}
@@ -8,7 +8,7 @@ use Rattle.lexing.specs.words.{tag}
 use Rattle.lexing.specs.integers.{positive-integer, signed-integer}
 use Rattle.lexing.specs.blanks.{whitespace0}
 use Rattle.lexing.specs.declared.answers.Lost.{Lost}
-use Rattle.lexing.specs.answers.{Fail, Stop}
+use Rattle.lexing.specs.answers.{Fail, Stop, onLost}
 use Rattle.items.specs.clusters.{mapped}
 use Rattle.items.specs.endpoints.{Tried as TriedOf, Deep, deep-run, number, signed-number}
 use Rattle.items.specs.records.{Record, absent, at, bits, value, plain, default-number, default-word}
@@ -23,12 +23,8 @@ pub record NoNumberAt (b : ℕ) (u : List ℕ) : Type 0 where
   pub with-sign : fail b ≡ mapped signed-integer signed-number b u
 
 -- what is lost, its place no nearer than the furthest so far
-abbrev pub furtherBy : ℕ → ℕ → ℕ → Lost
-furtherBy zero p q = Fail (max p q)
-furtherBy (suc n) p q = Stop n p
-
 abbrev pub furtherLost : Lost → ℕ → Lost
-furtherLost l q = furtherBy (l .cause) (l .place) q
+furtherLost l q = onLost (λ p. Fail (max p q)) (λ n p. Stop n p) l
 
 -- the closing brace behind tries whose furthest place is q
 unfoldable pub deep-close : ℕ → Parser (Unit {0})

@@ -1,5 +1,5 @@
 -- What the private functions of the readers of fields and structs promise.
-use Prim.Native.Nat.{ℕ, zero, suc, _+_, _-_, _≤_}
+use Prim.Native.Nat.{ℕ, _+_, _-_, _≤_}
 use mathlib.Core.Path.{_≡_}
 use mathlib.Core.Bool.{Bool, true, false}
 use mathlib.Core.Option.{Option}
@@ -8,7 +8,7 @@ use lib.ListN.{length}
 use Rattle.lexing.specs.bytes.{ascii}
 use Rattle.lexing.specs.reply.{Reply, Parser, ret, opt}
 use Rattle.lexing.specs.words.{Word}
-use Rattle.lexing.specs.answers.{Answer, got, lost, reply, docOf, BlankAt, Fail, Stop}
+use Rattle.lexing.specs.answers.{Answer, got, lost, reply, docOf, BlankAt, Fail, Stop, onLost}
 use Rattle.lexing.specs.declared.answers.Lost.{Lost}
 use Rattle.lexing.specs.declared.integers.Number.{Number}
 use Rattle.lexing.specs.declared.integers.Number.the-variants.{Value, NoNumber}
@@ -40,13 +40,9 @@ lengthLost (Length h v c) = Fail c
 lengthLost (NoLength l) = l
 
 -- of a number that may be absent at b
-abbrev pub lengthBy : ℕ → ℕ → ℕ → MaxLength
-lengthBy zero p b = Length false 0 b
-lengthBy (suc n) p b = NoLength (Stop n p)
-
 abbrev pub optionalLength : Number → ℕ → MaxLength
 optionalLength (Value v c) b = Length true v c
-optionalLength (NoNumber l) b = lengthBy (l .cause) (l .place) b
+optionalLength (NoNumber l) b = onLost (λ p. Length false 0 b) (λ n p. NoLength (Stop n p)) l
 
 -- the marker of a list and where it ends
 pub record MarkerTo (r : Marker) (b : ℕ) (u : List ℕ) : Type 0 where

@@ -6,17 +6,17 @@ use Prim.Native.Nat.{ℕ, _-_}
 use native.Mathlib.Omega.{arith}
 use lib.ListN.{drop}
 use Rattle.lexing.specs.reply.{ok, fail, stop, Parser, opt}
-use Rattle.lexing.specs.answers.{Rest, lostReply, lostOf, Skips, optionalStep, optionalLost}
+use Rattle.lexing.specs.answers.{Rest, lostReply, lostOf, Skips, optionalStep, Stop}
 use Rattle.lexing.specs.declared.answers.Lost.{Lost}
 use Rattle.lexing.specs.declared.answers.Step.{Step}
 use Rattle.lexing.specs.declared.answers.Step.the-variants.{Next, Not}
-use Rattle.lexing.proofs.Losses.{by-lost, at-stop}
+use Rattle.lexing.proofs.Losses.{by-lost, at-stop, at-failure}
 use Rattle.lexing.proofs.Onward.{Onward}
 use Rattle.lexing.proofs.Slicing.{Took, took, told-next, step-lost}
 
 -- the two ways of a part that is not there
 pub optional-fail : (r : Step) (b : ℕ) (l : Lost) → r ≡ Not l → l .cause ≡ 0 → Next b ≡ optionalStep r b
-optional-fail r b l e f = ap (λ (k : ℕ). optionalLost k (l .place) b) (sym f) ∙ sym (ap (λ (x : Step). optionalStep x b) e)
+optional-fail r b l e f = at-failure (λ p. Next b) (λ n p. Not (Stop n p)) l f ∙ sym (ap (λ (x : Step). optionalStep x b) e)
 
 pub optional-stop : (r : Step) (b : ℕ) (l : Lost) → r ≡ Not l → (l .cause ≡ 0 → ⊥) → Not l ≡ optionalStep r b
 optional-stop r b l e f = at-stop (λ l. Not l ≡ optionalStep (Not l) b) (λ n p. refl) l f ∙ sym (ap (λ (x : Step). optionalStep x b) e)

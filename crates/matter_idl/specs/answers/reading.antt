@@ -1,9 +1,10 @@
 -- What the verdict on a part and on a whole text says, as that of the definition.
-use Prim.Native.Nat.{ℕ, zero, suc, _+_, _-_, _*_, _≤_, _<_}
+use Prim.Native.Nat.{ℕ, _+_, _-_, _*_, _≤_, _<_}
 use mathlib.Core.Path.{_≡_}
 use mathlib.Core.List.{List}
 use lib.ListN.{length, drop}
 use Rattle.lexing.specs.reply.{ok}
+use Rattle.lexing.specs.answers.{onLost}
 use Rattle.lexing.specs.declared.answers.Lost.{Lost}
 use Rattle.items.specs.items.{Item}
 use Rattle.items.specs.layout.{word-count, text-limit}
@@ -13,12 +14,8 @@ use Rattle.matter_idl.specs.declared.reading.Verdict.{Verdict}
 use Rattle.matter_idl.specs.declared.reading.Verdict.the-variants.{Accepted, Refused}
 
 -- document 01's number and value of what is lost: a failure is refused by 3
-abbrev pub refusedFor : ℕ → ℕ → Verdict
-refusedFor zero p = Refused 3 p
-refusedFor (suc n) p = Refused n p
-
 abbrev pub refusedBy : Lost → Verdict
-refusedBy l = refusedFor (l .cause) (l .place)
+refusedBy l = onLost (λ p. Refused 3 p) (λ n p. Refused n p) l
 
 -- a part from the offset b on is accepted, with the words of its items, whatever ids were met before them
 pub record AcceptedAt (n b : ℕ) (u : List ℕ) : Type 0 where
