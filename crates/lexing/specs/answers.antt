@@ -131,6 +131,10 @@ abbrev pub docBy : ℕ → ℕ → Doc
 docBy zero n = no-doc
 docBy (suc o) n = doc-at (suc o) n
 
+-- a run by the offset behind it and the two numbers of its doc comment
+abbrev pub runOf : ℕ → List ℕ → Run
+runOf n d = record { next = n; doc = getD d 0 0; size = getD d 1 0 }
+
 abbrev pub runReply : Run → ℕ → List ℕ → Reply Doc
 runReply r b u = reply (got (docBy (r .doc) (r .size)) (r .next)) b u
 

@@ -1,13 +1,14 @@
 // Blanks: white space and comments.
 ghost use mathlib.Core.Path.{_≡_};
 ghost use mathlib.Core.Bool.{false};
+ghost use mathlib.Core.List.{[], _∷_};
 ghost use Prim.Native.Nat.{_+_, _-_, _≤_, _<_};
 ghost use lib.ListN.{length, drop, getD};
 ghost use Rattle.lexing.specs.bytes.{slash, isSpace, inLine, takeWhile};
 ghost use Rattle.lexing.specs.integers.{u64-max};
 ghost use Rattle.lexing.specs.blanks.{until-close, whitespace-group, one-blank, whitespace1};
 ghost use Rattle.lexing.specs.inner.blanks.{isClose, endUntil, turnReply};
-ghost use Rattle.lexing.specs.answers.{groupReply, docOf, BlankTo, docBy, RunTo, gapReply, gapLost};
+ghost use Rattle.lexing.specs.answers.{groupReply, docOf, BlankTo, docBy, runOf, RunTo, gapReply, gapLost};
 use crate::answers::Lost;
 use crate::bytes::is_in_line;
 use crate::bytes::is_space;
@@ -220,22 +221,13 @@ fn doc_by(doc: usize, size: usize) -> DocSpan
     DocSpan::At(doc, size)
 }
 
-// A run as an answer.
-fn blank_by(r: Run) -> Blank
-    ensures { λ x. ⌜ (x .next ≡ r .next) × (docOf (x .doc) ≡ docBy (r .doc) (r .size)) ⌝ }
-{
-    Blank {
-        next: r.next,
-        doc: doc_by(r.doc, r.size),
-    }
-}
-
 // Blanks from behind the white space at the front on: comments with the white space behind each. The run is carried in plain numbers, since
 // an enum in it would be copied at each turn.
-fn more_blanks(part: &[u8], base: usize, from: usize) -> Run
+fn more_blanks(part: &[u8], base: usize, from: usize, doc: &mut [usize; 2]) -> usize
     requires { ⌜ base + length (now part) ≤ u64-max ⌝ }
     requires { ⌜ from ≡ base + length (takeWhile isSpace (now part)) ⌝ }
-    ensures { λ r. ⌜ RunTo r base (now (part .entry)) ⌝ }
+    requires { ⌜ now doc ≡ 0 ∷ 0 ∷ [] ⌝ }
+    ensures { λ r. ⌜ RunTo (runOf r (now (doc .exit))) base (now (part .entry)) ⌝ }
 {
     let mut b = Run {
         next: from,
@@ -245,7 +237,9 @@ fn more_blanks(part: &[u8], base: usize, from: usize) -> Run
     loop {
         let t = one_blank(part, base, b);
         let Turn::Again(c) = t else {
-            return b;
+            doc[0] = b.doc;
+            doc[1] = b.size;
+            return b.next;
         };
         b = Run {
             next: skip_white(part, base, c.next),
@@ -255,24 +249,23 @@ fn more_blanks(part: &[u8], base: usize, from: usize) -> Run
     }
 }
 
-// Any number of blanks, without a test for the common cases first. It is called at several places, so that it stays a function of its own and what is left
-// of its callers, `whitespace0` and the steps behind blanks, is short. It answers in plain numbers, since an enum that a call has just written is slow to copy.
+// The offset behind any number of blanks at an offset, without a test for the common cases first. The doc comment's numbers, those of a `Run`, are left in
+// doc, which holds zeros: so the offset comes back in a register, and only a comment costs a store. It is called at several places, so that it stays
+// a function of its own and what is left of its callers, `whitespace0` and the steps behind blanks, is short.
 // The part is taken anew, so that the compiler hands it over in registers (docs/DECISIONS.md, 39).
-pub fn blank_run(part: &[u8], base: usize) -> Run
-    requires { ⌜ base + length (now part) ≤ u64-max ⌝ }
-    ensures { λ r. ⌜ RunTo r base (now (part .entry)) ⌝ }
+pub fn blank_run(part: &[u8], base: usize, c: usize, doc: &mut [usize; 2]) -> usize
+    requires { ⌜ ((base ≤ c) × (c ≤ base + length (now part))) × (base + length (now part) ≤ u64-max) ⌝ }
+    requires { ⌜ now doc ≡ 0 ∷ 0 ∷ [] ⌝ }
+    ensures { λ r. ⌜ RunTo (runOf r (now (doc .exit))) c (drop (c - base) (now (part .entry))) ⌝ }
 {
     let part = &part[..];
-    let n = white_length(part);
-    let next = base + n;
-    if peek(part, n) == b'/' {
-        return more_blanks(part, base, next);
+    let rest = rest_at(part, base, c);
+    let n = white_length(rest);
+    let next = c + n;
+    if peek(rest, n) == b'/' {
+        return more_blanks(rest, c, next, doc);
     }
-    Run {
-        next,
-        doc: 0,
-        size: 0,
-    }
+    next
 }
 
 // Any number of blanks. No byte above the slash starts one, and most calls end with that test, or with a single space before such a byte.
@@ -287,16 +280,20 @@ pub fn whitespace0(part: &[u8], base: usize) -> Blank
             doc: DocSpan::Absent,
         };
     }
-    if x != b' ' {
-        return blank_by(blank_run(part, base));
+    if x == b' ' {
+        if b'/' < peek(part, 1) {
+            return Blank {
+                next: base + 1,
+                doc: DocSpan::Absent,
+            };
+        }
     }
-    if b'/' < peek(part, 1) {
-        return Blank {
-            next: base + 1,
-            doc: DocSpan::Absent,
-        };
+    let mut doc = [0; 2];
+    let next = blank_run(part, base, base, &mut doc);
+    Blank {
+        next,
+        doc: doc_by(doc[0], doc[1]),
     }
-    blank_by(blank_run(part, base))
 }
 
 // At least one blank.

@@ -23,8 +23,8 @@ fn blank_end(part: &[u8], base: usize, c: usize) -> usize
     requires { ⌜ ((base ≤ c) × (c ≤ base + length (now part))) × (base + length (now part) ≤ u64-max) ⌝ }
     ensures { λ r. ⌜ BlankAt r base (now (part .entry)) c ⌝ }
 {
-    let w = blank_run(rest_at(part, base, c), c);
-    w.next
+    let mut doc = [0; 2];
+    blank_run(part, base, c, &mut doc)
 }
 
 // The offset behind blanks. It is `whitespace0` without the doc comment, so that no struct is needed; and a slice of the rest is made only

@@ -384,6 +384,9 @@ module _ (b : ℕ) (u : List ℕ) (t : Run) (i : BlanksAt b u t) (r : Turn) (h :
 pub run-blank : {t : Run} {b : ℕ} {u : List ℕ} → RunTo t b u → (x : Blank) → x .next ≡ t .next → docOf (x .doc) ≡ docBy (t .doc) (t .size) → BlankTo x b u
 run-blank h x n d = record { reads = rw (n, d) (h .reads); up = rw n (h .up); inside = rw n (h .inside) }
 
+pub run-self : {t : Run} {b : ℕ} {u : List ℕ} → RunTo t b (drop (b - b) u) → RunTo t b u
+run-self {b = b} h = let z : b - b ≡ 0 = omega arith in rw z at h
+
 without-doc : {n b : ℕ} {u : List ℕ} → RunTo (record { next = n; doc = 0; size = 0 }) b u → BlankTo (record { next = n; doc = Absent }) b u
 without-doc {n} h = run-blank h (record { next = n; doc = Absent }) refl refl
 
