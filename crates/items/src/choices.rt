@@ -58,6 +58,7 @@ pub fn choice_head(part: &[u8], base: usize, from: usize, key: &[u8]) -> ChoiceH
     ensures { λ r. ⌜ ChoiceHeadTo (now (key .entry)) r base (now (part .entry)) ⌝ }
 {
     let part = &part[..];
+    let key = &key[..];
     let named = keyword_name(rest_at(part, base, from), from, key);
     let Named::Name(name, end, c1) = named else {
         return ChoiceHeadRead::NoChoiceHead(named_lost(named));
@@ -102,6 +103,7 @@ pub fn choice_after_doc_maturity(part: &[u8], base: usize, from: usize, key: &[u
     ensures { λ r. ⌜ ChoiceCountTo (now (key .entry)) r base (now (part .entry)) ⌝ }
 {
     let part = &part[..];
+    let key = &key[..];
     let head = choice_head(part, base, from, key);
     let ChoiceHeadRead::ChoiceHead(_, c1) = head else {
         return Count::NoCount(choice_head_lost(head));
@@ -154,6 +156,7 @@ pub fn write_choice(
     ensures { λ r. ⌜ Written (choice-records (front .kind) (front .place)) (choice-after-doc-maturity (now (key .entry)) (docOf (front .doc)) (front .maturity)) base (now (part .entry)) at r (now (out .entry)) (now (out .exit)) ⌝ }
 {
     let part = &part[..];
+    let key = &key[..];
     let head = choice_head(part, base, from, key);
     let ChoiceHeadRead::ChoiceHead(h, c) = head else {
         return Wrote { next: base, to: at };

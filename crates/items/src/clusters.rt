@@ -85,8 +85,8 @@ pub struct Candidate {
 // Up to the braces: the offsets of its name and behind it, and its code.
 pub struct ClusterHeadParts {
     pub name: usize,
-    pub end: usize,
     pub code: u64,
+    pub end: usize,
 }
 
 pub enum ClusterHeadRead {

@@ -42,8 +42,8 @@ use lexing::words::tag;
 pub struct EntryParts {
     pub maturity: u8,
     pub name: usize,
-    pub end: usize,
     pub code: u64,
+    pub end: usize,
 }
 
 pub enum EntryRead {

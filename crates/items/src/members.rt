@@ -79,8 +79,8 @@ pub struct EventHeadParts {
     pub rank: u8,
     pub privilege: u8,
     pub name: usize,
-    pub end: usize,
     pub code: u64,
+    pub end: usize,
 }
 
 pub enum EventHeadRead {
@@ -90,9 +90,9 @@ pub enum EventHeadRead {
 
 // Up to a command's name: its flags, the privilege to invoke it, the offsets of its name and behind it.
 pub struct CommandHeadParts {
+    pub name: usize,
     pub qualities: u8,
     pub privilege: u8,
-    pub name: usize,
     pub end: usize,
 }
 
@@ -104,8 +104,8 @@ pub enum CommandHeadRead {
 // A command's input and output, each by the offset of its name and the one behind it; they are the same where there is no input.
 pub struct CommandTypesParts {
     pub input: usize,
-    pub input_end: usize,
     pub output: usize,
+    pub input_end: usize,
     pub output_end: usize,
 }
 

@@ -57,10 +57,10 @@ pub struct FieldParts {
     pub name: usize,
     pub type_end: usize,
     pub end: usize,
-    pub has_maximum: bool,
     pub maximum: u64,
-    pub list: bool,
     pub code: u64,
+    pub has_maximum: bool,
+    pub list: bool,
 }
 
 pub enum FieldRead {
@@ -93,8 +93,8 @@ pub struct StructHeadParts {
     pub kind: StructKind,
     pub scoped: u8,
     pub name: usize,
-    pub end: usize,
     pub code: u64,
+    pub end: usize,
 }
 
 pub enum StructHeadRead {

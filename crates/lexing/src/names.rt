@@ -74,6 +74,7 @@ pub fn keyword_name(part: &[u8], base: usize, key: &[u8]) -> Named
     ensures { λ r. ⌜ NamedTo (keyword-name (now (key .entry))) r base (now (part .entry)) ⌝ }
 {
     let part = &part[..];
+    let key = &key[..];
     let word = keyword(part, base, key);
     let Step::Next(c1) = word else {
         return Named::NoName(step_lost(word));
@@ -96,6 +97,8 @@ pub fn name_behind(part: &[u8], base: usize, first: &[u8], second: &[u8]) -> Nam
     ensures { λ r. ⌜ NamedTo (name-behind (now (first .entry)) (now (second .entry))) r base (now (part .entry)) ⌝ }
 {
     let part = &part[..];
+    let first = &first[..];
+    let second = &second[..];
     let one = keyword(part, base, first);
     let Step::Next(c1) = one else {
         return Named::NoName(step_lost(one));
@@ -118,6 +121,8 @@ pub fn named_after(part: &[u8], base: usize, first: &[u8], second: &[u8]) -> Nam
     ensures { λ r. ⌜ NamedTo (named-after (now (first .entry)) (now (second .entry))) r base (now (part .entry)) ⌝ }
 {
     let part = &part[..];
+    let first = &first[..];
+    let second = &second[..];
     let named = name_behind(part, base, first, second);
     let Named::Name(name, end, c1) = named else {
         return Named::NoName(named_lost(named));
@@ -136,6 +141,7 @@ pub fn keyword_number(part: &[u8], base: usize, key: &[u8]) -> Number
     ensures { λ r. ⌜ numberReply r base (now (part .entry)) ≡ keyword-number (now (key .entry)) base (now (part .entry)) ⌝ }
 {
     let part = &part[..];
+    let key = &key[..];
     let word = keyword(part, base, key);
     let Step::Next(c1) = word else {
         return Number::NoNumber(step_lost(word));

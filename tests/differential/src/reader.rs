@@ -57,6 +57,7 @@ pub struct Library;
 #[cfg(feature = "library")]
 extern "C" {
     pub fn matter_idl_read(text: *const u8, text_len: usize, catalogue: *mut u8, catalogue_len: usize) -> u64;
+    pub fn matter_idl_survey(text: *const u8, text_len: usize, catalogue: *mut u8, catalogue_len: usize, report: *mut u8, report_len: usize) -> u64;
 }
 
 #[cfg(feature = "library")]

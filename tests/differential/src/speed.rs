@@ -1,37 +1,45 @@
 //! The Rust and the static library on the same text, in turn, in one run.
 use crate::idl::parser::Idl;
-use crate::reader::matter_idl_read;
+use crate::reader::{matter_idl_read, matter_idl_survey};
 use std::hint::black_box;
 use std::time::{Duration, Instant};
 
 const ROUNDS: usize = 15;
 
-/// Prints the shortest time of each and how many times as fast the library is.
+/// Prints the shortest time of each, and how many times as fast as the Rust the library reads and surveys the text.
 pub fn compare(file: &str) -> Result<(), String> {
     let text = std::fs::read_to_string(file).map_err(|e| format!("{file}: {e}"))?;
     let needed = read(text.as_bytes(), &mut []) & 0xff_ffff_ffff_ffff;
     let mut catalogue = vec![0; needed as usize];
-    if read(text.as_bytes(), &mut catalogue) != needed || Idl::parse(text.as_str().into()).is_err() {
+    let mut report = vec![0; 4 * text.len() + 8];
+    if read(text.as_bytes(), &mut catalogue) != needed
+        || survey(text.as_bytes(), &mut catalogue, &mut report) != needed
+        || Idl::parse(text.as_str().into()).is_err()
+    {
         return Err(format!("{file}: refused"));
     }
-    let (mut rust, mut library) = (Duration::MAX, Duration::MAX);
+    let (mut rust, mut reading, mut surveying) = (Duration::MAX, Duration::MAX, Duration::MAX);
+    // the Rust runs before each of the two, so that both find its bytes in the caches and not each other's
     for _ in 0..ROUNDS {
         rust = rust.min(time(|| Idl::parse(black_box(text.as_str()).into())));
-        library = library.min(time(|| read(black_box(text.as_bytes()), &mut catalogue)));
+        reading = reading.min(time(|| read(black_box(text.as_bytes()), &mut catalogue)));
+        rust = rust.min(time(|| Idl::parse(black_box(text.as_str()).into())));
+        surveying = surveying.min(time(|| survey(black_box(text.as_bytes()), &mut catalogue, &mut report)));
     }
-    let (rust, library) = (rust.as_secs_f64(), library.as_secs_f64());
-    println!(
-        "{file}: {} bytes, {needed} of catalogue; the Rust {:.1} ms, the library {:.2} ms: {:.1} times as fast",
-        text.len(),
-        rust * 1e3,
-        library * 1e3,
-        rust / library
-    );
+    let [rust, reading, surveying] = [rust, reading, surveying].map(|t| t.as_secs_f64());
+    println!("{file}: {} bytes, {needed} of catalogue; the Rust {:.1} ms", text.len(), rust * 1e3);
+    for (what, took) in [("reading", reading), ("survey", surveying)] {
+        println!("  {what:7} {:.2} ms: {:.1} times as fast as the Rust", took * 1e3, rust / took);
+    }
     Ok(())
 }
 
 fn read(text: &[u8], catalogue: &mut [u8]) -> u64 {
     unsafe { matter_idl_read(text.as_ptr(), text.len(), catalogue.as_mut_ptr(), catalogue.len()) }
+}
+
+fn survey(text: &[u8], catalogue: &mut [u8], report: &mut [u8]) -> u64 {
+    unsafe { matter_idl_survey(text.as_ptr(), text.len(), catalogue.as_mut_ptr(), catalogue.len(), report.as_mut_ptr(), report.len()) }
 }
 
 fn time<T>(f: impl FnOnce() -> T) -> Duration {

@@ -163,11 +163,7 @@ pub fn stored(seed: u64) -> Vec<Vec<u8>> {
 pub mod library {
     use super::*;
     use crate::catalogue::decode;
-    use crate::reader::{matter_idl_read, Library};
-
-    extern "C" {
-        fn matter_idl_survey(text: *const u8, text_len: usize, catalogue: *mut u8, catalogue_len: usize, report: *mut u8, report_len: usize) -> u64;
-    }
+    use crate::reader::{matter_idl_read, matter_idl_survey, Library};
 
     fn call(text: &[u8], catalogue: usize, report: usize) -> (u64, Vec<u8>, Vec<u8>) {
         let (mut c, mut r) = (vec![Library::FILL; catalogue], vec![Library::FILL; report]);

@@ -41,8 +41,8 @@ enum-told-2 c = c .match2 .keys2
 returns-2 : tie.Need-returns-2
 returns-2 c = headed-pass (choice-headed _) (read-took (c .before .before .before .before .before .before .before .choice-head .ensures) (c .before .before .before .before .before .head .given .1) (choice-head-onward _) (rest-self _ _) refl) _ _ (c .enum-told2 .given .1) (c .before .before .before .rest-at .ensures) (count-lost _ (c .enum-told2 .given .1) _ _ (c .before .before .constant-entries-list .ensures))
 
-add-t14 : tie.Need-add-t14
-add-t14 c = let k = (count-took entries-list-onward (c .before .before .before .before .rest-at .ensures) (c .before .run .given .1) (c .before .before .before .constant-entries-list .ensures)) in omega (arith, k .few, k .step .inside, c .before .before .before .before .before .before .before .before .before .before .before .pre .0)
+add-t16 : tie.Need-add-t16
+add-t16 c = let k = (count-took entries-list-onward (c .before .before .before .before .rest-at .ensures) (c .before .run .given .1) (c .before .before .before .constant-entries-list .ensures)) in omega (arith, k .few, k .step .inside, c .before .before .before .before .before .before .before .before .before .before .before .pre .0)
 
 returns-3 : tie.Need-returns-3
 returns-3 c = headed-counted (choice-headed _) (read-took (c .before .before .before .before .before .before .before .before .choice-head .ensures) (c .before .before .before .before .before .before .head .given .1) (choice-head-onward _) (rest-self _ _) refl) (choice-head-consumes _) (omega arith) (count-took entries-list-onward (c .before .before .before .before .rest-at .ensures) (c .before .run .given .1) (c .before .before .before .constant-entries-list .ensures))
@@ -61,5 +61,5 @@ choice-after-doc-maturity-spec =
     enum-known-run
     enum-told-2
     returns-2
-    add-t14
+    add-t16
     returns-3)
