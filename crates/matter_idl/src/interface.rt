@@ -10,7 +10,6 @@ ghost use Rattle.matter_idl.specs.interface.{value-limit, number-unit, r
 use crate::reading::Verdict;
 use crate::reading::verdict_on;
 use crate::reading::write_items;
-use crate::sections::count_sections;
 use crate::survey::count_accepted;
 use crate::survey::write_sections;
 use lexing::unescaping::Unescaping;
@@ -53,18 +52,24 @@ pub extern "C" fn matter_idl_survey(text: &[u8], catalogue: &mut [u8], report: &
     if 1048575 < text.len() {
         return packed(1, 1048575);
     }
-    let sections = count_sections(text);
-    if report.len() < 8 * sections {
-        return packed(8, 8 * sections);
-    }
     let mut marks = [0; 65536];
-    let words = count_accepted(text, sections, &mut marks);
-    if catalogue.len() < 8 * words {
-        return packed(7, 8 * words);
+    let counted = count_accepted(text, &mut marks);
+    if report.len() < 8 * counted.sections {
+        return packed(8, 8 * counted.sections);
+    }
+    if catalogue.len() < 8 * counted.words {
+        return packed(7, 8 * counted.words);
     }
     let mut filter = [0; 65536];
-    write_sections(text, sections, &marks, catalogue, &mut filter, report);
-    packed(0, 8 * words)
+    write_sections(
+        text,
+        counted.sections,
+        &marks,
+        catalogue,
+        &mut filter,
+        report,
+    );
+    packed(0, 8 * counted.words)
 }
 
 #[no_mangle]
