@@ -54,22 +54,17 @@ pub extern "C" fn matter_idl_survey(text: &[u8], catalogue: &mut [u8], report: &
     }
     let mut marks = [0; 65536];
     let counted = count_accepted(text, &mut marks);
-    if report.len() < 8 * counted.sections {
-        return packed(8, 8 * counted.sections);
+    let sections = counted.sections;
+    let words = counted.words;
+    if report.len() < 8 * sections {
+        return packed(8, 8 * sections);
     }
-    if catalogue.len() < 8 * counted.words {
-        return packed(7, 8 * counted.words);
+    if catalogue.len() < 8 * words {
+        return packed(7, 8 * words);
     }
     let mut filter = [0; 65536];
-    write_sections(
-        text,
-        counted.sections,
-        &marks,
-        catalogue,
-        &mut filter,
-        report,
-    );
-    packed(0, 8 * counted.words)
+    write_sections(text, sections, &marks, catalogue, &mut filter, report);
+    packed(0, 8 * words)
 }
 
 #[no_mangle]
