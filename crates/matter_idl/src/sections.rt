@@ -47,7 +47,7 @@ fn cut_64(part: &[u8], i: usize) -> bool
     cut_16(part, i) | cut_16(part, i + 16) | cut_16(part, i + 32) | cut_16(part, i + 48)
 }
 
-// How many bytes are passed 64 at a time with no cut among them, behind the first, at which none stands.
+// How many bytes are passed 64 at a time with no cut among them; the first is passed too, since no cut stands behind it.
 fn cutless(part: &[u8]) -> usize
     requires { ⌜ length (now part) ≤ text-limit ⌝ }
     ensures { λ r. ⌜ Uncut (now (part .entry)) r ⌝ }

@@ -1,4 +1,4 @@
--- The scans for cuts: what the bytes that are passed leave of a text's sections.
+-- The scan for the first cut: what the bytes that are passed leave of a text's sections.
 use mathlib.Core.Path.{_≡_, refl, sym, ap, _∙_}
 use mathlib.Core.Bool.{Bool, true, false, _||_, false≢true}
 use mathlib.Core.List.{List, [], _∷_, _++_, append-assoc, append-nil}
@@ -13,7 +13,7 @@ use borrow.Author.Tests.{ltb-true, ltb-false}
 use Rattle.lexing.proofs.Tests.{or-false}
 use Rattle.lexing.proofs.Scans.{turns}
 use Rattle.matter_idl.specs.sections.{line-feed, cut-after, before-first, cut-from, sections}
-use Rattle.matter_idl.specs.inner.sections.{behind-line-feed, cut-at, Cutless, prefixed, left-at, Uncut, FirstSection}
+use Rattle.matter_idl.specs.inner.sections.{cut-at, Cutless, prefixed, left-at, Uncut, FirstSection}
 
 prefixed-more : (xs : List ℕ) (x : ℕ) (ss : List (List ℕ)) → prefixed xs (before-first x ss) ≡ prefixed (xs ++ (x ∷ [])) ss
 unfolding prefixed before-first
@@ -42,8 +42,6 @@ module _ (u : List ℕ) (i : ℕ) where
   at-end : length u ≤ i → left-at u i ≡ [] ∷ []
   unfolding cut-from
   at-end l = rw (drop-of-length-le u l) refl
-
--- The scan for the first cut.
 
 pub uncut-start : (u : List ℕ) → Uncut u 1
 unfolding sections cut-from cut-after prefixed
