@@ -1,2 +1,2 @@
--- Laws of the scans for cuts.
+-- Laws of the scan for cuts.
 pub mod Laws

@@ -10,7 +10,6 @@ ghost use Rattle.matter_idl.specs.interface.{value-limit, number-unit, r
 use crate::reading::Verdict;
 use crate::reading::verdict_on;
 use crate::reading::write_items;
-use crate::sections::count_sections;
 use crate::survey::count_accepted;
 use crate::survey::write_sections;
 use lexing::unescaping::Unescaping;
@@ -53,12 +52,13 @@ pub extern "C" fn matter_idl_survey(text: &[u8], catalogue: &mut [u8], report: &
     if 1048575 < text.len() {
         return packed(1, 1048575);
     }
-    let sections = count_sections(text);
+    let mut marks = [0; 65536];
+    let counted = count_accepted(text, &mut marks);
+    let sections = counted.sections;
+    let words = counted.words;
     if report.len() < 8 * sections {
         return packed(8, 8 * sections);
     }
-    let mut marks = [0; 65536];
-    let words = count_accepted(text, sections, &mut marks);
     if catalogue.len() < 8 * words {
         return packed(7, 8 * words);
     }

@@ -1,62 +1,87 @@
 // Sections of a text: a cut stands behind a } whose preceding byte is LF.
 ghost use mathlib.Core.Path.{_≡_};
 ghost use Prim.Native.Nat.{_+_, _-_, _≤_, _<_};
-ghost use lib.Dec.{eqb};
-ghost use lib.ListN.{length, take, drop, getD};
-ghost use Rattle.lexing.specs.integers.{u64-max};
-ghost use Rattle.matter_idl.specs.sections.{line-feed, cut-after, sections};
-ghost use Rattle.matter_idl.specs.inner.sections.{FirstSection};
-use lexing::parts::lacks;
+ghost use lib.ListN.{length, take, drop};
+ghost use Rattle.items.specs.layout.{text-limit};
+ghost use Rattle.matter_idl.specs.inner.sections.{cut-at, Cutless, Uncut, FirstSection};
+
+// A section of a part: the offset behind it, and whether it is the text's last, with no cut behind it.
+pub struct Section {
+    pub end: usize,
+    pub last: bool,
+}
 
 // Whether a cut stands behind the byte at i.
 fn is_cut(text: &[u8], i: usize) -> bool
     requires { ⌜ 1 ≤ i ⌝ }
     requires { ⌜ i < length (now text) ⌝ }
-    ensures { λ r. ⌜ r ≡ cut-after (eqb (getD (now (text .entry)) (i - 1) 0) line-feed) (getD (now (text .entry)) i 0) ⌝ }
+    ensures { λ r. ⌜ r ≡ cut-at (now (text .entry)) i ⌝ }
 {
-    if text[i] != b'}' {
-        return false;
-    }
-    text[i - 1] == b'\n'
+    (text[i - 1] == b'\n') & (text[i] == b'}')
 }
 
-// The offset behind the first section of a part that begins where a section does. A turn passes eight bytes without a brace, as most are, else one.
-pub fn section_end(part: &[u8], base: usize) -> usize
-    requires { ⌜ base + length (now part) ≤ u64-max ⌝ }
+// Whether a cut stands behind one of four bytes.
+fn cut_4(part: &[u8], i: usize) -> bool
+    requires { ⌜ 1 ≤ i ⌝ }
+    requires { ⌜ i + 4 ≤ length (now part) ⌝ }
+    ensures { λ r. ⌜ Cutless r (now (part .entry)) i 4 ⌝ }
+{
+    is_cut(part, i) | is_cut(part, i + 1) | is_cut(part, i + 2) | is_cut(part, i + 3)
+}
+
+// Whether a cut stands behind one of sixteen bytes.
+fn cut_16(part: &[u8], i: usize) -> bool
+    requires { ⌜ 1 ≤ i ⌝ }
+    requires { ⌜ i + 16 ≤ length (now part) ⌝ }
+    ensures { λ r. ⌜ Cutless r (now (part .entry)) i 16 ⌝ }
+{
+    cut_4(part, i) | cut_4(part, i + 4) | cut_4(part, i + 8) | cut_4(part, i + 12)
+}
+
+// Whether a cut stands behind one of sixty-four bytes, which the compiler compares by vectors.
+fn cut_64(part: &[u8], i: usize) -> bool
+    requires { ⌜ 1 ≤ i ⌝ }
+    requires { ⌜ i + 64 ≤ length (now part) ⌝ }
+    ensures { λ r. ⌜ Cutless r (now (part .entry)) i 64 ⌝ }
+{
+    cut_16(part, i) | cut_16(part, i + 16) | cut_16(part, i + 32) | cut_16(part, i + 48)
+}
+
+// How many bytes are passed 64 at a time with no cut among them; the first is passed too, since no cut stands behind it.
+fn cutless(part: &[u8]) -> usize
+    requires { ⌜ length (now part) ≤ text-limit ⌝ }
+    ensures { λ r. ⌜ Uncut (now (part .entry)) r ⌝ }
+{
+    let part = &part[..];
+    let mut i = 1;
+    while i + 64 <= part.len() {
+        if cut_64(part, i) {
+            return i;
+        }
+        i += 64;
+    }
+    i
+}
+
+// The first section of a part that begins where a section does.
+pub fn first_section(part: &[u8], base: usize) -> Section
+    requires { ⌜ base + length (now part) ≤ text-limit ⌝ }
     ensures { λ r. ⌜ FirstSection r base (now (part .entry)) ⌝ }
 {
-    let mut i = 1;
+    let mut i = cutless(part);
     while i < part.len() {
-        if lacks(part, i, b'}') {
-            i += 8;
-            continue;
-        }
         if is_cut(part, i) {
-            return base + i + 1;
+            return Section {
+                end: base + i + 1,
+                last: false,
+            };
         }
         i += 1;
     }
-    base + part.len()
-}
-
-// One scan for the cuts, by the same turns.
-pub fn count_sections(text: &[u8]) -> usize
-    ensures { λ r. ⌜ r ≡ length (sections (now (text .entry))) ⌝ }
-    ensures { λ r. ⌜ r ≤ 1 + length (now (text .entry)) ⌝ }
-{
-    let mut n = 1;
-    let mut i = 1;
-    while i < text.len() {
-        if lacks(text, i, b'}') {
-            i += 8;
-            continue;
-        }
-        if is_cut(text, i) {
-            n += 1;
-        }
-        i += 1;
+    Section {
+        end: base + part.len(),
+        last: true,
     }
-    n
 }
 
 // The bytes between two offsets of a text.

@@ -17,8 +17,8 @@ use crate::bits::set_bit;
 use crate::reading::Verdict;
 use crate::reading::verdict_at;
 use crate::reading::write_items;
+use crate::sections::first_section;
 use crate::sections::section_at;
-use crate::sections::section_end;
 use lexing::buffers::put_word;
 use lexing::parts::rest_at;
 
@@ -80,27 +80,40 @@ fn remember(marks: &mut [u8], i: usize, v: Verdict)
     set_bit(marks, i);
 }
 
-// The first pass over the m sections of a text: the words of the accepted ones, and marks for them.
-pub fn count_accepted(text: &[u8], m: usize, marks: &mut [u8]) -> usize
+// What the first pass counts: the sections, and the words of the accepted ones.
+pub struct Counted {
+    pub sections: usize,
+    pub words: usize,
+}
+
+// The first pass over the sections of a text, with marks for the accepted ones.
+pub fn count_accepted(text: &[u8], marks: &mut [u8]) -> Counted
     requires { ⌜ length (now text) ≤ text-limit ⌝ }
-    requires { ⌜ m ≡ length (sections (now text)) ⌝ }
     requires { ⌜ Marks (now marks) [] ⌝ }
-    ensures { λ r. ⌜ r ≡ word-count (hoisted no-ids (accepted-items 0 (sections (now (text .entry))))) ⌝ }
-    ensures { λ r. ⌜ r ≤ 8 * length (now (text .entry)) ⌝ }
+    ensures { λ r. ⌜ r .sections ≡ length (sections (now (text .entry))) ⌝ }
+    ensures { λ r. ⌜ r .sections ≤ 1 + length (now (text .entry)) ⌝ }
+    ensures { λ r. ⌜ r .words ≡ word-count (hoisted no-ids (accepted-items 0 (sections (now (text .entry))))) ⌝ }
+    ensures { λ r. ⌜ r .words ≤ 8 * length (now (text .entry)) ⌝ }
     ensures { λ _. ⌜ Marks (now (marks .exit)) (entries 0 (sections (now (text .entry)))) ⌝ }
 {
     let mut i = 0;
     let mut start = 0;
     let mut n = 0;
-    while i < m {
-        let end = section_end(rest_at(text, 0, start), start);
+    loop {
+        let s = first_section(rest_at(text, 0, start), start);
+        let end = s.end;
         let v = verdict_at(section_at(text, start, end), start);
         remember(marks, i, v);
         n += accepted_words(v);
-        start = end;
         i += 1;
+        if s.last {
+            return Counted {
+                sections: i,
+                words: n,
+            };
+        }
+        start = end;
     }
-    n
 }
 
 // The verdict on section i: a refused one is judged once more, for its number and place.
@@ -161,7 +174,8 @@ pub fn write_sections(
     let mut start = 0;
     let mut to = 0;
     while i < m {
-        let end = section_end(rest_at(text, 0, start), start);
+        let s = first_section(rest_at(text, 0, start), start);
+        let end = s.end;
         let part = section_at(text, start, end);
         let v = verdict_again(part, start, marks, i);
         put_entry(report, 8 * i, start, end - start, v);

@@ -1,10 +1,12 @@
 -- The passes of the survey: what the sections before an offset come to, and what is left.
 use mathlib.Core.Path.{_≡_, refl, sym, ap, _∙_, subst}
-use mathlib.Core.Logic.{_⊎_, inl, inr}
+use mathlib.Core.Bool.{Bool, true, false}
 use mathlib.Core.List.{List, [], _∷_, _++_, append-assoc, append-nil}
 use Prim.Native.Nat.{ℕ, suc, _+_, _-_, _*_, _≤_, _<_}
 use native.Mathlib.Omega.{arith}
+use lib.Dec.{leb}
 use lib.ListN.{length, take, drop, length-append, length-take, length-drop}
+use borrow.Author.Tests.{le-leb, lt-leb}
 use Rattle.lexing.specs.answers.{Rest}
 use Rattle.lexing.proofs.Slicing.{rebase}
 use Rattle.items.specs.items.{Item}
@@ -18,11 +20,14 @@ use Rattle.matter_idl.specs.reading.{verdict-at}
 use Rattle.matter_idl.specs.sections.{sections}
 use Rattle.matter_idl.specs.survey.{items-of, accepted-items, Entry, sound, spoilt, entry, entries, report-20, entry-words, report-bytes}
 use Rattle.matter_idl.specs.answers.reading.{VerdictAtTo}
-use Rattle.matter_idl.specs.inner.sections.{FirstSection}
+use Rattle.matter_idl.specs.inner.sections.{others, FirstSection}
 use Rattle.matter_idl.specs.inner.survey.{verdictWord, entryOf, PlaceFits, wordsOf, Marks, Remembered}
+use Rattle.matter_idl.specs.declared.sections.Section.{Section}
 use Rattle.matter_idl.specs.declared.reading.Verdict.{Verdict}
 use Rattle.matter_idl.specs.declared.reading.Verdict.the-variants.{Accepted, Refused}
+use Rattle.matter_idl.proofs.Cutting.{sections-count}
 use Rattle.matter_idl.proofs.Places.{hoisted-words}
+use Rattle.matter_idl.proofs.sections.Laws.{sections-some}
 use Rattle.matter_idl.proofs.survey.Remembered.{marks-more, judged-of}
 
 -- The report.
@@ -62,75 +67,65 @@ entries-count b (s ∷ ss) = ap suc (entries-count (b + length s) ss)
 
 -- Sections.
 
--- what the i sections before c come to, and those from c on
-pub record Passed (t : List ℕ) (i c : ℕ) (seen : List Entry) (items : List Item) : Type 0 where
+-- what the i sections before c come to, and those from c on; last says that there are none
+pub record Passed (t : List ℕ) (i c : ℕ) (last : Bool) (seen : List Entry) (items : List Item) : Type 0 where
   pub inside : c ≤ length t
-  pub left : List (List ℕ)
-  pub ahead : (left ≡ sections (drop c t)) ⊎ (left ≡ [])
-  pub count : length (sections t) ≡ i + length left
+  pub count : length (sections t) ≡ i + length (others last (drop c t))
   pub number : length seen ≡ i
-  pub seen-are : entries 0 (sections t) ≡ seen ++ entries c left
-  pub items-are : accepted-items 0 (sections t) ≡ items ++ accepted-items c left
+  pub seen-are : entries 0 (sections t) ≡ seen ++ entries c (others last (drop c t))
+  pub items-are : accepted-items 0 (sections t) ≡ items ++ accepted-items c (others last (drop c t))
 
-pub passed-start : (t : List ℕ) → Passed t 0 0 [] []
-passed-start t = record { inside = omega arith; left = sections t; ahead = inl refl; count = omega arith; number = refl; seen-are = refl; items-are = refl }
+pub passed-start : (t : List ℕ) → Passed t 0 0 false [] []
+passed-start t = record { inside = omega arith; count = omega arith; number = refl; seen-are = refl; items-are = refl }
 
-none-left : (l : List (List ℕ)) → length l ≡ 0 → l ≡ []
-none-left [] e = refl
-none-left (s ∷ l) e = absurd (omega arith)
+module _ {t : List ℕ} {i c : ℕ} {last : Bool} {seen : List Entry} {items : List Item} (p : Passed t i c last seen items) where
+  pub last-is : last ≡ leb (length (sections t)) i
+  last-is = go last (p .count)
+    where
+      go : (l : Bool) → length (sections t) ≡ i + length (others l (drop c t)) → l ≡ leb (length (sections t)) i
+      go true n = sym (le-leb (length (sections t)) i (omega arith))
+      go false n = sym (lt-leb (length (sections t)) i (omega (arith, sections-some (drop c t))))
 
-module _ {t : List ℕ} {i c : ℕ} {seen : List Entry} {items : List Item} (p : Passed t i c seen items) where
   -- all of them
-  module _ (e : length (sections t) ≤ i) where
-    ended : p .left ≡ []
-    ended = none-left (p .left) (omega (arith, p .count))
+  module _ (e : last ≡ true) where
+    pub all-counted : i ≡ length (sections t)
+    all-counted = omega (arith, rw e at (p .count))
 
     pub all-seen : entries 0 (sections t) ≡ seen
     unfolding entries
-    all-seen = p .seen-are ∙ rw ended (append-nil seen)
+    all-seen = p .seen-are ∙ rw e (append-nil seen)
 
     pub all-accepted : accepted-items 0 (sections t) ≡ items
     unfolding accepted-items
-    all-accepted = p .items-are ∙ rw ended (append-nil items)
+    all-accepted = p .items-are ∙ rw e (append-nil items)
 
   -- one more
-  module _ (more : i < length (sections t)) {r : List ℕ} (q : Rest 0 t c r) {end : ℕ} (f : FirstSection end c r) {s : List ℕ} (e : s ≡ take (end - c) (drop c t)) where
-    left-now : p .left ≡ sections (drop c t)
-    left-now = go (p .ahead)
-      where
-        go : (p .left ≡ sections (drop c t)) ⊎ (p .left ≡ []) → p .left ≡ sections (drop c t)
-        go (inl h) = h
-        go (inr h) = absurd (omega (arith, p .count, ap length h))
+  module _ (e : last ≡ false) where
+    pub more : i < length (sections t)
+    more = omega (arith, rw e at (p .count), sections-some (drop c t))
 
-    rest-now : r ≡ drop c t
-    rest-now = let z : c - 0 ≡ c = omega arith in rw z at (q .same)
+    module _ {r : List ℕ} (q : Rest 0 t c r) {w : Section} (f : FirstSection w c r) {s : List ℕ} (d : s ≡ take (w .end - c) (drop c t)) where
+      rest-now : r ≡ drop c t
+      rest-now = let z : c - 0 ≡ c = omega arith in rw z at (q .same)
 
-    pub left-is : p .left ≡ s ∷ f .others
-    left-is = left-now ∙ rw (← rest-now) (f .is ∙ rw (rest-now, ← e) refl)
+      behind-now : drop (w .end - c) r ≡ drop (w .end) t
+      behind-now = let z : w .end - 0 ≡ w .end = omega arith in ap (drop (w .end - c)) (q .same) ∙ (rebase 0 c (w .end) t (omega arith) (f .from) ∙ rw z refl)
 
-    pub section-ends : c + length s ≡ end
-    section-ends = rw (e, length-take, length-drop) (omega (arith, f .from, f .inside, q .size))
+      pub left-is : others last (drop c t) ≡ s ∷ others (w .last) (drop (w .end) t)
+      left-is = rw e (ap sections (sym rest-now) ∙ (f .is ∙ rw (behind-now, rest-now, ← d) refl))
 
-    others-ahead : (f .others ≡ sections (drop end t)) ⊎ (f .others ≡ [])
-    others-ahead = go (f .left)
-      where
-        go : (f .others ≡ sections (drop (end - c) r)) ⊎ (f .others ≡ []) → (f .others ≡ sections (drop end t)) ⊎ (f .others ≡ [])
-        go (inl h) =
-            let z : end - 0 ≡ end = omega arith in
-            inl (h ∙ ap sections (ap (drop (end - c)) (q .same) ∙ (rebase 0 c end t (omega arith) (f .from) ∙ rw z refl)))
-        go (inr h) = inr h
+      pub section-ends : c + length s ≡ w .end
+      section-ends = rw (d, length-take, length-drop) (omega (arith, f .from, f .inside, q .size))
 
-    pub passed-more : Passed t (i + 1) end (seen ++ (entry c (length s) (verdict-at c s) ∷ [])) (items ++ items-of (verdict-at c s))
-    unfolding entries accepted-items
-    passed-more = record {
-      inside = omega (arith, f .inside, q .size);
-      left = f .others;
-      ahead = others-ahead;
-      count = omega (arith, p .count, ap length left-is);
-      number = omega (arith, length-append seen (entry c (length s) (verdict-at c s) ∷ []), p .number);
-      seen-are = p .seen-are ∙ rw (left-is, section-ends, append-assoc) refl;
-      items-are = p .items-are ∙ rw (left-is, section-ends, append-assoc) refl;
-    }
+      pub passed-more : Passed t (i + 1) (w .end) (w .last) (seen ++ (entry c (length s) (verdict-at c s) ∷ [])) (items ++ items-of (verdict-at c s))
+      unfolding entries accepted-items
+      passed-more = record {
+        inside = omega (arith, f .inside, q .size);
+        count = omega (arith, p .count, ap length left-is);
+        number = omega (arith, length-append seen (entry c (length s) (verdict-at c s) ∷ []), p .number);
+        seen-are = p .seen-are ∙ rw (left-is, section-ends, append-assoc) refl;
+        items-are = p .items-are ∙ rw (left-is, section-ends, append-assoc) refl;
+      }
 
 -- The first pass.
 
@@ -142,33 +137,34 @@ unfolding items-of hoisted
 verdict-words (Accepted n) b u h = (rw (h .is, items-of) (h .words no-ids), h .few)
 verdict-words (Refused k p) b u h = (rw (h .is, items-of) word-count-none, omega arith)
 
-pub record CountingSections (t : List ℕ) (i c n : ℕ) (marks : List ℕ) : Type 0 where
+pub record CountingSections (t : List ℕ) (i c : ℕ) (last : Bool) (n : ℕ) (marks : List ℕ) : Type 0 where
   pub seen : List Entry
   pub items : List Item
-  pub passed : Passed t i c seen items
+  pub passed : Passed t i c last seen items
   pub words : n ≡ word-count (hoisted no-ids items)
   pub few : n ≤ 8 * c
   pub true-marks : Marks marks seen
 
-pub sections-start : (t : List ℕ) {marks : List ℕ} → Marks marks [] → CountingSections t 0 0 0 marks
+pub sections-start : (t : List ℕ) {marks : List ℕ} → Marks marks [] → CountingSections t 0 0 false 0 marks
 unfolding hoisted
 sections-start t m = record { seen = []; items = []; passed = passed-start t; words = sym word-count-none; few = omega arith; true-marks = m }
 
-module _ {t : List ℕ} {i c n : ℕ} {marks : List ℕ} (h : CountingSections t i c n marks) where
-  pub sections-more : length t ≤ text-limit → (more : i < length (sections t)) {r : List ℕ} → Rest 0 t c r → {end : ℕ} → FirstSection end c r → {s : List ℕ} → s ≡ take (end - c) (drop c t) → (v : Verdict) → VerdictAtTo v c s → {k : ℕ} → k ≡ wordsOf v → {new : List ℕ} → Remembered new marks i v
-      → CountingSections t (i + 1) end (n + k) new
-  sections-more l more q f {s} e v w {k} z {new} y =
-      let x = verdict-words v c s w in
-      let o = section-ends (h .passed) more q f e in
-      let p = passed-more (h .passed) more q f e in
-      record {
-        seen = _;
-        items = _;
-        passed = p;
-        words = omega (arith, z, x .0, h .words, words-more (h .items) (items-of (verdict-at c s)));
-        few = omega (arith, z, x .1, h .few, o);
-        true-marks = marks-more v (h .true-marks) (h .passed .number) (judged-of v c s w (omega (arith, o, p .inside))) y;
-      }
+pub sections-more : {t : List ℕ} {i c n : ℕ} {marks : List ℕ} → CountingSections t i c false n marks → length t ≤ text-limit → {r : List ℕ} → Rest 0 t c r → {w : Section} → FirstSection w c r → {s : List ℕ} → s ≡ take (w .end - c) (drop c t) → (v : Verdict) → VerdictAtTo v c s → {k : ℕ} → k ≡ wordsOf v → {new : List ℕ} → Remembered new marks i v → {last : Bool} → w .last ≡ last
+    → CountingSections t (i + 1) (w .end) last (n + k) new
+sections-more {c = c} h l q f {s} d v j z y e =
+    let x = verdict-words v c s j in
+    let o = section-ends (h .passed) refl q f d in
+    let p = passed-more (h .passed) refl q f d in
+    record {
+      seen = _;
+      items = _;
+      passed = rw e at p;
+      words = omega (arith, z, x .0, h .words, words-more (h .items) (items-of (verdict-at c s)));
+      few = omega (arith, z, x .1, h .few, o);
+      true-marks = marks-more v (h .true-marks) (h .passed .number) (judged-of v c s j (omega (arith, o, p .inside))) y;
+    }
 
-  pub sections-end : length (sections t) ≤ i → (n ≡ word-count (hoisted no-ids (accepted-items 0 (sections t)))) × ((n ≤ 8 * length t) × Marks marks (entries 0 (sections t)))
-  sections-end e = (rw (all-accepted (h .passed) e) (h .words), (omega (arith, h .few, h .passed .inside), rw (all-seen (h .passed) e) (h .true-marks)))
+pub sections-end : {t : List ℕ} {i c n : ℕ} {marks : List ℕ} → CountingSections t i c true n marks → (i ≡ length (sections t)) × ((i ≤ 1 + length t) × ((n ≡ word-count (hoisted no-ids (accepted-items 0 (sections t)))) × ((n ≤ 8 * length t) × Marks marks (entries 0 (sections t)))))
+sections-end {t} h =
+    let k = all-counted (h .passed) refl in
+    (k, (omega (arith, sections-count t), (rw (all-accepted (h .passed) refl) (h .words), (omega (arith, h .few, h .passed .inside), rw (all-seen (h .passed) refl) (h .true-marks)))))

@@ -1,13 +1,8 @@
 use borrow.Author.Needs.{needs}
 use Rattle.matter_idl.proofs.sections.is_cut.Statement.{statement}
 use Rattle.matter_idl.proofs.sections.is_cut.Tie as tie
-use Rattle.matter_idl.proofs.sections.Laws.{no-brace, brace-after}
-
-shared-slice-read-if1 : tie.Need-shared-slice-read-if1
-shared-slice-read-if1 c = search needs
-
-returns : tie.Need-returns
-returns c = no-brace _ (c .if1 .taken)
+use mathlib.Core.Path.{refl}
+use Rattle.matter_idl.specs.sections.{cut-after}
 
 sub-result : tie.Need-sub-result
 sub-result c = search needs
@@ -15,10 +10,13 @@ sub-result c = search needs
 shared-slice-read-result : tie.Need-shared-slice-read-result
 shared-slice-read-result c = search needs
 
-returns-2 : tie.Need-returns-2
-returns-2 c = brace-after _ (c .before .if1 .left)
+shared-slice-read-result-2 : tie.Need-shared-slice-read-result-2
+shared-slice-read-result-2 c = search needs
+
+returns : tie.Need-returns
+unfolding cut-after
+returns c = refl
 
 pub is-cut-spec : {M : Type 1} → statement M
 is-cut-spec =
-    tie.close
-    (tie.spec shared-slice-read-if1 returns sub-result shared-slice-read-result returns-2)
+    tie.close (tie.spec sub-result shared-slice-read-result shared-slice-read-result-2 returns)
