@@ -309,9 +309,9 @@ fn eight_flag(set: u8, w: u64) -> u8
     0
 }
 
-// The words of a set that has a first word, as it seems. Most such sets are one keyword of eight bytes in lower case, with a space behind it and
-// then a byte that begins neither a blank nor a keyword: ten bytes tell that without the loop over words. The loop is called at several
-// places, so that it stays a function of its own and what is left here is short.
+// The words of a set, where the first byte may begin one. Most such sets are one keyword of eight bytes in lower case, with a space behind it and
+// then a byte that begins neither a blank nor a keyword: ten bytes tell that without the loop over words. The loop is called at several places,
+// so that it stays a function of its own and what is left here is short.
 fn words_by_front(part: &[u8], base: usize, set: u8) -> WordSet
     requires { ⌜ base + length (now part) ≤ u64-max ⌝ }
     ensures { λ r. ⌜ WordSetTo r set base (now (part .entry)) ⌝ }
@@ -341,7 +341,7 @@ fn words_by_front(part: &[u8], base: usize, set: u8) -> WordSet
 }
 
 // A set by its number: of a struct's field, a struct, an event, a command, an attribute; any other is empty. Most sets have no word, which the
-// first byte tells.
+// first byte tells. The reader of words is called at two places, so that it too stays a function of its own.
 pub fn keywords_set(part: &[u8], base: usize, set: u8) -> WordSet
     requires { ⌜ base + length (now part) ≤ u64-max ⌝ }
     ensures { λ r. ⌜ WordSetTo r set base (now (part .entry)) ⌝ }
