@@ -96,16 +96,19 @@ fn or_64(part: &[u8], i: usize) -> u8
 }
 
 // How many bytes a turn passes at an ASCII byte: that byte and the 64 behind it where all are ASCII, as in most texts; else those before the first
-// of eight that is not ASCII. Near the end it passes one.
+// of eight that is not ASCII. Where fewer than eight are left it passes one.
 fn ascii_step(part: &[u8], i: usize) -> usize
     requires { ⌜ (i < length (now part)) × (getD (now part) i 0 < 0x80) ⌝ }
     ensures { λ r. ⌜ AsciiAt (now (part .entry)) i r ⌝ }
 {
-    if part.len() - i < 65 {
+    let left = part.len() - i;
+    if left < 8 {
         return 1;
     }
-    if or_64(part, i + 1) < 0x80 {
-        return 65;
+    if 65 <= left {
+        if or_64(part, i + 1) < 0x80 {
+            return 65;
+        }
     }
     let m = non_ascii(eight_at(part, i));
     if m == 0 {

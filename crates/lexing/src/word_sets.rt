@@ -8,7 +8,7 @@ ghost use Rattle.lexing.specs.integers.{u64-max};
 ghost use Rattle.lexing.specs.words.{isKey, isLower};
 ghost use Rattle.lexing.specs.word_sets.{set-of};
 ghost use Rattle.lexing.specs.answers.{WordSetTo};
-ghost use Rattle.lexing.specs.inner.word_sets.{KeywordEnd, set-gap, startReply, with-flag, initial, LowerAt};
+ghost use Rattle.lexing.specs.inner.word_sets.{KeywordEnd, set-gap, startReply, with-flag, initial, LowerAt, EightFlag};
 use crate::answers::Step;
 use crate::blanks::whitespace0;
 use crate::bytes::lower_of;
@@ -286,18 +286,72 @@ fn words_of_set(part: &[u8], base: usize, set: u8) -> WordSet
     WordSet { flags, next }
 }
 
+// The flag of the keyword of eight bytes whose bytes are those of w, 0 where the set has none such.
+fn eight_flag(set: u8, w: u64) -> u8
+    ensures { λ r. ⌜ EightFlag r set w ⌝ }
+{
+    if set == 4 {
+        // readonly
+        if w == 0x796c_6e6f_6461_6572 {
+            return 8;
+        }
+    }
+    if set == 0 {
+        // optional
+        if w == 0x6c61_6e6f_6974_706f {
+            return 4;
+        }
+        // nullable
+        if w == 0x656c_6261_6c6c_756e {
+            return 2;
+        }
+    }
+    0
+}
+
+// The words of a set, where the first byte may begin one. Most such sets are one keyword of eight bytes in lower case, with a space behind it and
+// then a byte that begins neither a blank nor a keyword: ten bytes tell that without the loop over words. The loop is called at several places,
+// so that it stays a function of its own and what is left here is short.
+fn words_by_front(part: &[u8], base: usize, set: u8) -> WordSet
+    requires { ⌜ base + length (now part) ≤ u64-max ⌝ }
+    ensures { λ r. ⌜ WordSetTo r set base (now (part .entry)) ⌝ }
+{
+    let part = &part[..];
+    if part.len() < 10 {
+        return words_of_set(part, base, set);
+    }
+    let flag = eight_flag(set, eight_at(part, 0));
+    if flag == 0 {
+        return words_of_set(part, base, set);
+    }
+    if part[8] != b' ' {
+        return words_of_set(part, base, set);
+    }
+    let y = part[9];
+    if y <= b'/' {
+        return words_of_set(part, base, set);
+    }
+    if is_initial(set, lower_of(y)) {
+        return words_of_set(part, base, set);
+    }
+    WordSet {
+        flags: flag,
+        next: base + 8,
+    }
+}
+
 // A set by its number: of a struct's field, a struct, an event, a command, an attribute; any other is empty. Most sets have no word, which the
-// first byte tells. The loop over words is called at two places, so that it stays a function of its own and what is left here is short.
+// first byte tells. The reader of words is called at two places, so that it too stays a function of its own.
 pub fn keywords_set(part: &[u8], base: usize, set: u8) -> WordSet
     requires { ⌜ base + length (now part) ≤ u64-max ⌝ }
     ensures { λ r. ⌜ WordSetTo r set base (now (part .entry)) ⌝ }
 {
     let x = peek(part, 0);
     if is_initial(set, x) {
-        return words_of_set(part, base, set);
+        return words_by_front(part, base, set);
     }
     if is_initial(set, lower_of(x)) {
-        return words_of_set(part, base, set);
+        return words_by_front(part, base, set);
     }
     WordSet {
         flags: 0,

@@ -2,40 +2,43 @@
 use mathlib.Core.Path.{_≡_, refl, sym, ap, _∙_, subst}
 use mathlib.Core.List.{List, [], _∷_}
 use mathlib.Core.Bool.{Bool, true, false, _&&_, _||_, not, false≢true}
+use mathlib.Core.Logic.{_⊎_, inl, inr}
 use Prim.Native.Nat.{ℕ, zero, suc, _+_, _*_, _-_, _/_, _%_, _^_, _≤_, _<_, zero-le}
 use native.Mathlib.Omega.{arith}
 use native.Mathlib.Numerals.{add-one}
 use native.Mathlib.Nat.{mul-assoc, mul-comm, pow-suc, one-le-pow, pow-le-pow-right, mul-add-div-right, div-eq-of-lt, mul-add-mod-self-right, max-eq-left}
 use lib.Dec.{eqb, leb, ltb}
 use lib.ListN.{length, drop, take, getD, length-drop, drop-of-length-le, List·getD-eq-default}
-use lib.Seq.{drop-cons, getD-take, length-take-le}
+use lib.Seq.{drop-cons, getD-take, getD-drop, length-take-le}
 use borrow.Author.Tests.{eq-eqb, ne-eqb, eqb-true, eqb-false, leb-true, ltb-true, ltb-false, not-true, not-false}
-use Rattle.lexing.specs.bytes.{within, lower}
+use Rattle.lexing.specs.bytes.{slash, underscore, isLetter, isDigit, isWord, within, lower}
 use Rattle.lexing.specs.reply.{Reply, ok, fail, stop, ret, _>>=_, _>>_, _or_, further, keep}
-use Rattle.lexing.specs.words.{Word, bytesOf, isKeyword, isLower, keyword, any-keyword}
+use Rattle.lexing.specs.words.{Word, bytesOf, isKeyLetter, isKey, isKeyword, isLower, keyword, any-keyword}
 use Rattle.lexing.specs.blanks.{Doc, whitespace1}
 use Rattle.lexing.specs.word_sets.{next-word, set-step, keywords-set, same-bytes, contains, bit, flags, sets, set-of, set-flags}
 use Rattle.lexing.specs.answers.{Rest, lostReply, wordAt, wordReply, docOf, BlankTo, WordSetTo, Fail}
-use Rattle.lexing.specs.inner.word_sets.{KeywordEnd, there, missing, set-gap, startReply, with-flag, initial, LowerAt}
+use Rattle.lexing.specs.inner.word_sets.{KeywordEnd, there, missing, set-gap, startReply, with-flag, initial, LowerAt, IsEight, EightFlag, some, none}
+use Rattle.lexing.specs.inner.words.{KeyAt}
 use Rattle.lexing.specs.inner.eights.{pack, bytesFrom, failing, isCapital}
 use Rattle.lexing.specs.declared.answers.Lost.{Lost}
 use Rattle.lexing.specs.declared.word_sets.WordSet.{WordSet}
 use Rattle.lexing.specs.declared.answers.Step.{Step}
 use Rattle.lexing.specs.declared.answers.Step.the-variants.{Next, Not}
 use Rattle.lexing.specs.declared.blanks.Blank.{Blank}
+use Rattle.lexing.specs.declared.blanks.DocSpan.the-variants.{Absent}
 use Rattle.lexing.specs.declared.word_sets.Start.{Start}
 use Rattle.lexing.specs.declared.word_sets.Start.the-variants.{Here, Nowhere}
 use Rattle.lexing.proofs.Losses.{by-lost}
-use Rattle.lexing.proofs.Tests.{and-left, and-right, or-false, false-if}
+use Rattle.lexing.proofs.Tests.{and-left, and-right, or-false, or-true, false-if}
 use Rattle.lexing.proofs.Locality.{OnChain, chain-ret, chain-then}
 use Rattle.lexing.proofs.TokenLocality.{whitespace1-chain, keyword-chain, keyword-consumes, any-keyword-chain, set-step-consumes}
-use Rattle.lexing.proofs.Slicing.{Took, took, walks, reads-in, told-next, told-not, on, fall}
+use Rattle.lexing.proofs.Slicing.{Took, took, walks, rest-self, rest-from, reads-in, told-next, told-not, on, fall}
 use Rattle.lexing.proofs.Repetition.{IterAt, iter-start, iter-step, iter-ends}
-use Rattle.lexing.proofs.FirstWord.{free-keywords, no-initial}
-use Rattle.lexing.proofs.words.Laws.{Says, keyword-says}
-use Rattle.lexing.proofs.blanks.Laws.{gap-none, gap-some}
-use Rattle.lexing.proofs.Scans.{turns}
-use Rattle.lexing.proofs.eights.Laws.{Bytes, all-failing}
+use Rattle.lexing.proofs.FirstWord.{starts-of, other-keyword, free-keywords, no-initial}
+use Rattle.lexing.proofs.words.Laws.{Says, keyword-says, key-letter, key-eight, key-read}
+use Rattle.lexing.proofs.blanks.Laws.{blanks-one, gap-none, gap-some}
+use Rattle.lexing.proofs.Scans.{first-of, turns}
+use Rattle.lexing.proofs.eights.Laws.{Bytes, pack-alike, all-failing}
 
 -- the same bytes
 pub same-eq : (u v : List ℕ) → same-bytes u v ≡ true → u ≡ v
@@ -136,6 +139,16 @@ among-at [] k w l e = absurd (omega arith)
 among-at (x ∷ ks) zero w l e = or-false (same-bytes w x) (among w ks) e .0
 among-at (x ∷ ks) (suc k) w l e = among-at ks k w (omega arith) (or-false (same-bytes w x) (among w ks) e .1)
 
+-- a later keyword is unlike an earlier one
+unlike-first : (x : List ℕ) (ks : List (List ℕ)) (k : ℕ) → apart (x ∷ ks) ≡ true → k < length ks → same-bytes (getD ks k []) x ≡ false
+unlike-first x ks k a l = false-if _ (λ q. false≢true (sym (among-at ks k x l (apart-of x ks a .1 .0)) ∙ (ap (same-bytes x) (same-eq (getD ks k []) x q) ∙ same-self x)))
+
+unlike-before : (ks : List (List ℕ)) (k i : ℕ) → apart ks ≡ true → i < k → k < length ks → same-bytes (getD ks k []) (getD ks i []) ≡ false
+unlike-before [] k i a l h = absurd (omega arith)
+unlike-before (x ∷ ks) zero i a l h = absurd (omega arith)
+unlike-before (x ∷ ks) (suc k) zero a l h = unlike-first x ks k a (omega arith)
+unlike-before (x ∷ ks) (suc k) (suc i) a l h = unlike-before ks k i (apart-of x ks a .1 .1) (omega arith) (omega arith)
+
 -- bits
 pow-even : (k j : ℕ) → 2 ^ (k + suc j) ≡ 2 ^ k * 2 * 2 ^ j
 pow-even zero j = let z : 0 + suc j ≡ suc j = omega arith in rw (z, pow-suc 2 j) (omega arith)
@@ -161,6 +174,11 @@ set-small n ws = let p : 2 ^ length (set-of n) ≤ 2 ^ 4 = pow-le-pow-right (ome
 flag-none : (p f : ℕ) → with-flag false p f ≡ f
 unfolding with-flag
 flag-none p f = refl
+
+-- of the first word
+flag-first : (p : ℕ) → 0 < p → p ≡ with-flag true p 0
+unfolding with-flag
+flag-first p h = let z : 0 / p % 2 ≡ 0 = rw (div-eq-of-lt h) in rw (z, with-flag) (omega arith)
 
 -- the highest bit
 high-flag : (t : Bool) (p f : ℕ) → f < p → with-flag true p (bit t * p + f) ≡ bit true * p + f
@@ -196,7 +214,7 @@ flag-more (x ∷ ks) zero j w ws a e h =
     rw (z, s, flags-kept ks w ws (rw e (apart-of x ks a .1 .0))) (high-flag (contains ws x) (2 ^ length ks) (flags ks ws) (flags-less ks ws))
 flag-more (x ∷ ks) (suc k) j w ws a e h =
     let z : length ks ≡ k + suc j = omega arith in
-    let s : same-bytes (bytesOf w) x ≡ false = false-if (same-bytes (bytesOf w) x) (λ q. false≢true (sym (among-at ks k x (omega arith) (apart-of x ks a .1 .0)) ∙ (ap (same-bytes x) (sym e ∙ same-eq (bytesOf w) x q) ∙ same-self x))) in
+    let s : same-bytes (bytesOf w) x ≡ false = rw e (unlike-first x ks k a (omega arith)) in
     let p : bit (contains ws x) * 2 ^ length ks ≡ bit (contains ws x) * 2 ^ k * 2 * 2 ^ j =
     rw (z, pow-even k j) (sym (mul-assoc (bit (contains ws x)) (2 ^ k * 2) (2 ^ j)) ∙ ap (λ (n : ℕ). n * 2 ^ j) (sym (mul-assoc (bit (contains ws x)) (2 ^ k) 2))) in
     rw (s, p) (low-flag (bit (contains ws x) * 2 ^ k) (2 ^ j) (flags ks ws) (pow-up j) ∙ ap (λ (n : ℕ). bit (contains ws x) * 2 ^ k * 2 * 2 ^ j + n) (flag-more ks k j w ws (apart-of x ks a .1 .1) e (omega arith)))
@@ -418,6 +436,14 @@ module _ (ks : List (List ℕ)) (b : ℕ) (u : List ℕ) (k : ℕ) (i : KeysAt k
           inside = reads-in (walks (keyword-chain (getD ks k []))) b e u (wordAt b u e) f .1;
         }
 
+-- those before one that is there are passed
+keys-before : (ks : List (List ℕ)) (b : ℕ) (u : List ℕ) (k c : ℕ) → apart ks ≡ true → k < length ks → ok (wordAt b u c) c (drop (c - b) u) ≡ keyword (getD ks k []) b u → KeysAt ks b u k
+keys-before ks b u k c a lt e =
+    let z : 0 + k ≡ k = omega arith in
+    let s = starts-of (getD ks k []) b u (wordAt b u c) c (drop (c - b) u) (sym e) in
+    rw z at (turns (KeysAt ks b u) 0 k (keys-start ks b u) λ j l i.
+    keys-more ks b u (0 + j) i (omega arith) (missing refl (sym (other-keyword s b (getD ks (0 + j) []) (unlike-before ks k (0 + j) a (omega arith) lt)))) (omega arith))
+
 -- one word more, by its start and its keyword
 unfoldable pub none-yet : List Word → Bool
 none-yet [] = true
@@ -476,6 +502,9 @@ module _ {n b : ℕ} {u : List ℕ} {f c : ℕ} {t : Bool} (i : SetAt n b u f c 
 pub start-took : {b c : ℕ} {u q : List ℕ} (t : Bool) (s : Start) (m : ℕ) → Rest b u c q → startReply s c q ≡ set-gap t c q → s ≡ Here m → Took (set-gap t) b u c tt m
 start-took {b} {c} {u} {q} t s m d h e = took (walks (set-gap-chain t)) d (subst (λ (x : Start). startReply x c q ≡ set-gap t c q) e h)
 
+first-took : (b : ℕ) (u : List ℕ) → Took (set-gap true) b u b tt b
+first-took b u = start-took true (Here b) b (rest-self b u) (start-first b u true refl) refl
+
 -- the invariant of the walk inside the run: the next word may start at m
 pub record WalkAt (n b : ℕ) (u : List ℕ) (f c : ℕ) (t : Bool) (m : ℕ) (r : List ℕ) (k : ℕ) : Type 0 where
   pub set : SetAt n b u f c t
@@ -513,10 +542,69 @@ pub set-no-initial : {n b : ℕ} {u : List ℕ} {f c : ℕ} {t : Bool} {m : ℕ}
 set-no-initial {n} {m = m} {r = r} i s d e = ended i m (on (any-keyword (set-of n)) s (sym (rw (d .same) at (free-keywords m r (set-of n) (no-initial m r (set-of n) e)))))
 
 pub set-none : (n b : ℕ) (u : List ℕ) → initial (lower (getD u 0 0)) (set-of n) ≡ false → WordSetTo (record { flags = 0; next = b }) n b u
-set-none n b u e = set-no-initial (set-start n b u) (start-took true (Here b) b here (start-first b u true refl) refl) here e
+set-none n b u e = set-no-initial (set-start n b u) (first-took b u) (rest-self b u) e
+
+-- the bytes of a keyword
+letter-small : (x : ℕ) → isKeyLetter x ≡ true → x < 256
+letter-small x e = go (or-true (leb 0x61 x && leb x 0x7a) (eqb x underscore) e)
   where
-    here : Rest b u b u
-    here = let z : b - b ≡ 0 = omega arith in record { from = omega arith; same = rw z; size = refl }
+    go : ((leb 0x61 x && leb x 0x7a) ≡ true) ⊎ (eqb x underscore ≡ true) → x < 256
+    go (inl h) = omega (arith, leb-true x 0x7a (and-right (leb 0x61 x) (leb x 0x7a) h))
+    go (inr h) = omega (arith, eqb-true x underscore h)
+
+key-small : (k : List ℕ) → isKey k ≡ true → Bytes (λ j. getD k j 0)
+key-small k e j = go (ltb j (length k)) refl
+  where
+    go : (t : Bool) → ltb j (length k) ≡ t → getD k j 0 < 256
+    go true l = letter-small (getD k j 0) (key-letter k e j (ltb-true j (length k) l))
+    go false l = rw (List·getD-eq-default k 0 (ltb-false j (length k) l)) (omega arith)
+
+-- the flag of a keyword of eight bytes, by the set's number
+pub flag-at : {n m r w : ℕ} → n ≡ m → EightFlag r m w → EightFlag r n w
+flag-at e h = rw e h
+
+-- a set of one word: a keyword of eight bytes that stands at the front as it is, and a word behind it that is none of the set
+not-word : isWord 32 ≡ false
+unfolding isWord isLetter isDigit within
+not-word = refl
+
+module _ (b : ℕ) (u : List ℕ) {w : ℕ} (long : 10 ≤ length u) (p : Bytes (λ j. getD u j 0)) (e : w ≡ pack 8 (bytesFrom u 0)) (space : getD u 8 0 ≡ 32) where
+  module _ (k : List ℕ) (q : IsEight w k) where
+    eight-key : KeyAt k u 8
+    eight-key = key-eight k u (q .key) (omega (arith, q .eight)) (omega (arith, q .eight)) p (key-small k (q .key)) (sym e ∙ q .same)
+
+    eight-same : (j : ℕ) → j < 8 → getD u (0 + j) 0 ≡ getD k (0 + j) 0
+    eight-same = pack-alike 8 (bytesFrom u 0) (bytesFrom k 0) (λ j. p (0 + j)) (λ j. key-small k (q .key) (0 + j)) (sym e ∙ q .same)
+
+    eight-lower : true ≡ isLower (take 8 u)
+    eight-lower = lower-end u 8 8 (lower-on u 8 8 0 (omega arith) (lower-start u 8) (omega arith) (λ j l. eight-key .agree (0 + j) (omega arith) ∙ sym (eight-same j l))) (omega arith) (omega arith)
+
+    eight-read : ok (wordAt b u (b + 8)) (b + 8) (drop (b + 8 - b) u) ≡ keyword k b u
+    eight-read = rw (q .eight) at (key-read k u (q .key) (rw (q .eight) eight-key) (rw (q .eight) (ap isWord space ∙ not-word)) b)
+
+  eight-set : {f n : ℕ} → EightFlag f n w → (f ≡ 0 → ⊥) → SetAt n b u f (b + 8) false
+  eight-set {f} {n} (none h) x = absurd (x h)
+  eight-set {f} {n} (some k j size q h) x =
+      let key = getD (set-of n) k [] in
+      let r = eight-read key q in
+      let z : b + 8 - b ≡ 8 = omega arith in
+      let i : WalkAt n b u 0 b true b u k = record { set = set-start n b u; start = first-took b u; rest = rest-self b u; keys = keys-before (set-of n) b u k (b + 8) (set-apart n) (omega arith) r } in
+      walk-again i refl (omega arith) (there (omega arith) r) (omega arith) j f true (omega arith) (rw z (eight-lower key q)) (rw h (flag-first (2 ^ j) (pow-up j))) .0
+
+  -- the word behind it
+  module _ {y : ℕ} (ey : y ≡ getD u 9 0) (above : slash < y) where
+    eight-gap : Took (set-gap false) b u (b + 8) tt (b + 8 + 1)
+    eight-gap =
+        let z : b + 8 - b ≡ 8 = omega arith in
+        let r = rest-from b (b + 8) u (omega arith) (omega arith) in
+        let v = drop (b + 8 - b) u in
+        let o = blanks-one (b + 8) v 32 y (sym (first-of (b + 8 - b) u ∙ rw z space)) (ey ∙ sym (getD-drop (b + 8 - b) u 1 0 ∙ rw z refl)) refl above in
+        start-took false (Here (b + 8 + 1)) (b + 8 + 1) r (start-next (b + 8) v false refl (record { next = b + 8 + 1; doc = Absent }) o (λ t. omega arith)) refl
+
+    pub eight-alone : {f n : ℕ} → EightFlag f n w → (f ≡ 0 → ⊥) → initial (lower y) (set-of n) ≡ false → WordSetTo (record { flags = f; next = b + 8 }) n b u
+    eight-alone {f} {n} g x t =
+        let z : b + 8 + 1 - b ≡ 9 = omega arith in
+        set-no-initial (eight-set g x) eight-gap (rest-from b (b + 8 + 1) u (omega arith) (omega arith)) (ap (λ (c : ℕ). initial (lower c) (set-of n)) (first-of (b + 8 + 1 - b) u ∙ (rw z (sym ey))) ∙ t)
 
 -- the flags of a set, by its size
 pub set-fits : {r : WordSet} {n b : ℕ} {u : List ℕ} → WordSetTo r n b u → r .flags < 2 ^ length (set-of n)

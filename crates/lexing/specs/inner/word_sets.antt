@@ -1,14 +1,16 @@
 -- What the private functions of the reader of word sets promise.
-use Prim.Native.Nat.{ℕ, _+_, _-_, _/_, _%_, _≤_, _<_}
+use Prim.Native.Nat.{ℕ, suc, _+_, _-_, _/_, _%_, _^_, _≤_, _<_}
 use mathlib.Core.Path.{_≡_}
 use mathlib.Core.Bool.{Bool, true, false, _||_}
 use mathlib.Core.List.{List, [], _∷_}
 use lib.Dec.{eqb}
-use lib.ListN.{take, drop}
+use lib.ListN.{length, take, drop, getD}
 use Rattle.lexing.specs.reply.{Reply, ok, fail, Parser, ret, _>>_}
-use Rattle.lexing.specs.words.{isLower, keyword}
+use Rattle.lexing.specs.words.{isKey, isLower, keyword}
 use Rattle.lexing.specs.blanks.{whitespace1}
+use Rattle.lexing.specs.word_sets.{set-of}
 use Rattle.lexing.specs.answers.{wordAt}
+use Rattle.lexing.specs.inner.eights.{pack, bytesFrom}
 use Rattle.lexing.specs.declared.word_sets.Start.{Start}
 use Rattle.lexing.specs.declared.word_sets.Start.the-variants.{Here, Nowhere}
 
@@ -42,3 +44,14 @@ initial x ((y ∷ k) ∷ ks) = eqb x y || initial x ks
 pub record LowerAt (u : List ℕ) (n i : ℕ) : Type 0 where
   pub inside : i ≤ n
   pub left : isLower (drop i (take n u)) ≡ isLower (take n u)
+
+-- the keyword k has eight bytes, and they are those of w
+pub record IsEight (w : ℕ) (k : List ℕ) : Type 0 where
+  pub key : isKey k ≡ true
+  pub eight : length k ≡ 8
+  pub same : w ≡ pack 8 (bytesFrom k 0)
+
+-- the flag of a set's keyword with the eight bytes of w, which j others stand behind, or 0
+pub data EightFlag (r set w : ℕ) : Type 0 where
+  some : (k j : ℕ) → suc (k + j) ≡ length (set-of set) → IsEight w (getD (set-of set) k []) → r ≡ 2 ^ j → EightFlag r set w
+  none : r ≡ 0 → EightFlag r set w

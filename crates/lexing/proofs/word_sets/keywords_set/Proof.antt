@@ -13,11 +13,11 @@ peek-requires c κs = tt
 is-initial-requires : tie.Need-is-initial-requires
 is-initial-requires c κs = tt
 
-words-of-set-requires : tie.Need-words-of-set-requires
-words-of-set-requires c κs = search needs
+words-by-front-requires : tie.Need-words-by-front-requires
+words-by-front-requires c κs = search needs
 
 returns : tie.Need-returns
-returns c = c .words-of-set .ensures
+returns c = c .words-by-front .ensures
 
 lower-of-requires : tie.Need-lower-of-requires
 lower-of-requires c κs = tt
@@ -25,11 +25,11 @@ lower-of-requires c κs = tt
 is-initial-requires-2 : tie.Need-is-initial-requires-2
 is-initial-requires-2 c κs = tt
 
-words-of-set-requires-2 : tie.Need-words-of-set-requires-2
-words-of-set-requires-2 c κs = search needs
+words-by-front-requires-2 : tie.Need-words-by-front-requires-2
+words-by-front-requires-2 c κs = search needs
 
 returns-2 : tie.Need-returns-2
-returns-2 c = c .words-of-set2 .ensures
+returns-2 c = c .words-by-front2 .ensures
 
 returns-3 : tie.Need-returns-3
 returns-3 c = set-none _ _ _ (ap (λ x. initial x (set-of (c .before .before .before .before .before .before .before .args .set))) (sym (c .before .before .lower-of .ensures ∙ ap lower (c .before .before .before .before .before .peek .ensures))) ∙ (sym (c .before .is-initial2 .ensures) ∙ c .if2 .left))
@@ -40,10 +40,10 @@ keywords-set-spec =
     (tie.spec
     peek-requires
     is-initial-requires
-    words-of-set-requires
+    words-by-front-requires
     returns
     lower-of-requires
     is-initial-requires-2
-    words-of-set-requires-2
+    words-by-front-requires-2
     returns-2
     returns-3)
