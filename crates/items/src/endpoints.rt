@@ -60,8 +60,8 @@ use lexing::words::tag;
 // A device type: where its name starts and ends, its code and its version.
 pub struct DeviceTypeParts {
     pub name: usize,
-    pub end: usize,
     pub code: u64,
+    pub end: usize,
     pub version: u64,
 }
 

@@ -51,7 +51,8 @@ use lexing::words::keyword;
 use lexing::words::tag;
 
 // A field: where its type's name starts and ends, its largest length where it has one, where its name starts and ends, whether it is a list, its code.
-// The two offsets of a name do not stand side by side: they would be copied as one value, which waits for two stores.
+// The two offsets of a name do not stand side by side: they would be copied as one value, which waits for two stores. The two bools do: one at a
+// multiple of four bytes would be loaded as four, which waits for the store of one (docs/DECISIONS.md, 36).
 pub struct FieldParts {
     pub type_at: usize,
     pub name: usize,
