@@ -4,7 +4,7 @@ use crate::reader::{matter_idl_read, matter_idl_survey};
 use std::hint::black_box;
 use std::time::{Duration, Instant};
 
-const ROUNDS: usize = 15;
+const ROUNDS: usize = 40;
 
 /// Prints the shortest time of each, and how many times as fast as the Rust the library reads and surveys the text.
 pub fn compare(file: &str) -> Result<(), String> {
