@@ -1,4 +1,5 @@
-/* How the time of reading and of the survey grows with the text, for texts of different shapes: best of several runs, at 256 KB and at 1 MB, side by side.
+/* How the time of reading and of the survey grows with the text, for texts of different shapes: at 256 KB and at 1 MB in turn, the shortest of many runs each,
+   since what else the machine does comes and goes.
    shapes SMALL LARGE: a realistic text of about 256 KB and one of about 1 MB (bench/grow makes them). */
 #include <stddef.h>
 #include <stdint.h>
@@ -10,8 +11,14 @@
 uint64_t matter_idl_read(const uint8_t *text, size_t text_length, uint8_t *catalogue, size_t catalogue_length);
 uint64_t matter_idl_survey(const uint8_t *text, size_t text_length, uint8_t *catalogue, size_t catalogue_length, uint8_t *report, size_t report_length);
 
-enum { LIMIT = 1048575, SMALL = LIMIT / 4, RUNS = 7 };
-static uint8_t text[LIMIT + 1], catalogue[8 * LIMIT], report[8 * (LIMIT / 2 + 1)];
+enum { LIMIT = 1048575, SMALL = LIMIT / 4, RUNS = 100 };
+typedef struct {
+    uint8_t bytes[LIMIT + 1];
+    size_t length;
+    double reading, survey;
+} Text;
+static Text small, large;
+static uint8_t catalogue[8 * LIMIT], report[8 * (LIMIT / 2 + 1)];
 
 static double now(void) {
     struct timespec t;
@@ -19,74 +26,74 @@ static double now(void) {
     return (double)t.tv_sec + (double)t.tv_nsec * 1e-9;
 }
 
-static double reading(size_t n) {
-    double best = 1e9;
-    for (int i = 0; i < RUNS; i++) {
-        double start = now();
-        matter_idl_read(text, n, catalogue, sizeof catalogue);
-        double took = now() - start;
-        best = took < best ? took : best;
-    }
-    return best;
+static void keep(double *best, double took) {
+    if (took < *best) *best = took;
 }
 
-static double survey(size_t n) {
-    double best = 1e9;
-    for (int i = 0; i < RUNS; i++) {
-        double start = now();
-        matter_idl_survey(text, n, catalogue, sizeof catalogue, report, sizeof report);
-        double took = now() - start;
-        best = took < best ? took : best;
-    }
-    return best;
+static void run(Text *t) {
+    double start = now();
+    matter_idl_read(t->bytes, t->length, catalogue, sizeof catalogue);
+    double between = now();
+    matter_idl_survey(t->bytes, t->length, catalogue, sizeof catalogue, report, sizeof report);
+    keep(&t->reading, between - start);
+    keep(&t->survey, now() - between);
 }
 
 /* The piece again and again; %d in it stands for the number of the copy. */
-static size_t repeated(const char *piece, size_t size) {
+static size_t repeated(const char *piece, uint8_t *bytes, size_t size) {
     size_t n = 0;
     for (int i = 0;; i++) {
         char copy[256];
         size_t length = (size_t)snprintf(copy, sizeof copy, piece, i);
         if (n + length > size) return n;
-        memcpy(text + n, copy, length);
+        memcpy(bytes + n, copy, length);
         n += length;
     }
 }
 
-static size_t comment(const char *unused, size_t size) {
+static size_t comment(const char *unused, uint8_t *bytes, size_t size) {
     (void)unused;
-    memset(text, 'c', size);
-    memcpy(text, "/*", 2);
-    memcpy(text + size - 2, "*/", 2);
+    memset(bytes, 'c', size);
+    memcpy(bytes, "/*", 2);
+    memcpy(bytes + size - 2, "*/", 2);
     return size;
 }
 
-static size_t from_file(const char *name, size_t size) {
+static size_t from_file(const char *name, uint8_t *bytes, size_t size) {
     FILE *f = fopen(name, "rb");
     if (!f) {
         perror(name);
         exit(1);
     }
-    size_t n = fread(text, 1, size, f);
+    size_t n = fread(bytes, 1, size, f);
     fclose(f);
     return n;
 }
 
-static void line(const char *what, double small, double large, size_t n, size_t m) {
-    printf("%-52s %8.2f %8.2f ms %6.1f times\n", what, small * 1e3, large * 1e3, large / small * ((double)n / (double)m) * 4);
+typedef size_t Make(const char *what, uint8_t *bytes, size_t size);
+
+static void make(Text *t, Make *by, const char *what, size_t size) {
+    t->length = by(what, t->bytes, size);
+    t->reading = t->survey = 1e9;
 }
 
-static void shape(const char *name, size_t (*make)(const char *, size_t), const char *small, const char *large) {
+static void line(const char *name, const char *call, double at_small, double at_large) {
     char what[80];
-    size_t n = make(small, SMALL);
-    double read_small = reading(n), survey_small = survey(n);
-    size_t m = make(large, LIMIT);
-    double read_large = reading(m), survey_large = survey(m);
-    snprintf(what, sizeof what, "%s, reading", name);
-    line(what, read_small, read_large, n, m);
-    snprintf(what, sizeof what, "%s, survey", name);
-    line(what, survey_small, survey_large, n, m);
-    printf("%-52s %29.2f\n", "  survey as a multiple of reading, at 1 MB", survey_large / read_large);
+    snprintf(what, sizeof what, "%s, %s", name, call);
+    double growth = at_large / at_small * (double)small.length / (double)large.length * 4;
+    printf("%-52s %8.3f %8.3f ms %6.1f times\n", what, at_small * 1e3, at_large * 1e3, growth);
+}
+
+static void shape(const char *name, Make *by, const char *of_small, const char *of_large) {
+    make(&small, by, of_small, SMALL);
+    make(&large, by, of_large, LIMIT);
+    for (int i = 0; i < RUNS; i++) {
+        run(&small);
+        run(&large);
+    }
+    line(name, "reading", small.reading, large.reading);
+    line(name, "survey", small.survey, large.survey);
+    printf("%-52s %29.2f\n", "  survey as a multiple of reading, at 1 MB", large.survey / large.reading);
 }
 
 static void same(const char *name, const char *piece) { shape(name, repeated, piece, piece); }
