@@ -2,10 +2,12 @@
 use mathlib.Core.Path.{_≡_, refl, sym, ap, _∙_, subst}
 use mathlib.Core.List.{List, [], _∷_}
 use mathlib.Core.Bool.{Bool, true, false}
-use Prim.Native.Nat.{ℕ, zero, suc, _+_, _≤_, _<_, zero-le}
+use Prim.Native.Nat.{ℕ, zero, suc, _+_, _-_, _≤_, _<_, zero-le}
 use native.Mathlib.Omega.{arith}
 use native.Mathlib.Numerals.{add-one}
 use native.Mathlib.Nat.{add-zero}
+use borrow.Author.Tests.{ltb-true, ltb-false}
+use lib.Dec.{ltb}
 use lib.ListN.{length, drop, take, getD, drop-of-length-le}
 use lib.Seq.{drop-cons, getD-drop, getD-take}
 use Rattle.lexing.specs.bytes.{takeWhile, dropWhile}
@@ -101,6 +103,17 @@ module _ (f : ℕ → Bool) (u : List ℕ) (i : ℕ) {e : ℕ} (h : RunAt f u e 
   runs-out le =
       let k : length (takeWhile f (drop i u)) ≡ 0 = rw (drop-of-length-le u le) (ap length (run-nil f)) in
       omega (arith, k, h .left)
+
+-- what holds of n places from i on, and of m behind them
+pub both-runs : (P : ℕ → Type 0) (i n m : ℕ) → ((j : ℕ) → j < n → P (i + j)) → ((j : ℕ) → j < m → P (i + n + j)) → (j : ℕ) → j < n + m → P (i + j)
+both-runs P i n m p q j h = go (ltb j n) refl
+  where
+    go : (t : Bool) → ltb j n ≡ t → P (i + j)
+    go true l = p j (ltb-true j n l)
+    go false l =
+        let d = ltb-false j n l in
+        let z : i + n + (j - n) ≡ i + j = omega arith in
+        rw z at (q (j - n) (omega arith))
 
 -- what holds at i and is kept by each of n turns holds behind them
 pub turns : (P : ℕ → Type 0) (i n : ℕ) → P i → ((j : ℕ) → j < n → P (i + j) → P (i + j + 1)) → P (i + n)

@@ -13,11 +13,12 @@ use lib.ListN.{length, take, drop, getD, replicate, length-drop, length-replicat
 use lib.Seq.{drop-cons, drop-drop, take-all}
 use borrow.Author.Count.{below-none, below-more}
 use lib.Dec.{ltb}
-use borrow.Author.Tests.{le-leb, lt-leb, lt-ltb, ltb-true, ltb-false}
+use borrow.Author.Tests.{le-leb, lt-leb, lt-ltb, ltb-true}
 use Rattle.lexing.specs.bytes.{within}
 use Rattle.lexing.specs.utf8.{Range, _to_, has, Row, row, table, following, State, between, inside, ill, awaiting, begun, step, run, fault, utf8-error}
 use Rattle.lexing.specs.inner.utf8.{fits, size-of, sequence-size, later, Bounds, AsciiAt}
 use Rattle.lexing.specs.inner.eights.{pack, bytesFrom, failing, isAscii}
+use Rattle.lexing.proofs.Scans.{both-runs}
 use Rattle.lexing.proofs.eights.Laws.{Bytes, no-bits, passing, some-passing}
 
 -- texts one after the other
@@ -292,14 +293,7 @@ or-one u i = record { each = below-more _ 0 (below-none _) (let z : i + 0 ≡ i 
 
 -- two runs of bytes, the second behind the first
 or-join : (n m : ℕ) {r s : ℕ} {u : List ℕ} {i : ℕ} → Bounds r u i n → Bounds s u (i + n) m → Bounds (bitOr r s) u i (n + m)
-or-join n m {r} {s} {u} {i} p q = record { each = λ j h. go j h (ltb j n) refl }
-  where
-    go : (j : ℕ) → j < n + m → (t : Bool) → ltb j n ≡ t → getD u (i + j) 0 ≤ bitOr r s
-    go j h true l = omega (arith, p .each j (ltb-true j n l), or-left r s)
-    go j h false l =
-        let d = ltb-false j n l in
-        let z : i + n + (j - n) ≡ i + j = omega arith in
-        omega (arith, rw z at (q .each (j - n) (omega arith)), or-right r s)
+or-join n m {r} {s} {u} {i} p q = record { each = both-runs (λ k. getD u k 0 ≤ bitOr r s) i n m (λ j h. omega (arith, p .each j h, or-left r s)) (λ j h. omega (arith, q .each j h, or-right r s)) }
 
 -- four runs of n bytes
 pub or-four : (n : ℕ) {r s t v : ℕ} {u : List ℕ} {i : ℕ} → Bounds r u i n → Bounds s u (i + n) n → Bounds t u (i + (n + n)) n → Bounds v u (i + (n + n + n)) n → Bounds (bitOr (bitOr (bitOr r s) t) v) u i (n + n + n + n)

@@ -5,13 +5,12 @@ use mathlib.Core.List.{List, [], _∷_, _++_, append-assoc, append-nil}
 use Prim.Native.Nat.{ℕ, _+_, _-_, _≤_, _<_}
 use native.Mathlib.Numerals.{add-one}
 use native.Mathlib.Omega.{arith}
-use lib.Dec.{eqb, ltb}
+use lib.Dec.{eqb}
 use lib.ListN.{length, take, drop, getD, drop-of-length-le}
 use lib.Seq.{drop-cons, take-suc, take-all}
 use borrow.Author.Count.{below-none, below-more}
-use borrow.Author.Tests.{ltb-true, ltb-false}
 use Rattle.lexing.proofs.Tests.{or-false}
-use Rattle.lexing.proofs.Scans.{turns}
+use Rattle.lexing.proofs.Scans.{turns, both-runs}
 use Rattle.matter_idl.specs.sections.{line-feed, cut-after, before-first, cut-from, sections}
 use Rattle.matter_idl.specs.inner.sections.{cut-at, Cutless, prefixed, left-at, Uncut, FirstSection}
 
@@ -94,14 +93,7 @@ cutless-one {r} {u} {i} c = record { each = λ e. below-more _ 0 (below-none _) 
 
 -- n bytes, and m behind them
 cutless-join : (n m : ℕ) {r s : Bool} {u : List ℕ} {i : ℕ} → Cutless r u i n → Cutless s u (i + n) m → Cutless (r || s) u i (n + m)
-cutless-join n m {r} {s} {u} {i} p q = record { each = λ e j h. go (or-false r s e) j h (ltb j n) refl }
-  where
-    go : (r ≡ false) × (s ≡ false) → (j : ℕ) → j < n + m → (t : Bool) → ltb j n ≡ t → cut-at u (i + j) ≡ false
-    go e j h true l = p .each (e .0) j (ltb-true j n l)
-    go e j h false l =
-        let d = ltb-false j n l in
-        let z : i + n + (j - n) ≡ i + j = omega arith in
-        rw z at (q .each (e .1) (j - n) (omega arith))
+cutless-join n m {r} {s} {u} {i} p q = record { each = λ e. both-runs (λ k. cut-at u k ≡ false) i n m (p .each (or-false r s e .0)) (q .each (or-false r s e .1)) }
 
 -- four times n bytes
 pub cutless-four : (n : ℕ) {r s t v : Bool} {u : List ℕ} {i : ℕ} → Cutless r u i n → Cutless s u (i + n) n → Cutless t u (i + (n + n)) n → Cutless v u (i + (n + n + n)) n → Cutless (((r || s) || t) || v) u i (n + n + n + n)
