@@ -48,7 +48,7 @@ fn print_records(text: &[u8])
     let base = w.next;
     let doc = w.doc;
     let part = lexing::parts::rest_at(text, 0, base);
-    let r = items::items::declaration(part, base);
+    let r = items::items::count_declaration(part, base);
     let Count::Words(n, _) = r else {
         return;
     };
@@ -64,7 +64,7 @@ fn print_records(text: &[u8])
 fn print_item(text: &[u8])
     requires { ⌜ length (now text) ≤ text-limit ⌝ }
 {
-    let r = items::items::item(text, 0);
+    let r = items::items::count_item(text, 0);
     match r {
         Count::Words(_, c) => {
             print_records(text);

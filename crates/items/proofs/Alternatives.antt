@@ -8,17 +8,17 @@ use lib.Dec.{eqb}
 use lib.ListN.{getD}
 use borrow.Author.Tests.{eqb-true}
 use Rattle.lexing.specs.bytes.{lower}
-use Rattle.lexing.specs.reply.{Reply, ok, fail, stop, Parser, ret, _>>_, _or_, further}
+use Rattle.lexing.specs.reply.{Reply, ok, fail, stop, Parser, ret, _>>_, _or_, no-nearer}
 use Rattle.lexing.specs.words.{Word, keyword}
 use Rattle.lexing.specs.word_sets.{same-bytes}
 use Rattle.lexing.proofs.Tests.{and-left, and-right}
 use Rattle.lexing.proofs.FirstWord.{Frees}
 use Rattle.lexing.proofs.words.Laws.{keyword-says}
 use Rattle.lexing.proofs.word_sets.Laws.{same-eq}
-use Rattle.items.specs.answers.members.{numbered}
+use Rattle.items.specs.inner.levels.{numbered}
 use Rattle.items.proofs.Choice.{Past, past-start, or-fail}
 use Rattle.items.proofs.Letters.{all-out, outs-free, or-cases}
-use Rattle.items.proofs.Tries.{then-ok, then-fail}
+use Rattle.lexing.proofs.Sequences.{then-ok, then-fail}
 
 -- one behind the other, and z behind them
 abbrev pub alternatives : List (List ℕ × ℕ) → Parser ℕ → Parser ℕ
@@ -37,11 +37,11 @@ leaves x k v (t ∷ ts) = ((same-bytes (t .0) k && eqb (t .1) v) && all-out ((0,
 -- what a choice of two tries gives, by what each of them does
 either : Reply ℕ → Reply ℕ → Reply ℕ
 either (ok a c r) y = ok a c r
-either (fail p) y = further p y
+either (fail p) y = no-nearer p y
 either (stop n p) y = stop n p
 
 either-past : (b : ℕ) (x y : Reply ℕ) → Past b x → Past b y → Past b (either x y)
-unfolding either further
+unfolding either no-nearer
 either-past b (ok a c r) y h g = tt
 either-past b (fail p) (ok a c r) h g = tt
 either-past b (fail p) (fail q) h g = omega arith
@@ -49,7 +49,7 @@ either-past b (fail p) (stop n q) h g = tt
 either-past b (stop n p) y h g = tt
 
 either-alone : (b : ℕ) (x : Reply ℕ) → Past b x → either x (fail b) ≡ x
-unfolding either further
+unfolding either no-nearer
 either-alone b (ok a c r) h = refl
 either-alone b (fail p) h = let z : max p b ≡ p = omega arith in ap fail z
 either-alone b (stop n p) h = refl
@@ -79,7 +79,7 @@ module _ (b : ℕ) (u : List ℕ) where
 
   pub none-left : (ts : List (List ℕ × ℕ)) (z : Parser ℕ) → Frees b u (keys ts) → Past b (z b u) → alternatives ts z b u ≡ z b u
   none-left [] z f g = refl
-  none-left (t ∷ ts) z f g = or-fail _ _ (numbered-fail (t .0) (t .1) (f .0)) ∙ (ap (further b) (none-left ts z (f .1) g) ∙ sym (past-start b (z b u) g))
+  none-left (t ∷ ts) z f g = or-fail _ _ (numbered-fail (t .0) (t .1) (f .0)) ∙ (ap (no-nearer b) (none-left ts z (f .1) g) ∙ sym (past-start b (z b u) g))
 
   module _ (x : ℕ) (h : lower (getD u 0 0) ≡ x) where
     letter-out : (ks : List (List ℕ)) → all-out ((0, x) ∷ []) [] ks ≡ true → Frees b u ks
@@ -102,7 +102,7 @@ module _ (b : ℕ) (u : List ℕ) where
         later ih q =
             let f = letter-out (t .0 ∷ []) (and-left (all-out ((0, x) ∷ []) [] (t .0 ∷ [])) (leaves x k v ts) q) in
             let past : Past b ((numbered k v or z) b u) = rw (or-either (numbered k v) z) (either-past b _ _ (numbered-past k v) g) in
-            or-fail _ _ (numbered-fail (t .0) (t .1) (f .0)) ∙ (ap (further b) (ih (and-right (all-out ((0, x) ∷ []) [] (t .0 ∷ [])) (leaves x k v ts) q)) ∙ sym (past-start b _ past))
+            or-fail _ _ (numbered-fail (t .0) (t .1) (f .0)) ∙ (ap (no-nearer b) (ih (and-right (all-out ((0, x) ∷ []) [] (t .0 ∷ [])) (leaves x k v ts) q)) ∙ sym (past-start b _ past))
 
     -- with one more of them behind them
     pub one-of-all : (k : List ℕ) (v : ℕ) (ts : List (List ℕ × ℕ)) (t : List ℕ × ℕ) → leaves x k v ts ≡ true → all-out ((0, x) ∷ []) [] (t .0 ∷ []) ≡ true → alternatives ts (numbered (t .0) (t .1)) b u ≡ numbered k v b u

@@ -1,16 +1,12 @@
 -- What stands between braces: one law for each way through.
 use mathlib.Core.Path.{_≡_, refl, sym, ap, _∙_}
-use mathlib.Core.Bool.{Bool, true, false}
-use mathlib.Core.List.{List, [], _∷_}
+use mathlib.Core.List.{List}
 use Prim.Native.Nat.{ℕ, _-_}
 use native.Mathlib.Omega.{arith}
-use lib.Dec.{eqb}
 use lib.ListN.{length, drop}
-use borrow.Author.Tests.{eqb-true}
-use Rattle.lexing.specs.bytes.{isLetter, isSpace, within}
-use Rattle.lexing.specs.reply.{Reply, ok, fail, stop, Parser, ret, _>>=_, _>>_, catch, failAt, keep}
-use Rattle.lexing.specs.words.{keyword, tag}
-use Rattle.lexing.specs.blanks.{Doc, no-doc, one-blank, whitespace0}
+use Rattle.lexing.specs.reply.{Reply, ok, fail, stop, Parser, ret, _>>=_, _>>_, catch, failAt}
+use Rattle.lexing.specs.words.{tag}
+use Rattle.lexing.specs.blanks.{Doc, whitespace0}
 use Rattle.lexing.specs.answers.{Rest, lostReply, SkipsAt, Fail, Stop, onLost}
 use Rattle.lexing.specs.declared.answers.Lost.{Lost}
 use Rattle.lexing.specs.declared.answers.Step.{Step as Answered}
@@ -19,9 +15,6 @@ use Rattle.lexing.proofs.Losses.{by-lost}
 use Rattle.lexing.proofs.Runs.{suf-length}
 use Rattle.lexing.proofs.Chain.{MovesTo, to-suf}
 use Rattle.lexing.proofs.Onward.{Ends, Onward}
-use Rattle.lexing.proofs.Repetition.{iter-fail}
-use Rattle.lexing.proofs.TokenLocality.{no-group, one-blank-consumes}
-use Rattle.lexing.proofs.words.Laws.{keyword-no-word}
 use Rattle.lexing.proofs.Slicing.{Took, took, begin, go, on, lose, fall, done, rest-self, rest-from, suf-drop}
 use Rattle.items.specs.entries.{enclosed, where-missing, braces}
 use Rattle.items.specs.records.{Record}
@@ -31,7 +24,6 @@ use Rattle.items.specs.declared.counts.Count.{Count}
 use Rattle.items.specs.declared.counts.Count.the-variants.{Words, NoCount}
 use Rattle.items.specs.declared.writing.Wrote.{Wrote}
 use Rattle.items.proofs.Locality.{close-moves}
-use Rattle.items.proofs.Tries.{bind-fail}
 use Rattle.lexing.proofs.steps.Laws.{tag-behind-took, skips-lost}
 use Rattle.items.proofs.counts.Laws.{Counted, count-took, count-lost, count-is, count-not}
 use Rattle.items.proofs.writing.Laws.{no-room, written-took}
@@ -47,26 +39,6 @@ lost-not {m = m} h =
     (λ l. lostReply l ≡ m → ⊥)
     (λ p e. let z = h ∙ sym e in let y : _≡_ {A = ℕ} 0 1 = cc in omega arith)
     (λ n p e. let z = h ∙ sym e in let y : _≡_ {A = ℕ} 0 1 = cc in omega arith)
-
--- where a closing brace stands
-pub brace-first : (b : ℕ) (u : List ℕ) {c : ℕ} {r : List ℕ} → ok tt c r ≡ tag 125 b u → (v : List ℕ) × (u ≡ 125 ∷ v)
-unfolding tag
-brace-first b [] e = absurd (lost-not e (Fail b) refl)
-brace-first b (x ∷ u) {c} {r} e = go (eqb x 125) refl
-  where
-    go : (t : Bool) → eqb x 125 ≡ t → (v : List ℕ) × (x ∷ u ≡ 125 ∷ v)
-    go true z = (u, ap (λ (y : ℕ). y ∷ u) (eqb-true x 125 z))
-    go false z = absurd (lost-not (rw (z, tag) at e) (Fail b) refl)
-
--- neither a keyword nor a blank stands there
-module _ (b : ℕ) (u : List ℕ) where
-  pub brace-keyword : (k : List ℕ) → keyword k b (125 ∷ u) ≡ fail b
-  unfolding isLetter within
-  brace-keyword k = sym (keyword-no-word k b (125 ∷ u) refl)
-
-  pub brace-blank : whitespace0 b (125 ∷ u) ≡ ok no-doc b (125 ∷ u)
-  unfolding whitespace0 one-blank keep isSpace within
-  brace-blank = iter-fail one-blank keep one-blank-consumes no-doc b (125 ∷ u) b (bind-fail _ _ (no-group b 125 u refl))
 
 -- the closing brace behind blanks
 closing-took : (h : ℕ → Parser (Unit {0})) {b n : ℕ} {u : List ℕ} {v : Unit {0}} {e : ℕ} → Took (whitespace0 >> tag 125) b u n v e → Took (catch (whitespace0 >> tag 125) h) b u n v e

@@ -11,7 +11,7 @@ use Rattle.lexing.proofs.Onward.{Onward}
 use Rattle.lexing.proofs.Locality.{Consumes}
 use Rattle.lexing.proofs.Slicing.{Took, begin, go, done, lose, rest-self}
 use Rattle.items.specs.records.{Record}
-use Rattle.items.specs.layout.{layout-20, catalogue-bytes, word-count}
+use Rattle.items.specs.layout.{layout, catalogue-bytes, word-count}
 use Rattle.lexing.specs.buffers.{put}
 use Rattle.items.specs.answers.{CountsTo, Room, Written}
 use Rattle.items.specs.declared.writing.Wrote.{Wrote}
@@ -27,7 +27,7 @@ pub record Headed {I H L A : Type 0} (m : I → Parser A) (records : I → A →
   pub first : I → H → L → Record
   pub reads : (i : I) → m i ≡ (head >>= λ h. list >>= λ l. ret (make i h l))
   pub hands : (i : I) (h : H) (l : L) → records i (make i h l) ≡ first i h l ∷ rs l
-  pub size : (i : I) (h : H) (l : L) → word-count (first i h l ∷ []) ≡ k
+  pub size : (i : I) (h : H) (l : L) → word-count layout (first i h l ∷ []) ≡ k
 
 -- a step that takes a byte
 pub further-on : {A : Type 0} {m : Parser A} (w : Consumes m) {b n : ℕ} {u : List ℕ} {a : A} {c : ℕ} → b ≤ n → Took m b u n a c → n < c
@@ -40,8 +40,8 @@ module _ {I H L A : Type 0} {m : I → Parser A} {records : I → A → List Rec
   abbrev steps : I → Parser A
   steps i = head >>= λ h. list >>= λ l. ret (d .make i h l)
 
-  pub headed-words : (i : I) (h : H) (l : L) → word-count (records i (d .make i h l)) ≡ word-count (rs l) + k
-  headed-words i h l = ap word-count (d .hands i h l) ∙ omega (arith, word-count-append (d .first i h l ∷ []) (rs l), d .size i h l)
+  pub headed-words : (i : I) (h : H) (l : L) → word-count layout (records i (d .make i h l)) ≡ word-count layout (rs l) + k
+  headed-words i h l = ap (word-count layout) (d .hands i h l) ∙ omega (arith, word-count-append (d .first i h l ∷ []) (rs l), d .size i h l)
 
   module _ {b : ℕ} {u : List ℕ} where
     whole : {X : Reply A} (i : I) → X ≡ steps i b u → X ≡ m i b u
@@ -59,7 +59,7 @@ module _ {I H L A : Type 0} {m : I → Parser A} {records : I → A → List Rec
           let b≤b : b ≤ b = omega arith in
           record {
             counts = λ i.
-                let z : word-count (records i (d .make i h (f .value))) ≡ n + k = omega (arith, headed-words i h (f .value), f .words) in
+                let z : word-count layout (records i (d .make i h (f .value))) ≡ n + k = omega (arith, headed-words i h (f .value), f .words) in
                 count-is (records i) (m i) b u (d .make i h (f .value)) (n + k) e z (omega (arith, f .few, further-on w b≤b t, f .step .up, s))
                 (whole i (begin (steps i) b u (go _ t (go _ (f .step) (done _ _ _ _)))));
           }
@@ -82,26 +82,26 @@ module _ {I H L A : Type 0} {m : I → Parser A} {records : I → A → List Rec
 
         pub headed-room : {r : List ℕ} → Rest b u c r → Room rs list c r (p + 8 * k) n
         headed-room q =
-            let f : word-count (records i (room .value)) ≡ word-count (rs (inner .value)) + k = ap (λ v. word-count (records i v)) inner-is ∙ headed-words i h (inner .value) in
+            let f : word-count layout (records i (room .value)) ≡ word-count layout (rs (inner .value)) + k = ap (λ v. word-count layout (records i v)) inner-is ∙ headed-words i h (inner .value) in
             record { value = inner .value; next = inner .next; is = subst (λ (x : List ℕ). ok (inner .value) (inner .next) (drop (inner .next - c) x) ≡ list c x) (sym (q .same)) (inner .is); fits = omega (arith, room .fits, f) }
 
         -- the list's records are written, and then the first one before them
-        pub headed-written : {r : List ℕ} → Rest b u c r → {o : Wrote} {old mid new : List ℕ} (g : Written rs list c r (p + 8 * k) o old mid) → n ≡ length old → {x : Record} → x ≡ d .first i h (g .value) → new ≡ put p (catalogue-bytes layout-20 (x ∷ [])) mid → Written (records i) (m i) b u p o old new
+        pub headed-written : {r : List ℕ} → Rest b u c r → {o : Wrote} {old mid new : List ℕ} (g : Written rs list c r (p + 8 * k) o old mid) → n ≡ length old → {x : Record} → x ≡ d .first i h (g .value) → new ≡ put p (catalogue-bytes layout (x ∷ [])) mid → Written (records i) (m i) b u p o old new
         headed-written q {o} {old} {mid} {new} g same {x} v e =
             let s = written-took w q g in
             let a = d .make i h (g .value) in
             let is : ok a (o .next) (drop (o .next - b) u) ≡ m i b u = whole i (begin (steps i) b u (go _ t (go _ s (done _ _ _ _)))) in
             let y : room .value ≡ a = let z = room .is ∙ sym is in cc in
             let f = headed-words i h (g .value) in
-            let z : word-count (records i (room .value)) ≡ word-count (records i a) = ap (λ v. word-count (records i v)) y in
+            let z : word-count layout (records i (room .value)) ≡ word-count layout (records i a) = ap (λ v. word-count layout (records i v)) y in
             let k₁ = catalogue-bytes-length (x ∷ []) in
             let k₂ = catalogue-bytes-length (rs (g .value)) in
-            let k₃ : word-count (x ∷ []) ≡ k = ap (λ (v : Record). word-count (v ∷ [])) v ∙ d .size i h (g .value) in
+            let k₃ : word-count layout (x ∷ []) ≡ k = ap (λ (v : Record). word-count layout (v ∷ [])) v ∙ d .size i h (g .value) in
             record {
               value = a;
               is = is;
               place = omega (arith, g .place, f);
-              bytes = rw (d .hands i h (g .value), ← v, catalogue-bytes-append layout-20 (x ∷ []) (rs (g .value))) (
-                  put-before p (p + 8 * k) (catalogue-bytes layout-20 (x ∷ [])) (catalogue-bytes layout-20 (rs (g .value))) old mid new (omega (arith, k₁, k₃)) (omega (arith, k₂, room .fits, z, f, same)) (g .bytes) e
+              bytes = rw (d .hands i h (g .value), ← v, catalogue-bytes-append layout (x ∷ []) (rs (g .value))) (
+                  put-before p (p + 8 * k) (catalogue-bytes layout (x ∷ [])) (catalogue-bytes layout (rs (g .value))) old mid new (omega (arith, k₁, k₃)) (omega (arith, k₂, room .fits, z, f, same)) (g .bytes) e
                   );
             }

@@ -20,17 +20,22 @@ pub mod Recorded
 -- parts between braces, a head and then a list, words by their offsets, and the words of records
 pub mod Braces
 pub mod Headed
+pub mod Deep
+pub mod Placed
 pub mod WordBetween
 pub mod RecordWords
 pub mod SetSizes
 -- parsers that never stop; what is read stands in the text; where it is refused
-pub mod Calm
 pub mod Truth
 pub mod RefusedPlaces
 -- what was packed comes back; a word comes back from its bytes
 pub mod Packing
 -- every record of what is read fits its words
 pub mod RecordsFit
+-- records come back from their bytes
+pub mod ReadBack
+-- moving changes offsets and no other bit
+pub mod Moving
 -- the records of what is read take at most a word for each byte
 pub mod WordsPerByte
 pub mod KnownAnswers

@@ -9,22 +9,22 @@ use native.Mathlib.Omega.{arith}
 use lib.Dec.{eqb}
 use lib.ListN.{length}
 use Rattle.lexing.specs.bytes.{ascii, within, isLetter, isDigit, isSpace}
-use Rattle.lexing.specs.reply.{Reply, ok, fail, stop, Parser, ret, _>>=_, _>>_, _or_, failAt, stopAt, catch, pick}
+use Rattle.lexing.specs.reply.{Reply, ok, fail, stop, Parser, ret, _>>=_, _>>_, failAt, stopAt, catch, pick}
 use Rattle.lexing.specs.words.{Word, tag}
 use Rattle.lexing.specs.blanks.{Doc, whitespace0}
-use Rattle.lexing.specs.strings.{quoted-string, default-string}
 use Rattle.lexing.proofs.Tests.{eq-of, or-true}
 use Rattle.lexing.proofs.Runs.{Cut}
 use Rattle.lexing.proofs.Chain.{goes, opens, closes, token, punctuation, next, To, here, openR, closeR, Clean, to-trans, to-suf, resume, inside-cut, Moves, MovesTo, ext}
 use Rattle.lexing.proofs.Locality.{OnChain, KeepsCut, Consumes, Local, LocalInside, Blind, inside-local, chain-ret, local-ret, keeps-ret, chain-bind, keeps-bind, local-bind, inside-bind, chain-then, keeps-then, local-then, inside-then, chain-opt, keeps-opt, local-opt, inside-opt, chain-or, keeps-or, local-or, inside-or, consumes-left, consumes-right, consumes-or, chain-many0, inside-many0, chain-local, chain-inside, consumes-then-left, consumes-then-right, blind-ret, local-last, chain-fail, keeps-fail, consumes-fail, local-fail, chain-position, keeps-position, local-position, chain-catch, keeps-catch, consumes-catch, local-catch, inside-catch, chain-pick, keeps-pick, consumes-pick, local-pick, inside-iter}
-use Rattle.lexing.proofs.TokenLocality.{parse-id-chain, parse-id-keeps, parse-id-consumes, parse-id-local, keyword-chain, keyword-keeps, keyword-consumes, keyword-local, any-keyword-chain, any-keyword-keeps, any-keyword-consumes, any-keyword-local, tag-consumes, tag-ext, tag-keeps, tag-local, integer-chain, integer-keeps, integer-consumes, integer-local, signed-chain, signed-keeps, signed-local, whitespace0-chain, whitespace0-keeps, whitespace0-local, whitespace1-chain, whitespace1-keeps, whitespace1-local, whitespace1-consumes, string-chain, string-keeps, string-local, set-flags-chain, set-flags-keeps, set-flags-local}
+use Rattle.lexing.proofs.TokenLocality.{parse-id-chain, parse-id-keeps, parse-id-consumes, parse-id-local, keyword-chain, keyword-keeps, keyword-consumes, keyword-local, any-keyword-chain, any-keyword-keeps, any-keyword-consumes, any-keyword-local, tag-consumes, tag-ext, tag-keeps, tag-local, integer-chain, integer-keeps, integer-consumes, integer-local, signed-chain, signed-keeps, signed-local, whitespace0-chain, whitespace0-keeps, whitespace0-local, whitespace1-chain, whitespace1-keeps, whitespace1-local, whitespace1-consumes, quoted-chain, default-string-chain, quoted-keeps, default-string-keeps, quoted-local, default-string-local, set-flags-chain, set-flags-keeps, set-flags-local}
 use Rattle.items.specs.entries.{enclosed, where-missing, braces, api-maturity, constant-annotation, blank-annotation, annotations-in-brackets, constant-annotations-list, constant-entry, blank-entry, constant-entries, constant-entries-list, shared-before, choice-head, choice-after-doc-maturity, parse-enum-after-doc-maturity, parse-bitmap-after-doc-maturity}
-use Rattle.items.specs.structs.{max-length, list-marker, parse-field, parse-struct-field, closed-field, fields-run, struct-fields, response-code, struct-kind, struct-type-of, struct-head, parse-struct-after-doc-maturity}
+use Rattle.items.specs.structs.{max-length, list-marker, parse-field, parse-struct-field, closed-field, fields-run, struct-fields, response-code, type-by-word, struct-type-of, struct-head, parse-struct-after-doc-maturity}
 use Rattle.items.specs.members.{access-privilege, event-priority, access-to, event-qualities, event-head, parse-event-after-doc-maturity, command-head, command-types, parse-command-after-doc-maturity, Access, access-entry, comma, separated-list0, access-list, Privileges, granted-by, default-privileges, listed, attribute-access, parse-attribute-after-doc-maturity}
 use Rattle.items.specs.clusters.{mapped, parse-revision, member-tries, parse-cluster-member, cluster-members, side, cluster-head, cluster-after-doc-maturity, parse-cluster}
 use Rattle.items.specs.endpoints.{Tried, Deep, intercept, deep-step, deeper, deep-run, deep-place, deep-braces, device-version, device-type, value-tries, default-attribute-value, attribute-handling-type, attribute-instantiation, instance-tries, instantiation-head, cluster-instantiation, part-tries, endpoint-head, endpoint}
-use Rattle.lexing.specs.names.{name-behind, named-after}
-use Rattle.items.specs.items.{with-doc-maturity, item, after-maturity, declaration}
+use Rattle.lexing.specs.names.{two-keywords-name, named-after}
+use Rattle.items.specs.items.{with-doc-maturity, item}
+use Rattle.items.specs.answers.items.{after-maturity, declaration}
 
 -- tags: } and { change the depth, the others are a table
 opens-123 : (u : List ℕ) → next (123 ∷ u) ≡ opens u
@@ -164,15 +164,15 @@ pub braces-chain : {A : Type 0} {m : Parser A} → OnChain m → OnChain (braces
 unfolding braces
 braces-chain w = enclosed-chain where-missing w
 
-ruleset keeps-rules = (keeps-ret, keeps-bind, keeps-then, keeps-opt, keeps-or, keeps-catch, keeps-fail, keeps-position, keeps-pick, parse-id-keeps, keyword-keeps, any-keyword-keeps, punct-keeps, integer-keeps, whitespace0-keeps, whitespace1-keeps, string-keeps, signed-keeps, set-flags-keeps)
+ruleset keeps-rules = (keeps-ret, keeps-bind, keeps-then, keeps-opt, keeps-or, keeps-catch, keeps-fail, keeps-position, keeps-pick, parse-id-keeps, keyword-keeps, any-keyword-keeps, punct-keeps, integer-keeps, whitespace0-keeps, whitespace1-keeps, quoted-keeps, default-string-keeps, signed-keeps, set-flags-keeps)
 
-ruleset local-rules = (local-ret, local-bind, local-then, local-opt, local-or, local-catch, local-fail, local-position, local-pick, parse-id-local, keyword-local, any-keyword-local, punct-local, integer-local, whitespace0-local, whitespace1-local, string-local, signed-local, set-flags-local)
+ruleset local-rules = (local-ret, local-bind, local-then, local-opt, local-or, local-catch, local-fail, local-position, local-pick, parse-id-local, keyword-local, any-keyword-local, punct-local, integer-local, whitespace0-local, whitespace1-local, quoted-local, default-string-local, signed-local, set-flags-local)
 
-ruleset chain-rules = (chain-ret, chain-bind, chain-then, chain-opt, chain-or, chain-catch, chain-fail, chain-position, chain-pick, chain-many0, braces-chain, parse-id-chain, keyword-chain, any-keyword-chain, integer-chain, whitespace0-chain, whitespace1-chain, string-chain, signed-chain, set-flags-chain, chain-local)
+ruleset chain-rules = (chain-ret, chain-bind, chain-then, chain-opt, chain-or, chain-catch, chain-fail, chain-position, chain-pick, chain-many0, braces-chain, parse-id-chain, keyword-chain, any-keyword-chain, integer-chain, whitespace0-chain, whitespace1-chain, quoted-chain, default-string-chain, signed-chain, set-flags-chain, chain-local)
 
 ruleset consumes-rules = (consumes-left, consumes-right, consumes-then-left, consumes-then-right, consumes-or, consumes-catch, consumes-fail, consumes-pick, parse-id-consumes, keyword-consumes, any-keyword-consumes, tag-consumes, integer-consumes, whitespace1-consumes)
 
-ruleset token-rules = (local-ret, parse-id-local, keyword-local, any-keyword-local, punct-local, integer-local, whitespace0-local, whitespace1-local, string-local, signed-local, set-flags-local)
+ruleset token-rules = (local-ret, parse-id-local, keyword-local, any-keyword-local, punct-local, integer-local, whitespace0-local, whitespace1-local, quoted-local, default-string-local, signed-local, set-flags-local)
 
 ruleset inside-rules = (inside-bind, inside-then, inside-opt, inside-or, inside-catch, inside-many0, inside-local)
 
@@ -203,11 +203,11 @@ unfolding api-maturity
 api-maturity-local = search (local-rules, keeps-rules) depth 12
 
 pub constant-annotation-local : Local constant-annotation
-unfolding constant-annotation quoted-string
+unfolding constant-annotation
 constant-annotation-local = search (local-rules, keeps-rules) depth 20
 
 pub constant-annotation-consumes : Consumes constant-annotation
-unfolding constant-annotation quoted-string
+unfolding constant-annotation
 constant-annotation-consumes = search (consumes-rules, chain-rules, punct-local) depth 20
 
 pub annotations-in-brackets-inside : LocalInside annotations-in-brackets
@@ -332,12 +332,12 @@ unfolding response-code
 response-code-local = search (local-rules, keeps-rules) depth 12
 
 pub struct-type-of-keeps : (k : Option Word) → KeepsCut (struct-type-of k)
-unfolding struct-type-of struct-kind
+unfolding struct-type-of type-by-word
 struct-type-of-keeps none = keeps-ret _
 struct-type-of-keeps (some w) = search (keeps-rules, response-code-keeps) depth 12
 
 pub struct-type-of-local : (k : Option Word) → Local (struct-type-of k)
-unfolding struct-type-of struct-kind
+unfolding struct-type-of type-by-word
 struct-type-of-local none = local-ret _
 struct-type-of-local (some w) = search (local-rules, keeps-rules, response-code-local) depth 12
 
@@ -362,17 +362,9 @@ unfolding parse-struct-after-doc-maturity
 parse-struct-consumes d m = search (consumes-rules, chain-rules, struct-head-consumes, struct-fields-local) depth 24
 
 -- events, commands, attributes
-pub access-privilege-keeps : KeepsCut access-privilege
-unfolding access-privilege
-access-privilege-keeps = search (keeps-rules) depth 12
-
 pub access-privilege-local : Local access-privilege
 unfolding access-privilege
 access-privilege-local = search (local-rules, keeps-rules) depth 12
-
-pub event-priority-keeps : KeepsCut event-priority
-unfolding event-priority
-event-priority-keeps = search (keeps-rules) depth 12
 
 pub event-priority-local : Local event-priority
 unfolding event-priority
@@ -568,17 +560,17 @@ module _ {A : Type 0} {f : ℕ → Parser (Tried A)} (t : (q : ℕ) → LocalIns
   unfolding deep-braces
   deep-braces-local = mapped-local _ (enclosed-local deep-place deep-run-inside)
 
-pub name-behind-keeps : (k j : List ℕ) → KeepsCut (name-behind k j)
-unfolding name-behind
-name-behind-keeps k j = search (keeps-rules) depth 16
+pub two-keywords-name-keeps : (k j : List ℕ) → KeepsCut (two-keywords-name k j)
+unfolding two-keywords-name
+two-keywords-name-keeps k j = search (keeps-rules) depth 16
 
-pub name-behind-local : (k j : List ℕ) → Local (name-behind k j)
-unfolding name-behind
-name-behind-local k j = search (local-rules, keeps-rules) depth 16
+pub two-keywords-name-local : (k j : List ℕ) → Local (two-keywords-name k j)
+unfolding two-keywords-name
+two-keywords-name-local k j = search (local-rules, keeps-rules) depth 16
 
-pub name-behind-consumes : (k j : List ℕ) → Consumes (name-behind k j)
-unfolding name-behind
-name-behind-consumes k j = search (consumes-rules, chain-rules, punct-local) depth 16
+pub two-keywords-name-consumes : (k j : List ℕ) → Consumes (two-keywords-name k j)
+unfolding two-keywords-name
+two-keywords-name-consumes k j = search (consumes-rules, chain-rules, punct-local) depth 16
 
 pub device-version-local : Local device-version
 unfolding device-version
@@ -586,14 +578,14 @@ device-version-local = search (local-rules, keeps-rules) depth 24
 
 pub device-type-inside : LocalInside device-type
 unfolding device-type
-device-type-inside = search (inside-rules, token-rules, name-behind-local, device-version-local) depth 20
+device-type-inside = search (inside-rules, token-rules, two-keywords-name-local, device-version-local) depth 20
 
 pub device-type-consumes : Consumes device-type
 unfolding device-type
-device-type-consumes = search (consumes-rules, chain-rules, chain-inside, punct-local, name-behind-consumes, device-version-local) depth 20
+device-type-consumes = search (consumes-rules, chain-rules, chain-inside, punct-local, two-keywords-name-consumes, device-version-local) depth 20
 
 pub value-tries-local : Local value-tries
-unfolding value-tries default-string
+unfolding value-tries
 value-tries-local = search (local-rules, keeps-rules, mapped-local, mapped-keeps) depth 16
 
 pub default-attribute-value-local : Local default-attribute-value
@@ -618,11 +610,11 @@ attribute-instantiation-consumes = search (consumes-rules, chain-rules, chain-in
 
 pub named-after-local : (k j : List ℕ) → Local (named-after k j)
 unfolding named-after
-named-after-local k j = search (local-rules, keeps-rules, name-behind-local, name-behind-keeps) depth 12
+named-after-local k j = search (local-rules, keeps-rules, two-keywords-name-local, two-keywords-name-keeps) depth 12
 
 pub named-after-consumes : (k j : List ℕ) → Consumes (named-after k j)
 unfolding named-after
-named-after-consumes k j = search (consumes-rules, chain-rules, punct-local, name-behind-consumes) depth 12
+named-after-consumes k j = search (consumes-rules, chain-rules, punct-local, two-keywords-name-consumes) depth 12
 
 pub instance-tries-inside : (q : ℕ) → LocalInside (instance-tries q)
 unfolding instance-tries
@@ -634,11 +626,11 @@ instance-tries-consumes q = search (intercept-consumes, mapped-consumes, attribu
 
 pub instantiation-head-local : Local instantiation-head
 unfolding instantiation-head
-instantiation-head-local = search (local-rules, keeps-rules, name-behind-local, name-behind-keeps) depth 12
+instantiation-head-local = search (local-rules, keeps-rules, two-keywords-name-local, two-keywords-name-keeps) depth 12
 
 pub instantiation-head-consumes : Consumes instantiation-head
 unfolding instantiation-head
-instantiation-head-consumes = search (consumes-rules, chain-rules, name-behind-consumes) depth 12
+instantiation-head-consumes = search (consumes-rules, chain-rules, two-keywords-name-consumes) depth 12
 
 pub instances-local : Local (deep-braces instance-tries)
 instances-local = deep-braces-local instance-tries-inside instance-tries-consumes
@@ -706,14 +698,6 @@ module _ {A : Type 0} {f : ℕ → Parser A} where
   unfolding after-maturity
   after-maturity-local t = search (local-rules, keeps-rules, api-maturity-local, api-maturity-keeps, t) depth 12
 
-  pub after-maturity-consumes : ((m : ℕ) → Consumes (f m)) → Consumes (after-maturity f)
-  unfolding after-maturity
-  after-maturity-consumes v = search (consumes-rules, chain-rules, api-maturity-local, v) depth 12
-
 pub declaration-local : (d : Doc) → Local (declaration d)
 unfolding declaration
 declaration-local d = search (local-or, mapped-local, after-maturity-local, cluster-after-doc-maturity-local, endpoint-local, parse-enum-local, parse-bitmap-local, parse-struct-local) depth 16
-
-pub declaration-consumes : (d : Doc) → Consumes (declaration d)
-unfolding declaration
-declaration-consumes d = search (consumes-or, mapped-consumes, after-maturity-consumes, cluster-after-doc-maturity-consumes, endpoint-consumes, parse-enum-consumes, parse-bitmap-consumes, parse-struct-consumes) depth 16

@@ -1,15 +1,13 @@
--- Packing loses nothing: values that fit their widths come back, over any widths; so does a word from its bytes, and words from theirs.
+-- Packing loses nothing: values that fit their widths come back, and so does a word from its values, over any widths; so does a word from its bytes.
 use Prim.Native.Nat.{ℕ, zero, suc, _+_, _-_, _*_, _^_, _/_, _%_, _≤_, _<_}
-use mathlib.Core.Path.{_≡_, sym, _∙_, ap}
+use mathlib.Core.Path.{_≡_, refl, sym, _∙_, ap}
 use mathlib.Core.List.{List, [], _∷_, _++_}
 use native.Mathlib.Omega.{arith}
-use native.Mathlib.Nat.{pow-zero, pow-suc, mul-one, mul-assoc, add-mul, zero-mul, suc-mul, one-le-pow, mul-le-mul-right, mul-add-div-right, mul-add-mod-self-right, div-eq-of-lt, mod-eq-of-lt, div-add-mod', div-lt-iff-lt-mul}
-use lib.ListN.{length, take, drop, getD, length-append}
-use lib.Seq.{take-at, drop-append-add}
+use native.Mathlib.Nat.{pow-zero, pow-suc, mul-one, mul-assoc, add-mul, zero-mul, suc-mul, one-le-pow, mul-le-mul-right, mul-add-div-right, mul-add-mod-self-right, div-eq-of-lt, mod-eq-of-lt, div-one, div-div-eq-div-mul, div-add-mod', div-lt-iff-lt-mul}
+use lib.ListN.{length, length-append}
 use Rattle.items.specs.records.{Bits, bits}
-use Rattle.lexing.specs.buffers.{each, big-endian, from-big-endian, words-bytes}
-use Rattle.items.specs.layout.{packed, width, from-top}
-use Rattle.lexing.proofs.buffers.Laws.{big-endian-length}
+use Rattle.lexing.specs.buffers.{big-endian, from-big-endian}
+use Rattle.items.specs.layout.{packed, width, total, unpacked, from-top}
 
 -- every value fits its width
 abbrev pub Fit : List Bits → Type 0
@@ -61,23 +59,35 @@ pub value-back : (z w v : ℕ) (l : List Bits) → v < 2 ^ w → Fit l → packe
 unfolding packed
 value-back z w v l h k = rw (packed-high (z * 2 ^ w + v) l k, mul-add-mod-self-right z (2 ^ w) v) (mod-eq-of-lt h)
 
--- the topmost value, by a division
-pub top-back : (w v : ℕ) (l : List Bits) → Fit l → packed 0 (bits w v ∷ l) / 2 ^ width l ≡ v
-unfolding packed
-top-back w v l k = rw (packed-high (0 * 2 ^ w + v) l k) (nought w v)
+-- the widths of values
+abbrev pub bits-of : List Bits → List ℕ
+bits-of [] = []
+bits-of (bits w v ∷ l) = w ∷ bits-of l
 
--- each value of a list, by its place in it
-unfoldable pub bits-of : Bits → ℕ
-bits-of (bits w v) = w
+pub width-total : (l : List Bits) → width l ≡ total (bits-of l)
+unfolding width total
+width-total [] = refl
+width-total (bits w v ∷ l) = ap (λ k. w + k) (width-total l)
 
-unfoldable pub value-of : Bits → ℕ
-value-of (bits w v) = v
+-- Unpacking is the inverse of packing, both ways, over any widths.
 
-pub values-back : (z : ℕ) (l : List Bits) (i : ℕ) → Fit l → i < length l → packed z l / 2 ^ width (drop (suc i) l) % 2 ^ bits-of (getD l i (bits 0 0)) ≡ value-of (getD l i (bits 0 0))
-unfolding packed bits-of value-of
-values-back z [] i h k = absurd (omega arith)
-values-back z (bits w v ∷ l) zero h k = value-back z w v l (h .0) (h .1)
-values-back z (bits w v ∷ l) (suc i) h k = values-back (z * 2 ^ w + v) l i (h .1) (omega arith)
+-- what was packed comes back, whatever stands above it
+pub unpack-pack : (z : ℕ) (l : List Bits) → Fit l → unpacked (bits-of l) (packed z l) ≡ l
+unfolding packed unpacked
+unpack-pack z [] h = refl
+unpack-pack z (bits w v ∷ l) h = rw (sym (width-total l), value-back z w v l (h .0) (h .1), unpack-pack (z * 2 ^ w + v) l (h .1)) refl
+
+pack-above : (l : List ℕ) (z : ℕ) → packed (z / 2 ^ total l) (unpacked l z) ≡ z
+unfolding packed total unpacked
+pack-above [] z = ap (λ k. z / k) (pow-zero 2) ∙ div-one z
+pack-above (w ∷ l) z =
+    let s : w + total l ≡ total l + w = omega arith in
+    let e : z / 2 ^ (w + total l) ≡ z / 2 ^ total l / 2 ^ w = ap (λ k. z / 2 ^ k) s ∙ ap (λ k. z / k) (pow-add 2 (total l) w) ∙ sym (div-div-eq-div-mul z (2 ^ total l) (2 ^ w)) in
+    ap (λ k. packed (k * 2 ^ w + z / 2 ^ total l % 2 ^ w) (unpacked l z)) e ∙ ap (λ k. packed k (unpacked l z)) (div-add-mod' (z / 2 ^ total l) (2 ^ w)) ∙ pack-above l z
+
+-- a word of as many bits as the widths is what its values pack to
+pub pack-unpack : (l : List ℕ) (z : ℕ) → z < 2 ^ total l → packed 0 (unpacked l z) ≡ z
+pack-unpack l z h = ap (λ k. packed k (unpacked l z)) (sym (div-eq-of-lt h)) ∙ pack-above l z
 
 -- values from the top, the rest zero
 pub from-top-less : (n : ℕ) (l : List Bits) → Fit l → width l ≤ n → from-top n l < 2 ^ n
@@ -106,12 +116,3 @@ word-back (suc n) w h =
     from-last (big-endian n (w / 256)) (w % 256)
     ∙ ap (λ k. k * 256 + w % 256) (word-back n (w / 256) (div-lt-iff-lt-mul {k = 256} (omega arith) .1 (rw (pow-suc 256 n) at h)))
     ∙ div-add-mod' w 256
-
--- the bytes of one word among words
-pub word-bytes-at : (l : List ℕ) (i : ℕ) → i < length l → take 8 (drop (8 * i) (words-bytes l)) ≡ big-endian 8 (getD l i 0)
-unfolding words-bytes each
-word-bytes-at [] i h = absurd (omega arith)
-word-bytes-at (w ∷ l) zero h = take-at (big-endian 8 w) (each (big-endian 8) l) 8 (big-endian-length 8 w)
-word-bytes-at (w ∷ l) (suc i) h =
-    let z : 8 * suc i ≡ length (big-endian 8 w) + 8 * i = omega (arith, big-endian-length 8 w) in
-    ap (λ k. take 8 (drop k (big-endian 8 w ++ each (big-endian 8) l))) z ∙ ap (take 8) (drop-append-add (big-endian 8 w) (each (big-endian 8) l) (8 * i)) ∙ word-bytes-at l i (omega arith)

@@ -1,28 +1,30 @@
 -- Laws of the layout: lengths, and records one behind the other.
 use mathlib.Core.Path.{_≡_, refl, ap, _∙_}
 use mathlib.Core.List.{List, [], _∷_, _++_, map, append-assoc, append-nil}
-use Prim.Native.Nat.{_+_, _*_, _≤_}
+use Prim.Native.Nat.{ℕ, _+_, _*_, _≤_}
 use native.Mathlib.Omega.{arith}
 use lib.ListN.{length, length-append}
+use Rattle.lexing.specs.reply.{Parser}
+use Rattle.lexing.proofs.Locality.{Consumes}
 use Rattle.lexing.proofs.buffers.Laws.{each-append, each-one, words-bytes-append, words-bytes-length}
 use Rattle.items.specs.records.{Record}
 use Rattle.lexing.specs.buffers.{each, words-bytes}
-use Rattle.items.specs.layout.{Layout, layout-20, record-words, catalogue-words, catalogue-bytes, word-count}
+use Rattle.items.specs.layout.{Layout, layout, record-words, catalogue-words, catalogue-bytes, word-count}
 
 -- records as bytes
 pub catalogue-bytes-append : (L : Layout) (k l : List Record) → catalogue-bytes L (k ++ l) ≡ catalogue-bytes L k ++ catalogue-bytes L l
 unfolding catalogue-bytes catalogue-words
 catalogue-bytes-append L k l = rw (each-append (record-words L) k l) (words-bytes-append (each (record-words L) k) (each (record-words L) l))
 
-pub catalogue-bytes-length : (l : List Record) → length (catalogue-bytes layout-20 l) ≡ 8 * word-count l
+pub catalogue-bytes-length : (l : List Record) → length (catalogue-bytes layout l) ≡ 8 * word-count layout l
 unfolding catalogue-bytes word-count
-catalogue-bytes-length l = words-bytes-length (catalogue-words layout-20 l)
+catalogue-bytes-length l = words-bytes-length (catalogue-words layout l)
 
-pub word-count-append : (k l : List Record) → word-count (k ++ l) ≡ word-count k + word-count l
+pub word-count-append : (k l : List Record) → word-count layout (k ++ l) ≡ word-count layout k + word-count layout l
 unfolding word-count catalogue-words
-word-count-append k l = ap length (each-append (record-words layout-20) k l) ∙ length-append (each (record-words layout-20) k) (each (record-words layout-20) l)
+word-count-append k l = ap length (each-append (record-words layout) k l) ∙ length-append (each (record-words layout) k) (each (record-words layout) l)
 
-pub word-count-none : word-count [] ≡ 0
+pub word-count-none : word-count layout [] ≡ 0
 unfolding word-count catalogue-words each
 word-count-none = refl
 
@@ -46,15 +48,21 @@ map-more f (x ∷ l) a = ap (λ k. f x ∷ k) (map-more f l a)
 pub map-elementwise : {A : Type 0} (f : A → Record) → Elementwise (map f) (λ a. f a ∷ [])
 map-elementwise f = record { nothing = refl; more = map-more f }
 
-module _ {A : Type 0} {records : List A → List Record} {one : A → List Record} (w : Elementwise records one) where
-  pub word-count-more : (l : List A) (a : A) → word-count (records (l ++ (a ∷ []))) ≡ word-count (records l) + word-count (one a)
-  word-count-more l a = ap word-count (w .more l a) ∙ word-count-append (records l) (one a)
+-- the elements of a repetition: m reads one, and its record `one` takes k words
+pub record Elements {A : Type 0} (one : A → Record) (m : Parser A) (k : ℕ) : Type 0 where
+  pub takes : Consumes m
+  pub words : (a : A) → word-count layout (one a ∷ []) ≡ k
+  pub few : k ≤ 8
 
-  pub catalogue-bytes-more : (l : List A) (a : A) → catalogue-bytes layout-20 (records (l ++ (a ∷ []))) ≡ catalogue-bytes layout-20 (records l) ++ catalogue-bytes layout-20 (one a)
-  catalogue-bytes-more l a = ap (catalogue-bytes layout-20) (w .more l a) ∙ catalogue-bytes-append layout-20 (records l) (one a)
+module _ {A : Type 0} {records : List A → List Record} {one : A → List Record} (w : Elementwise records one) where
+  pub word-count-more : (l : List A) (a : A) → word-count layout (records (l ++ (a ∷ []))) ≡ word-count layout (records l) + word-count layout (one a)
+  word-count-more l a = ap (word-count layout) (w .more l a) ∙ word-count-append (records l) (one a)
+
+  pub catalogue-bytes-more : (l : List A) (a : A) → catalogue-bytes layout (records (l ++ (a ∷ []))) ≡ catalogue-bytes layout (records l) ++ catalogue-bytes layout (one a)
+  catalogue-bytes-more l a = ap (catalogue-bytes layout) (w .more l a) ∙ catalogue-bytes-append layout (records l) (one a)
 
   -- a longer list has no fewer words
-  pub word-count-grows : (l k : List A) → word-count (records l) ≤ word-count (records (l ++ k))
+  pub word-count-grows : (l k : List A) → word-count layout (records l) ≤ word-count layout (records (l ++ k))
   word-count-grows l [] = rw append-nil (omega arith)
   word-count-grows l (a ∷ k) =
       let e : (l ++ (a ∷ [])) ++ k ≡ l ++ (a ∷ k) = append-assoc l (a ∷ []) k in

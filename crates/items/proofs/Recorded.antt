@@ -6,14 +6,14 @@ use lib.ListN.{drop}
 use Rattle.lexing.specs.reply.{Parser}
 use Rattle.items.specs.clusters.{mapped}
 use Rattle.items.specs.records.{Record}
-use Rattle.items.specs.layout.{layout-20, word-count, catalogue-bytes}
+use Rattle.items.specs.layout.{layout, word-count, catalogue-bytes}
 use Rattle.lexing.specs.buffers.{put}
 use Rattle.items.specs.answers.{CountTo, Room, Written}
 use Rattle.items.specs.declared.counts.Count.{Count}
 use Rattle.items.specs.declared.writing.Wrote.{Wrote}
 use Rattle.items.proofs.Mapped.{mapped-ok}
 use Rattle.items.proofs.counts.Laws.{count-mapped}
-use Rattle.items.proofs.endpoints.Placed.{mapped-room}
+use Rattle.items.proofs.Placed.{mapped-room}
 
 -- the try m with the records `one` by the reader p with the records f
 pub record Recorded {A B : Type 0} (one : A → List Record) (m : Parser A) (f : B → List Record) (p : Parser B) : Type 0 where
@@ -37,6 +37,6 @@ module _ {A B : Type 0} {one : A → List Record} {m : Parser A} {f : B → List
     recorded-written {w} {old} {new} h = record {
       value = i .make (h .value);
       is = mapped-ok (i .make) p b u (h .value) (w .next) (drop (w .next - b) u) refl (h .is) ∙ ap (λ (k : Parser A). k b u) (sym (i .reads));
-      place = h .place ∙ ap (λ (g : B → List Record). at + 8 * word-count (g (h .value))) (sym (i .hands));
-      bytes = h .bytes ∙ ap (λ (g : B → List Record). put at (catalogue-bytes layout-20 (g (h .value))) old) (sym (i .hands));
+      place = h .place ∙ ap (λ (g : B → List Record). at + 8 * word-count layout (g (h .value))) (sym (i .hands));
+      bytes = h .bytes ∙ ap (λ (g : B → List Record). put at (catalogue-bytes layout (g (h .value))) old) (sym (i .hands));
     }

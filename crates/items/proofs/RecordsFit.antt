@@ -1,31 +1,32 @@
 -- Every record of what is read fits: each value its bits, each word 64 bits, and it has as many words as its kind.
-use Prim.Native.Nat.{ℕ, zero, suc, _+_, _-_, _*_, _^_, _/_, _%_, _≤_, _<_}
-use mathlib.Core.Path.{_≡_, refl, _∙_, ap}
-use mathlib.Core.Bool.{Bool, true, false}
+use Prim.Native.Nat.{ℕ, zero, suc, _+_, _-_, _^_, _≤_, _<_}
+use mathlib.Core.Path.{_≡_, refl, sym, _∙_, ap}
+use mathlib.Core.Bool.{Bool, true, false, _||_}
 use mathlib.Core.Option.{Option, none, some}
 use mathlib.Core.List.{List, [], _∷_, _++_, map}
 use native.Mathlib.Omega.{arith}
-use lib.Dec.{lit<, lit≤}
-use lib.ListN.{length, take, drop, getD}
-use lib.Seq.{drop-at}
-use Rattle.lexing.specs.reply.{ok}
+use lib.Dec.{lit<, lit≤, leb, ltb}
+use lib.ListN.{length, take, drop, getD, length-append}
+use borrow.Author.Tests.{ltb-true}
+use Rattle.lexing.proofs.Tests.{and-right}
 use Rattle.lexing.specs.words.{Word, word, offsetOf, bytesOf}
 use Rattle.lexing.specs.integers.{Signed, signed, largest}
 use Rattle.lexing.specs.blanks.{Doc, no-doc, doc-at}
 use Rattle.lexing.specs.strings.{span}
 use Rattle.lexing.specs.word_sets.{bit}
-use Rattle.lexing.specs.answers.{Rest}
 use Rattle.items.specs.entries.{Entry, Choice}
 use Rattle.items.specs.structs.{StructField, StructType, regular, request, response, shared, Struct}
 use Rattle.items.specs.members.{or-else, Event, Command, Attribute}
 use Rattle.items.specs.clusters.{Member, revision, bitmap, enum, struct, attribute, command, event, Cluster}
 use Rattle.items.specs.endpoints.{Default, number, signed-number, truth, text, Instance, attribute-instance, command-instance, event-instance, Part, device, binding, instantiation, Endpoint}
-use Rattle.items.specs.items.{Item, cluster-item, endpoint-item, enum-item, bitmap-item, struct-item, blank-item, item}
-use Rattle.items.specs.records.{Extent, absent, at, Bits, bits, Further, value, spanned, Record, word-extent, optional-extent, doc-extent, doc-bit, flag, plain, documented, entry-record, choice-records, field-record, struct-number, struct-records, attribute-records, command-record, event-records, last-revision, member-records, cluster-records, default-number, twos-complement, default-word, instance-record, part-records, endpoint-records, further-of-kind, item-records}
-use Rattle.lexing.specs.buffers.{each, from-big-endian, words-bytes}
-use Rattle.items.specs.layout.{packed, width, from-top, offset, size, Layout, layout-20, further-word, record-words, words-of-kind, catalogue-words, text-limit}
-use Rattle.items.proofs.Truth.{All, Maybe, InRange, WordTrue, DocTrue, EntryTrue, true-entry, ChoiceTrue, true-choice, true-field, StructFieldTrue, true-struct-field, StructTrue, true-struct, EventTrue, true-event, CommandTrue, true-command, true-privileges, AttributeTrue, true-attribute, MemberTrue, ClusterTrue, true-cluster, true-device, DefaultTrue, true-attribute-instance, InstanceTrue, true-instantiation, PartTrue, EndpointTrue, true-endpoint, ItemTrue, item-true}
-use Rattle.items.proofs.Packing.{Fit, packed-less, top-back, bits-of, value-of, values-back, from-top-less, word-back, word-bytes-at}
+use Rattle.items.specs.items.{Item, cluster-item, endpoint-item, enum-item, bitmap-item, struct-item, blank-item}
+use Rattle.items.specs.records.{Extent, absent, at, Bits, Further, value, spanned, Record, word-extent, optional-extent, doc-extent, doc-bit, flag, plain, documented, entry-record, choice-records, field-record, struct-number, struct-records, attribute-records, command-record, event-records, last-revision, member-records, cluster-records, default-number, twos-complement, default-word, instance-record, part-records, endpoint-records, further-counts, known-kind, further-of-kind, item-records}
+use Rattle.lexing.specs.buffers.{each}
+use Rattle.items.specs.layout.{packed, width, offset, size, Field, kind-field, place-field, maturity-field, doc-field, flags-field, offset-field, length-field, first-privilege-field, second-privilege-field, no-field, record-value, Cell, filled, Layout, layout, first-words, span-word, further-word, record-words, words-of-kind, catalogue-words, text-limit}
+use Rattle.items.specs.stored.{field-number, same-field, has-field}
+use Rattle.lexing.proofs.Truth.{All, Maybe, InRange, WordTrue, DocTrue}
+use Rattle.items.proofs.Truth.{EntryTrue, true-entry, ChoiceTrue, true-choice, true-field, StructFieldTrue, true-struct-field, StructTrue, true-struct, EventTrue, true-event, CommandTrue, true-command, true-privileges, AttributeTrue, true-attribute, MemberTrue, ClusterTrue, true-cluster, true-device, DefaultTrue, true-attribute-instance, InstanceTrue, true-instantiation, PartTrue, EndpointTrue, true-endpoint, ItemTrue}
+use Rattle.items.proofs.Packing.{Fit, packed-less, from-top-less}
 
 -- lists
 pub all-append : {A : Type 0} (Q : A → Type 0) (l k : List A) → All Q l → All Q k → All Q (l ++ k)
@@ -57,7 +58,7 @@ FurtherIn n (spanned e) = ExtentIn n e
 
 -- a record of a text that ends at offset n
 pub record RecordFits (n : ℕ) (r : Record) : Type 0 where
-  pub kind-fits : r .kind < 2 ^ 8
+  pub kind-known : known-kind (r .kind) ≡ true
   pub place-fits : r .place < 2 ^ 2
   pub maturity-fits : r .maturity < 2 ^ 2
   pub doc-fits : r .doc-present < 2 ^ 1
@@ -105,15 +106,15 @@ unfolding or-else
 maximum-fits none h = lit< tt
 maximum-fits (some n) h = h
 
-plain-fits : {n : ℕ} (k m : ℕ) (f : List Bits) (e : Extent) (l : List Further) → k < 2 ^ 8 → m < 2 ^ 2 → Fit f → width f ≤ 7 → ExtentIn n e → All (FurtherIn n) l → length l ≡ further-of-kind k → RecordFits n (plain k m f e l)
+plain-fits : {n : ℕ} (k m : ℕ) (f : List Bits) (e : Extent) (l : List Further) → known-kind k ≡ true → m < 2 ^ 2 → Fit f → width f ≤ 7 → ExtentIn n e → All (FurtherIn n) l → length l ≡ further-of-kind k → RecordFits n (plain k m f e l)
 unfolding plain
 plain-fits k m f e l hk hm hf hw he hl hc =
-    record { kind-fits = hk; place-fits = lit< tt; maturity-fits = hm; doc-fits = lit< tt; flags-fit = hf; flags-width = hw; name-inside = he; first-fits = lit< tt; second-fits = lit< tt; further-fit = hl; further-count = hc }
+    record { kind-known = hk; place-fits = lit< tt; maturity-fits = hm; doc-fits = lit< tt; flags-fit = hf; flags-width = hw; name-inside = he; first-fits = lit< tt; second-fits = lit< tt; further-fit = hl; further-count = hc }
 
-documented-fits : {n : ℕ} (k p m : ℕ) (d : Doc) (f : List Bits) (e : Extent) (x y : ℕ) (l : List Further) → k < 2 ^ 8 → p < 2 ^ 2 → m < 2 ^ 2 → ExtentIn n (doc-extent d) → Fit f → width f ≤ 7 → ExtentIn n e → x < 2 ^ 2 → y < 2 ^ 2 → All (FurtherIn n) l → suc (length l) ≡ further-of-kind k → RecordFits n (documented k p m d f e x y l)
+documented-fits : {n : ℕ} (k p m : ℕ) (d : Doc) (f : List Bits) (e : Extent) (x y : ℕ) (l : List Further) → known-kind k ≡ true → p < 2 ^ 2 → m < 2 ^ 2 → ExtentIn n (doc-extent d) → Fit f → width f ≤ 7 → ExtentIn n e → x < 2 ^ 2 → y < 2 ^ 2 → All (FurtherIn n) l → suc (length l) ≡ further-of-kind k → RecordFits n (documented k p m d f e x y l)
 unfolding documented
 documented-fits k p m d f e x y l hk hp hm hd hf hw he hx hy hl hc =
-    record { kind-fits = hk; place-fits = hp; maturity-fits = hm; doc-fits = doc-bit-fits d; flags-fit = hf; flags-width = hw; name-inside = he; first-fits = hx; second-fits = hy; further-fit = (hd, hl); further-count = hc }
+    record { kind-known = hk; place-fits = hp; maturity-fits = hm; doc-fits = doc-bit-fits d; flags-fit = hf; flags-width = hw; name-inside = he; first-fits = hx; second-fits = hy; further-fit = (hd, hl); further-count = hc }
 
 module _ (s : ℕ) (t : List ℕ) (end : ℕ) where
   abbrev Fits : Record → Type 0
@@ -145,58 +146,58 @@ module _ (s : ℕ) (t : List ℕ) (end : ℕ) where
   default-in (some (text (span o n))) h = h .1
 
   entry-fits : (e : Entry) → EntryTrue s t end e → Fits (entry-record e)
-  unfolding entry-record width further-of-kind
-  entry-fits e (true-entry m n c) = plain-fits _ _ _ _ _ (lit< tt) m tt (lit≤ tt) (word-in (e .name) n) (c, tt) refl
+  unfolding entry-record width further-of-kind known-kind
+  entry-fits e (true-entry m n c) = plain-fits _ _ _ _ _ refl m tt (lit≤ tt) (word-in (e .name) n) (c, tt) refl
 
-  choice-fits : (k : ℕ) → k < 2 ^ 8 → 2 ≡ further-of-kind k → (p : ℕ) → p < 2 ^ 2 → (c : Choice) → ChoiceTrue s t end c → All Fits (choice-records k p c)
+  choice-fits : (k : ℕ) → known-kind k ≡ true → 2 ≡ further-of-kind k → (p : ℕ) → p < 2 ^ 2 → (c : Choice) → ChoiceTrue s t end c → All Fits (choice-records k p c)
   unfolding choice-records width flag
   choice-fits k hk hc p hp c (true-choice d m n b e) =
       (documented-fits _ _ _ _ _ _ _ _ _ hk hp m (doc-in (c .doc) d) (bit-fits _, tt) (lit≤ tt) (word-in (c .name) n) (lit< tt) (lit< tt) (word-in (c .base) b, tt) hc, all-map (EntryTrue s t end) Fits entry-record entry-fits (c .entries) e)
 
   field-fits : (f : StructField) → StructFieldTrue s t end f → Fits (field-record f)
-  unfolding field-record width flag further-of-kind
+  unfolding field-record width flag further-of-kind known-kind
   field-fits f (true-struct-field m q (true-field y x n c)) =
-      plain-fits _ _ _ _ _ (lit< tt) m (bit-fits _, (bit-fits _, (q, tt))) (lit≤ tt) (word-in (f .field .name) n) (word-in (f .field .data-type) y, (c, (maximum-fits (f .field .maximum) x, tt))) refl
+      plain-fits _ _ _ _ _ refl m (bit-fits _, (bit-fits _, (q, tt))) (lit≤ tt) (word-in (f .field .name) n) (word-in (f .field .data-type) y, (c, (maximum-fits (f .field .maximum) x, tt))) refl
 
   fields-fit : (l : List StructField) → All (StructFieldTrue s t end) l → All Fits (map field-record l)
   fields-fit l h = all-map (StructFieldTrue s t end) Fits field-record field-fits l h
 
   struct-fits : (p : ℕ) → p < 2 ^ 2 → (x : Struct) → StructTrue s t end x → All Fits (struct-records p x)
-  unfolding struct-records width further-of-kind
+  unfolding struct-records width further-of-kind known-kind
   struct-fits p hp x (true-struct d m y q n f) =
-      (documented-fits _ _ _ _ _ _ _ _ _ (lit< tt) hp m (doc-in (x .doc) d) (struct-number-fits _, (q, tt)) (lit≤ tt) (word-in (x .name) n) (lit< tt) (lit< tt) (y, tt) refl, fields-fit (x .fields) f)
+      (documented-fits _ _ _ _ _ _ _ _ _ refl hp m (doc-in (x .doc) d) (struct-number-fits _, (q, tt)) (lit≤ tt) (word-in (x .name) n) (lit< tt) (lit< tt) (y, tt) refl, fields-fit (x .fields) f)
 
   attribute-fits : (a : Attribute) → AttributeTrue s t end a → All Fits (attribute-records a)
-  unfolding attribute-records width further-of-kind
+  unfolding attribute-records width further-of-kind known-kind
   attribute-fits a (true-attribute d m q (true-privileges r w) f) =
-      (documented-fits _ _ _ _ _ _ _ _ _ (lit< tt) (lit< tt) m (doc-in (a .doc) d) (q, tt) (lit≤ tt) tt r w tt refl, (field-fits (a .field) f, tt))
+      (documented-fits _ _ _ _ _ _ _ _ _ refl (lit< tt) m (doc-in (a .doc) d) (q, tt) (lit≤ tt) tt r w tt refl, (field-fits (a .field) f, tt))
 
   command-fits : (c : Command) → CommandTrue s t end c → Fits (command-record c)
-  unfolding command-record width flag further-of-kind
+  unfolding command-record width flag further-of-kind known-kind
   command-fits c (true-command d m q a n i o z) =
-      documented-fits _ _ _ _ _ _ _ _ _ (lit< tt) (lit< tt) m (doc-in (c .doc) d) (q, (bit-fits _, tt)) (lit≤ tt) (word-in (c .name) n) a (lit< tt) (optional-in (c .input) i, (word-in (c .output) o, (z, tt))) refl
+      documented-fits _ _ _ _ _ _ _ _ _ refl (lit< tt) m (doc-in (c .doc) d) (q, (bit-fits _, tt)) (lit≤ tt) (word-in (c .name) n) a (lit< tt) (optional-in (c .input) i, (word-in (c .output) o, (z, tt))) refl
 
   event-fits : (e : Event) → EventTrue s t end e → All Fits (event-records e)
-  unfolding event-records width further-of-kind
+  unfolding event-records width further-of-kind known-kind
   event-fits e (true-event d m q y a n c f) =
-      (documented-fits _ _ _ _ _ _ _ _ _ (lit< tt) (lit< tt) m (doc-in (e .doc) d) (y, (q, tt)) (lit≤ tt) (word-in (e .name) n) a (lit< tt) (c, tt) refl, fields-fit (e .fields) f)
+      (documented-fits _ _ _ _ _ _ _ _ _ refl (lit< tt) m (doc-in (e .doc) d) (y, (q, tt)) (lit≤ tt) (word-in (e .name) n) a (lit< tt) (c, tt) refl, fields-fit (e .fields) f)
 
   instance-fits : (i : Instance) → InstanceTrue s t end i → Fits (instance-record i)
-  unfolding instance-record width further-of-kind
-  instance-fits (attribute-instance a) (true-attribute-instance y n o) = plain-fits _ _ _ _ _ (lit< tt) (lit< tt) (y, (default-number-fits _, tt)) (lit≤ tt) (word-in (a .name) n) (default-in (a .default) o, tt) refl
-  instance-fits (command-instance n) h = plain-fits _ _ _ _ _ (lit< tt) (lit< tt) tt (lit≤ tt) (word-in n h) tt refl
-  instance-fits (event-instance n) h = plain-fits _ _ _ _ _ (lit< tt) (lit< tt) tt (lit≤ tt) (word-in n h) tt refl
+  unfolding instance-record width further-of-kind known-kind
+  instance-fits (attribute-instance a) (true-attribute-instance y n o) = plain-fits _ _ _ _ _ refl (lit< tt) (y, (default-number-fits _, tt)) (lit≤ tt) (word-in (a .name) n) (default-in (a .default) o, tt) refl
+  instance-fits (command-instance n) h = plain-fits _ _ _ _ _ refl (lit< tt) tt (lit≤ tt) (word-in n h) tt refl
+  instance-fits (event-instance n) h = plain-fits _ _ _ _ _ refl (lit< tt) tt (lit≤ tt) (word-in n h) tt refl
 
   part-fits : (p : Part) → PartTrue s t end p → All Fits (part-records p)
-  unfolding part-records width further-of-kind
-  part-fits (device x) (true-device n c v) = (plain-fits _ _ _ _ _ (lit< tt) (lit< tt) tt (lit≤ tt) (word-in (x .name) n) (c, (v, tt)) refl, tt)
-  part-fits (binding n) h = (plain-fits _ _ _ _ _ (lit< tt) (lit< tt) tt (lit≤ tt) (word-in n h) tt refl, tt)
+  unfolding part-records width further-of-kind known-kind
+  part-fits (device x) (true-device n c v) = (plain-fits _ _ _ _ _ refl (lit< tt) tt (lit≤ tt) (word-in (x .name) n) (c, (v, tt)) refl, tt)
+  part-fits (binding n) h = (plain-fits _ _ _ _ _ refl (lit< tt) tt (lit≤ tt) (word-in n h) tt refl, tt)
   part-fits (instantiation i) (true-instantiation n l) =
-      (plain-fits _ _ _ _ _ (lit< tt) (lit< tt) tt (lit≤ tt) (word-in (i .name) n) tt refl, all-map (InstanceTrue s t end) Fits instance-record instance-fits (i .instances) l)
+      (plain-fits _ _ _ _ _ refl (lit< tt) tt (lit≤ tt) (word-in (i .name) n) tt refl, all-map (InstanceTrue s t end) Fits instance-record instance-fits (i .instances) l)
 
   endpoint-fits : (e : Endpoint) → EndpointTrue s t end e → All Fits (endpoint-records e)
-  unfolding endpoint-records width further-of-kind
-  endpoint-fits e (true-endpoint n l) = (plain-fits _ _ _ _ _ (lit< tt) (lit< tt) tt (lit≤ tt) tt (n, tt) refl, all-each (PartTrue s t end) Fits part-records part-fits (e .parts) l)
+  unfolding endpoint-records width further-of-kind known-kind
+  endpoint-fits e (true-endpoint n l) = (plain-fits _ _ _ _ _ refl (lit< tt) tt (lit≤ tt) tt (n, tt) refl, all-each (PartTrue s t end) Fits part-records part-fits (e .parts) l)
 
   revision-fits : (z : ℕ) (l : List Member) → z < 2 ^ 64 → All (MemberTrue s t end) l → last-revision z l < 2 ^ 64
   unfolding last-revision
@@ -211,32 +212,28 @@ module _ (s : ℕ) (t : List ℕ) (end : ℕ) where
 
   module _ (place : Member → ℕ) (small : (m : Member) → place m < 2 ^ 2) where
     member-fits : (m : Member) → MemberTrue s t end m → All Fits (member-records place m)
-    unfolding member-records further-of-kind
+    unfolding member-records further-of-kind known-kind
     member-fits (revision n) h = tt
-    member-fits (bitmap c) h = choice-fits 3 (lit< tt) refl _ (small _) c h
-    member-fits (enum c) h = choice-fits 2 (lit< tt) refl _ (small _) c h
+    member-fits (bitmap c) h = choice-fits 3 refl refl _ (small _) c h
+    member-fits (enum c) h = choice-fits 2 refl refl _ (small _) c h
     member-fits (struct x) h = struct-fits _ (small _) x h
     member-fits (attribute a) h = attribute-fits a h
     member-fits (command c) h = (command-fits c h, tt)
     member-fits (event e) h = event-fits e h
 
     cluster-fits : (c : Cluster) → ClusterTrue s t end c → All Fits (cluster-records place c)
-    unfolding cluster-records width further-of-kind
+    unfolding cluster-records width further-of-kind known-kind
     cluster-fits c (true-cluster d m n z l) =
-        (documented-fits _ _ _ _ _ _ _ _ _ (lit< tt) (lit< tt) m (doc-in (c .doc) d) tt (lit≤ tt) (word-in (c .name) n) (lit< tt) (lit< tt) (z, (revision-fits 0 (c .members) (lit< tt) l, tt)) refl, all-each (MemberTrue s t end) Fits (member-records place) member-fits (c .members) l)
+        (documented-fits _ _ _ _ _ _ _ _ _ refl (lit< tt) m (doc-in (c .doc) d) tt (lit≤ tt) (word-in (c .name) n) (lit< tt) (lit< tt) (z, (revision-fits 0 (c .members) (lit< tt) l, tt)) refl, all-each (MemberTrue s t end) Fits (member-records place) member-fits (c .members) l)
 
     pub item-fits : (top : ℕ) → top < 2 ^ 2 → (i : Item) → ItemTrue s t end i → All Fits (item-records top place i)
-    unfolding item-records further-of-kind
+    unfolding item-records further-of-kind known-kind
     item-fits top h (cluster-item c) k = cluster-fits c k
     item-fits top h (endpoint-item e) k = endpoint-fits e k
-    item-fits top h (enum-item c) k = choice-fits 2 (lit< tt) refl top h c k
-    item-fits top h (bitmap-item c) k = choice-fits 3 (lit< tt) refl top h c k
+    item-fits top h (enum-item c) k = choice-fits 2 refl refl top h c k
+    item-fits top h (bitmap-item c) k = choice-fits 3 refl refl top h c k
     item-fits top h (struct-item x) k = struct-fits top h x k
     item-fits top h blank-item k = tt
-
-  -- every item that is read from the part
-  pub read-fits : {b c : ℕ} {u r : List ℕ} {i : Item} → Rest s t b u → item b u ≡ ok i c r → c ≤ end → (top : ℕ) → top < 2 ^ 2 → (place : Member → ℕ) → ((m : Member) → place m < 2 ^ 2) → All Fits (item-records top place i)
-  read-fits {i = i} h e f top k place small = item-fits place small top k i (item-true s t end h e f)
 
   -- a name's extent in the text
   pub name-bytes : (w : Word) → WordTrue s t end w → take (size (word-extent w)) (drop (offset (word-extent w) - s) t) ≡ bytesOf w
@@ -254,10 +251,16 @@ pub record WordFits (l : List Bits) : Type 0 where
   pub fit : Fit l
   pub full : width l ≡ 64
 
+unfoldable pub somewhere : Field → List (List Cell) → Bool
+somewhere f [] = false
+somewhere f (row ∷ rows) = has-field f row || somewhere f rows
+
 -- a layout that holds the records of a text that ends at offset n
 pub record LayoutFits (L : Layout) (n : ℕ) : Type 0 where
-  pub first-fit : (r : Record) → RecordFits n r → All WordFits (L .first-words r)
-  pub span-fits : (e : Extent) → ExtentIn n e → WordFits (L .span-word e)
+  pub first-fit : (r : Record) → RecordFits n r → All WordFits (first-words L r)
+  pub span-fits : (e : Extent) → ExtentIn n e → WordFits (span-word L e)
+  -- every field stands in a first word
+  pub all-fields : (f : Field) → same-field f no-field ≡ false → somewhere f (L .head) ≡ true
 
 offset-in : {n : ℕ} (e : Extent) → ExtentIn n e → offset e ≤ n
 unfolding offset
@@ -269,12 +272,31 @@ unfolding size
 size-in absent h = omega arith
 size-in (at o k) h = omega arith
 
-pub layout-20-fits : (n : ℕ) → n ≤ text-limit → LayoutFits layout-20 n
-unfolding layout-20 width
-layout-20-fits n h =
+-- a known kind has eight bits
+kind-fits : {k : ℕ} → known-kind k ≡ true → k < 2 ^ 8
+unfolding known-kind
+kind-fits {k} h = let z : k < length further-counts = ltb-true k _ (and-right (leb 1 k) (ltb k (length further-counts)) h) in omega (arith, z)
+
+all-there : (f : Field) → same-field f no-field ≡ false → somewhere f (layout .head) ≡ true
+unfolding layout somewhere has-field same-field field-number
+all-there kind-field h = refl
+all-there place-field h = refl
+all-there maturity-field h = refl
+all-there doc-field h = refl
+all-there flags-field h = refl
+all-there offset-field h = refl
+all-there length-field h = refl
+all-there first-privilege-field h = refl
+all-there second-privilege-field h = refl
+all-there no-field h = sym h
+
+pub layout-fits : (n : ℕ) → n ≤ text-limit → LayoutFits layout n
+unfolding layout width
+layout-fits n h =
     record {
-      first-fit = λ r f. (record { fit = (f .kind-fits, (f .place-fits, (f .maturity-fits, (f .doc-fits, (from-top-less 7 (r .flags) (f .flags-fit) (f .flags-width), (small (offset-in (r .name) (f .name-inside)), (small (size-in (r .name) (f .name-inside)), (f .first-fits, (f .second-fits, tt))))))))); full = refl }, tt);
+      first-fit = λ r f. (record { fit = (kind-fits (f .kind-known), (f .place-fits, (f .maturity-fits, (f .doc-fits, (from-top-less 7 (r .flags) (f .flags-fit) (f .flags-width), (small (offset-in (r .name) (f .name-inside)), (small (size-in (r .name) (f .name-inside)), (f .first-fits, (f .second-fits, tt))))))))); full = refl }, tt);
       span-fits = λ e f. record { fit = (small (offset-in e f), (small (size-in e f), (lit< tt, tt))); full = refl };
+      all-fields = all-there;
     }
   where
     small : {o : ℕ} → o ≤ n → o < 2 ^ 20
@@ -289,99 +311,26 @@ Word64 w = w < 2 ^ 64
 further-less : {L : Layout} {n : ℕ} → LayoutFits L n → (x : Further) → FurtherIn n x → Word64 (further-word L x)
 unfolding further-word
 further-less f (value v) h = h
-further-less {L} f (spanned e) h = word-less (L .span-word e) (f .span-fits e h)
+further-less {L} f (spanned e) h = word-less (span-word L e) (f .span-fits e h)
 
 -- every word of a record that fits is below 2^64
 pub words-fit : {L : Layout} {n : ℕ} → LayoutFits L n → (r : Record) → RecordFits n r → All Word64 (record-words L r)
 unfolding record-words
 words-fit {L} {n} f r h =
-    all-append Word64 (map (packed 0) (L .first-words r)) (map (further-word L) (r .further)) (all-map WordFits Word64 (packed 0) word-less (L .first-words r) (f .first-fit r h))
+    all-append Word64 (map (packed 0) (first-words L r)) (map (further-word L) (r .further)) (all-map WordFits Word64 (packed 0) word-less (first-words L r) (f .first-fit r h))
     (all-map (FurtherIn n) Word64 (further-word L) (further-less f) (r .further) (h .further-fit))
 
 pub catalogue-fits : {L : Layout} {n : ℕ} → LayoutFits L n → (l : List Record) → All (RecordFits n) l → All Word64 (catalogue-words L l)
 unfolding catalogue-words
 catalogue-fits {L} {n} f l h = all-each (RecordFits n) Word64 (record-words L) (words-fit f) l h
 
--- words that fit come back from their bytes
-pub words-back : (l : List ℕ) → All Word64 l → (i : ℕ) → i < length l → from-big-endian (take 8 (drop (8 * i) (words-bytes l))) ≡ getD l i 0
-words-back l h i k = ap from-big-endian (word-bytes-at l i k) ∙ word-back 8 (getD l i 0) (all-at Word64 0 l i h k)
-
 -- as many words as its kind has
-length-map : {A B : Type 0} (f : A → B) (l : List A) → length (map f l) ≡ length l
+pub length-map : {A B : Type 0} (f : A → B) (l : List A) → length (map f l) ≡ length l
 length-map f [] = refl
 length-map f (a ∷ l) = ap suc (length-map f l)
 
-pub words-count : {n : ℕ} (r : Record) → RecordFits n r → length (record-words layout-20 r) ≡ words-of-kind (r .kind)
-unfolding record-words layout-20 words-of-kind
-words-count r h = ap suc (length-map (further-word layout-20) (r .further) ∙ h .further-count)
-
--- document 01's first word, from which its values come back
-unfoldable pub first-bits : Record → List Bits
-first-bits r = getD (layout-20 .first-words r) 0 []
-
-unfoldable pub first-word : Record → ℕ
-first-word r = packed 0 (first-bits r)
-
-pub words-split : (r : Record) → record-words layout-20 r ≡ first-word r ∷ map (further-word layout-20) (r .further)
-unfolding record-words layout-20 first-word first-bits
-words-split r = refl
-
--- a catalogue's first word, and its words behind the first record
-pub catalogue-first : (r : Record) (l : List Record) → getD (catalogue-words layout-20 (r ∷ l)) 0 0 ≡ first-word r
-unfolding catalogue-words each record-words layout-20 first-word first-bits
-catalogue-first r l = refl
-
-pub catalogue-next : {n : ℕ} (r : Record) (l : List Record) → RecordFits n r → drop (words-of-kind (r .kind)) (catalogue-words layout-20 (r ∷ l)) ≡ catalogue-words layout-20 l
-unfolding catalogue-words each
-catalogue-next r l h = drop-at (record-words layout-20 r) (each (record-words layout-20) l) (words-of-kind (r .kind)) (words-count r h)
-
-module _ {n : ℕ} (limit : n ≤ text-limit) where
-  module _ (r : Record) (h : RecordFits n r) where
-    first-bits-fit : Fit (first-bits r)
-    unfolding first-bits layout-20
-    first-bits-fit = layout-20-fits n limit .first-fit r h .0 .fit
-
-    pub kind-back : first-word r / 2 ^ 56 ≡ r .kind
-    unfolding first-word first-bits layout-20 width
-    kind-back = top-back 8 (r .kind) (drop 1 (first-bits r)) (first-bits-fit .1)
-
-    pub place-back : first-word r / 2 ^ 54 % 2 ^ 2 ≡ r .place
-    unfolding first-word first-bits layout-20 width bits-of value-of
-    place-back = values-back 0 (first-bits r) 1 first-bits-fit (lit< tt)
-
-    pub maturity-back : first-word r / 2 ^ 52 % 2 ^ 2 ≡ r .maturity
-    unfolding first-word first-bits layout-20 width bits-of value-of
-    maturity-back = values-back 0 (first-bits r) 2 first-bits-fit (lit< tt)
-
-    pub doc-present-back : first-word r / 2 ^ 51 % 2 ^ 1 ≡ r .doc-present
-    unfolding first-word first-bits layout-20 width bits-of value-of
-    doc-present-back = values-back 0 (first-bits r) 3 first-bits-fit (lit< tt)
-
-    pub flags-back : first-word r / 2 ^ 44 % 2 ^ 7 ≡ from-top 7 (r .flags)
-    unfolding first-word first-bits layout-20 width bits-of value-of
-    flags-back = values-back 0 (first-bits r) 4 first-bits-fit (lit< tt)
-
-    pub name-offset-back : first-word r / 2 ^ 24 % 2 ^ 20 ≡ offset (r .name)
-    unfolding first-word first-bits layout-20 width bits-of value-of
-    name-offset-back = values-back 0 (first-bits r) 5 first-bits-fit (lit< tt)
-
-    pub name-size-back : first-word r / 2 ^ 4 % 2 ^ 20 ≡ size (r .name)
-    unfolding first-word first-bits layout-20 width bits-of value-of
-    name-size-back = values-back 0 (first-bits r) 6 first-bits-fit (lit< tt)
-
-    pub first-privilege-back : first-word r / 2 ^ 2 % 2 ^ 2 ≡ r .first-privilege
-    unfolding first-word first-bits layout-20 width bits-of value-of
-    first-privilege-back = values-back 0 (first-bits r) 7 first-bits-fit (lit< tt)
-
-    pub second-privilege-back : first-word r / 1 % 2 ^ 2 ≡ r .second-privilege
-    unfolding first-word first-bits layout-20 width bits-of value-of
-    second-privilege-back = values-back 0 (first-bits r) 8 first-bits-fit (lit< tt)
-
-  module _ (e : Extent) (h : ExtentIn n e) where
-    pub span-offset-back : further-word layout-20 (spanned e) / 2 ^ 44 ≡ offset e
-    unfolding further-word layout-20 width
-    span-offset-back = top-back 20 (offset e) (bits 20 (size e) ∷ bits 24 0 ∷ []) (layout-20-fits n limit .span-fits e h .fit .1)
-
-    pub span-size-back : further-word layout-20 (spanned e) / 2 ^ 24 % 2 ^ 20 ≡ size e
-    unfolding further-word layout-20 width bits-of value-of
-    span-size-back = values-back 0 (layout-20 .span-word e) 1 (layout-20-fits n limit .span-fits e h .fit) (lit< tt)
+pub words-count : {n : ℕ} (L : Layout) (r : Record) → RecordFits n r → length (record-words L r) ≡ words-of-kind L (r .kind)
+unfolding record-words words-of-kind
+words-count L r h =
+    length-append (map (packed 0) (first-words L r)) (map (further-word L) (r .further))
+    ∙ rw (length-map (packed 0) (first-words L r), length-map (filled (record-value r)) (L .head), length-map (further-word L) (r .further), h .further-count) refl

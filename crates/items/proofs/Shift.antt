@@ -5,17 +5,16 @@ use mathlib.Core.Option.{Option, none, some}
 use mathlib.Core.List.{List, [], _∷_, map, map-append}
 use native.Mathlib.Omega.{arith}
 use Rattle.lexing.specs.reply.{Parser, ret, _>>=_, _>>_, _or_}
-use Rattle.lexing.specs.words.{Word, word, bytesOf, offsetOf, parse-id, keyword, tag}
+use Rattle.lexing.specs.words.{Word, bytesOf, parse-id, keyword, tag}
 use Rattle.lexing.specs.integers.{positive-integer}
 use Rattle.lexing.specs.blanks.{Doc, whitespace0, whitespace1}
-use Rattle.lexing.specs.strings.{quoted-string, default-string}
-use Rattle.lexing.proofs.Shift.{shiftWord, shiftDoc, shiftOption, still, shiftSpan, Shifts, shift-ret, shift-bind, shift-then, shift-opt, shift-or, shift-many0, shift-fail, shift-stop, shift-position, shift-catch, shift-pick, shift-iter, shift-parse-id, shift-keyword, shift-any-keyword, shift-tag, shift-integer, shift-signed, shift-whitespace0, shift-whitespace1, shift-string, shift-set-flags}
+use Rattle.lexing.proofs.Shift.{shiftWord, shiftDoc, shiftOption, still, shiftSpan, Shifts, shift-ret, shift-bind, shift-then, shift-opt, shift-or, shift-many0, shift-fail, shift-stop, shift-position, shift-catch, shift-pick, shift-iter, shift-parse-id, shift-keyword, shift-any-keyword, shift-tag, shift-integer, shift-signed, shift-whitespace0, shift-whitespace1, shift-quoted, shift-default-string, shift-set-flags, bytes-shift, offset-shift}
 use Rattle.items.specs.entries.{present, enclosed, where-missing, braces, api-maturity, Annotation, constant-annotation, blank-annotation, annotations-in-brackets, constant-annotations-list, Entry, constant-entry, blank-entry, constant-entries, constant-entries-list, Choice, shared-before, ChoiceHead, choice-head, choice-after-doc-maturity, parse-enum-after-doc-maturity, parse-bitmap-after-doc-maturity}
-use Rattle.items.specs.structs.{Field, max-length, list-marker, parse-field, StructField, parse-struct-field, closed-field, fields-run, struct-fields, Struct, response-code, struct-kind, struct-type-of, StructHead, struct-head, parse-struct-after-doc-maturity}
+use Rattle.items.specs.structs.{Field, max-length, list-marker, parse-field, StructField, parse-struct-field, closed-field, fields-run, struct-fields, Struct, response-code, type-by-word, struct-type-of, StructHead, struct-head, parse-struct-after-doc-maturity}
 use Rattle.items.specs.members.{access-privilege, event-priority, Event, access-to, event-qualities, EventHead, event-head, parse-event-after-doc-maturity, Command, CommandHead, command-head, CommandTypes, command-types, parse-command-after-doc-maturity, Access, access-entry, comma, separated-list0, access-list, Privileges, granted-by, default-privileges, listed, attribute-access, Attribute, parse-attribute-after-doc-maturity}
 use Rattle.items.specs.clusters.{Member, revision, bitmap, enum, struct, attribute, command, event, mapped, parse-revision, member-tries, parse-cluster-member, cluster-members, Cluster, side, ClusterHead, cluster-head, cluster-after-doc-maturity, parse-cluster}
 use Rattle.items.specs.endpoints.{Tried, Deep, intercept, deep-step, deeper, deep-run, deep-place, deep-braces, DeviceType, device-version, device-type, Default, number, signed-number, truth, text, value-tries, default-attribute-value, attribute-handling-type, AttributeInstance, attribute-instantiation, Instance, attribute-instance, command-instance, event-instance, instance-tries, Instantiation, instantiation-head, cluster-instantiation, Part, device, binding, instantiation, part-tries, Endpoint, endpoint-head, endpoint}
-use Rattle.lexing.specs.names.{name-behind, named-after}
+use Rattle.lexing.specs.names.{two-keywords-name, named-after}
 use Rattle.items.specs.items.{Item, cluster-item, endpoint-item, enum-item, bitmap-item, struct-item, blank-item, with-doc-maturity, item}
 
 -- values, with their offsets moved
@@ -112,7 +111,7 @@ unfoldable pub shiftCluster : ℕ → Cluster → Cluster
 shiftCluster d c = record { doc = shiftDoc d (c .doc); maturity = c .maturity; name = shiftWord d (c .name); code = c .code; members = map (shiftMember d) (c .members) }
 
 unfoldable pub shiftTried : {A : Type 0} → ℕ → (A → A) → Tried A → Tried A
-shiftTried d f t = record { furthest = d + t .furthest; found = f (t .found) }
+shiftTried d f t = record { furthest = d + t .furthest; value = f (t .value) }
 
 unfoldable pub shiftDeep : {A : Type 0} → ℕ → (A → A) → Deep A → Deep A
 shiftDeep d f s = record { deepest = d + s .deepest; read = map f (s .read) }
@@ -203,15 +202,6 @@ module _ (d : ℕ) where
   int : Shifts d still positive-integer positive-integer
   int = shift-integer d
 
-  -- a word's bytes do not move, its offset does
-  bytes-moved : (w : Word) → bytesOf (shiftWord d w) ≡ bytesOf w
-  unfolding bytesOf shiftWord
-  bytes-moved (word o w) = refl
-
-  offset-moved : (w : Word) → offsetOf (shiftWord d w) ≡ d + offsetOf w
-  unfolding offsetOf shiftWord
-  offset-moved (word o w) = refl
-
   -- shapes that recur: a value made of what is read, a keyword that stands for a value, braces
   pub shift-mapped : {A B : Type 0} {f : A → A} {g : B → B} {m' m : Parser A} (h' h : A → B) → ((a : A) → h' (f a) ≡ g (h a)) → Shifts d f m' m → Shifts d g (mapped m' h') (mapped m h)
   unfolding mapped
@@ -234,8 +224,8 @@ module _ (d : ℕ) where
   shift-api-maturity = stands-for _ _ refl ∥ stands-for _ _ refl ∥ stands-for _ _ refl ∥ stands-for _ _ refl ∥ shift-ret d _ _ refl
 
   pub shift-constant-annotation : Shifts d (shiftAnnotation d) constant-annotation constant-annotation
-  unfolding constant-annotation quoted-string shiftAnnotation
-  shift-constant-annotation = ws0 ▹ name ▸ λ k' k ek. ws0 ▹ mark _ ▹ ws0 ▹ shift-string d _ ▸ λ v' v ev. ws0 ▹ shift-opt d (mark _) ▹ shift-ret d _ _ (rw (ek, ev))
+  unfolding constant-annotation shiftAnnotation
+  shift-constant-annotation = ws0 ▹ name ▸ λ k' k ek. ws0 ▹ mark _ ▹ ws0 ▹ shift-quoted d ▸ λ v' v ev. ws0 ▹ shift-opt d (mark _) ▹ shift-ret d _ _ (rw (ek, ev))
 
   pub shift-blank-annotation : Shifts d (shiftAnnotation d) blank-annotation blank-annotation
   unfolding blank-annotation
@@ -323,14 +313,14 @@ module _ (d : ℕ) where
   unfolding response-code still
   shift-response-code = mark _ ▹ ws0 ▹ int ▸ λ c' c ec. ws0 ▹ shift-ret d _ _ (rw ec)
 
-  pub shift-struct-kind : (w : List ℕ) → Shifts d still (struct-kind w) (struct-kind w)
-  unfolding struct-kind still
+  pub shift-struct-kind : (w : List ℕ) → Shifts d still (type-by-word w) (type-by-word w)
+  unfolding type-by-word still
   shift-struct-kind w = shift-pick d _ _ refl (shift-ret d _ _ refl) (shift-pick d _ _ refl shift-response-code (shift-pick d _ _ refl (shift-ret d _ _ refl) (shift-ret d _ _ refl)))
 
   pub shift-struct-type-of : (k' k : Option Word) → k' ≡ shiftOption (shiftWord d) k → Shifts d still (struct-type-of k') (struct-type-of k)
   unfolding struct-type-of shiftOption still
   shift-struct-type-of k' none e = rw e (shift-ret d _ _ refl)
-  shift-struct-type-of k' (some w) e = rw (e, bytes-moved w) (shift-struct-kind (bytesOf w))
+  shift-struct-type-of k' (some w) e = rw (e, bytes-shift d w) (shift-struct-kind (bytesOf w))
 
   pub shift-struct-head : Shifts d (shiftStructHead d) struct-head struct-head
   unfolding struct-head shiftStructHead still
@@ -405,7 +395,7 @@ module _ (d : ℕ) where
   unfolding granted-by shiftAccess still
   shift-granted-by p l' [] e = rw e (shift-ret d _ _ refl)
   shift-granted-by p l' (a ∷ l) e =
-      rw (e, bytes-moved (a .operation), offset-moved (a .operation))
+      rw (e, bytes-shift d (a .operation), offset-shift d (a .operation))
       (shift-pick d _ _ refl (shift-granted-by _ _ l refl) (shift-pick d _ _ refl (shift-granted-by _ _ l refl) (shift-stop d 6 _ _ refl)))
 
   listed-moved : (o : Option (List Access)) → listed (shiftOption (map (shiftAccess d)) o) ≡ map (shiftAccess d) (listed o)
@@ -469,7 +459,7 @@ module _ (d : ℕ) where
 
   pub shift-deep-step : {A : Type 0} (f : A → A) (h : ℕ → Parser (Tried A)) → ShiftsTries d f h h → (s' s : Deep A) → s' ≡ shiftDeep d f s → Shifts d (shiftDeep d f) (deep-step h s') (deep-step h s)
   unfolding deep-step shiftDeep shiftTried
-  shift-deep-step f h v s' s e = rw e (ws0 ▹ shift-mapped _ _ (λ t. rw (map-append f (s .read) (t .found ∷ []))) (v (d + s .deepest) (s .deepest) refl))
+  shift-deep-step f h v s' s e = rw e (ws0 ▹ shift-mapped _ _ (λ t. rw (map-append f (s .read) (t .value ∷ []))) (v (d + s .deepest) (s .deepest) refl))
 
   deeper-moved : {A : Type 0} (f : A → A) (p : ℕ) (s : Deep A) → deeper (d + p) (shiftDeep d f s) ≡ shiftDeep d f (deeper p s)
   unfolding deeper shiftDeep
@@ -488,9 +478,9 @@ module _ (d : ℕ) where
   shift-deep-braces {A} {f} h v = shift-mapped _ _ (λ s. refl) (shift-enclosed deep-place (deep-place-moved f) (shift-deep-run f h v))
 
   -- endpoints
-  pub shift-name-behind : (k j : List ℕ) → Shifts d (shiftWord d) (name-behind k j) (name-behind k j)
-  unfolding name-behind
-  shift-name-behind k j = key k ▹ ws1 ▹ key j ▹ ws1 ▹ name
+  pub shift-two-keywords-name : (k j : List ℕ) → Shifts d (shiftWord d) (two-keywords-name k j) (two-keywords-name k j)
+  unfolding two-keywords-name
+  shift-two-keywords-name k j = key k ▹ ws1 ▹ key j ▹ ws1 ▹ name
 
   pub shift-device-version : Shifts d still device-version device-version
   unfolding device-version still
@@ -499,16 +489,16 @@ module _ (d : ℕ) where
   pub shift-device-type : Shifts d (shiftDeviceType d) device-type device-type
   unfolding device-type shiftDeviceType still
   shift-device-type =
-      shift-name-behind _ _ ▸ λ n' n en. ws0 ▹ mark _ ▹ ws0 ▹ int ▸ λ c' c ec. shift-device-version ▸ λ v' v ev. shift-ret d _ _ (rw (en, ec, ev))
+      shift-two-keywords-name _ _ ▸ λ n' n en. ws0 ▹ mark _ ▹ ws0 ▹ int ▸ λ c' c ec. shift-device-version ▸ λ v' v ev. shift-ret d _ _ (rw (en, ec, ev))
 
   pub shift-value-tries : Shifts d (shiftDefault d) value-tries value-tries
-  unfolding value-tries default-string shiftDefault still
+  unfolding value-tries shiftDefault still
   shift-value-tries =
       shift-mapped _ _ (λ n. refl) int
       ∥ shift-mapped _ _ (λ z. refl) (shift-signed d)
       ∥ stands-for _ _ refl
       ∥ stands-for _ _ refl
-      ∥ shift-mapped _ _ (λ s. refl) (shift-string d _)
+      ∥ shift-mapped _ _ (λ s. refl) (shift-default-string d)
 
   pub shift-default-attribute-value : Shifts d (shiftDefault d) default-attribute-value default-attribute-value
   unfolding default-attribute-value
@@ -526,7 +516,7 @@ module _ (d : ℕ) where
 
   pub shift-named-after : (k j : List ℕ) → Shifts d (shiftWord d) (named-after k j) (named-after k j)
   unfolding named-after
-  shift-named-after k j = shift-name-behind k j ▸ λ n' n en. ws0 ▹ mark _ ▹ shift-ret d _ _ en
+  shift-named-after k j = shift-two-keywords-name k j ▸ λ n' n en. ws0 ▹ mark _ ▹ shift-ret d _ _ en
 
   pub shift-instance-tries : ShiftsTries d (shiftInstance d) instance-tries instance-tries
   unfolding instance-tries shiftInstance
@@ -538,7 +528,7 @@ module _ (d : ℕ) where
 
   pub shift-instantiation-head : Shifts d (shiftWord d) instantiation-head instantiation-head
   unfolding instantiation-head
-  shift-instantiation-head = ws0 ▹ shift-name-behind _ _ ▸ λ n' n en. ws0 ▹ shift-ret d _ _ en
+  shift-instantiation-head = ws0 ▹ shift-two-keywords-name _ _ ▸ λ n' n en. ws0 ▹ shift-ret d _ _ en
 
   pub shift-cluster-instantiation : Shifts d (shiftInstantiation d) cluster-instantiation cluster-instantiation
   unfolding cluster-instantiation shiftInstantiation

@@ -5,7 +5,6 @@ use Prim.Native.Nat.{ℕ, _+_, _-_, _≤_}
 use native.Mathlib.Omega.{arith}
 use lib.ListN.{length, drop, length-drop}
 use lib.Seq.{length-take-le}
-use Rattle.lexing.specs.words.{word}
 use Rattle.lexing.specs.answers.{wordBetween}
 use Rattle.items.specs.records.{at, word-extent}
 

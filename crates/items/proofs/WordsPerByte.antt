@@ -9,7 +9,7 @@ use native.Mathlib.Omega.{arith}
 use lib.Dec.{lit≤}
 use lib.ListN.{length}
 use Rattle.lexing.specs.bytes.{ascii}
-use Rattle.lexing.specs.reply.{Reply, ok, fail, stop, Parser, ret, _>>=_, _>>_, opt, further, _or_, prepend, manyWithin, many0, iterWithin, iter, failAt, catch}
+use Rattle.lexing.specs.reply.{Reply, ok, fail, stop, Parser, ret, _>>=_, _>>_, opt, no-nearer, _or_, prepend, manyWithin, many0, iterWithin, iter, failAt, catch}
 use Rattle.lexing.specs.words.{Word}
 use Rattle.lexing.specs.word_sets.{set-flags}
 use Rattle.lexing.specs.blanks.{Doc, whitespace0, whitespace1}
@@ -27,19 +27,21 @@ use Rattle.items.specs.endpoints.{Tried, Deep, intercept, deep-step, dee
 use Rattle.items.specs.items.{Item, cluster-item, endpoint-item, enum-item, bitmap-item, struct-item, blank-item, with-doc-maturity, item}
 use Rattle.items.specs.records.{Record, plain, entry-record, choice-records, field-record, struct-records, attribute-records, command-record, event-records, member-records, cluster-records, instance-record, part-records, endpoint-records, item-records}
 use Rattle.lexing.specs.buffers.{each}
-use Rattle.items.specs.layout.{layout-20, record-words, catalogue-words, word-count}
+use Rattle.items.specs.layout.{layout, record-words, catalogue-words, word-count}
 use Rattle.items.specs.answers.items.{unhoisted-item}
 use Rattle.lexing.proofs.Composed.{onward-then, onward-catch, onward-fail}
-use Rattle.items.proofs.Locality.{api-maturity-local, constant-annotations-list-inside, shared-before-local, max-length-local, list-marker-local, struct-type-of-local, access-to-inside, attribute-access-inside, side-local, device-version-local, default-attribute-value-local, attribute-handling-type-consumes, event-qualities-consumes, command-head-consumes, name-behind-consumes, named-after-consumes, instantiation-head-consumes}
+use Rattle.items.proofs.Locality.{api-maturity-local, constant-annotations-list-inside, shared-before-local, max-length-local, list-marker-local, struct-type-of-local, access-to-inside, attribute-access-inside, side-local, device-version-local, default-attribute-value-local, attribute-handling-type-consumes, event-qualities-consumes, command-head-consumes, two-keywords-name-consumes, named-after-consumes, instantiation-head-consumes}
 use Rattle.items.proofs.RecordWords.{word-count-none, Elementwise, each-elementwise, map-elementwise, word-count-more}
 use Rattle.items.proofs.Headed.{Headed, headed-words}
 use Rattle.items.proofs.entries.Laws.{entry-words}
 use Rattle.items.proofs.choices.Laws.{choice-headed}
 use Rattle.items.proofs.structs.Laws.{struct-headed}
-use Rattle.items.proofs.members.Laws.{event-headed, command-words}
+use Rattle.items.proofs.events.Laws.{event-headed}
+use Rattle.items.proofs.commands.Laws.{command-words}
 use Rattle.items.proofs.attributes.Laws.{attribute-words}
 use Rattle.items.proofs.clusters.Whole.{cluster-headed}
-use Rattle.items.proofs.endpoints.Laws.{attribute-words as attribute-instance-words, command-words as command-instance-words, event-words as event-instance-words, instantiation-headed, device-words, binding-words, endpoint-headed}
+use Rattle.items.proofs.instances.Laws.{attribute-words as attribute-instance-words, command-words as command-instance-words, event-words as event-instance-words, instantiation-headed}
+use Rattle.items.proofs.endpoints.Laws.{device-words, binding-words, endpoint-headed}
 
 abbrev Weight : {A : Type 0} → ℕ → (A → ℕ) → List ℕ → Reply A → Type 0
 Weight n w u (ok a c r) = w a + length r ≤ n + length u
@@ -78,8 +80,8 @@ weight-behind w k n r u h (ok a c q) v = omega (arith, h, v)
 weight-behind w k n r u h (fail p) v = tt
 weight-behind w k n r u h (stop i p) v = tt
 
-further-weight : {A : Type 0} (w : A → ℕ) (n : ℕ) (u : List ℕ) (p : ℕ) (x : Reply A) → Weight n w u x → Weight n w u (further p x)
-unfolding further
+further-weight : {A : Type 0} (w : A → ℕ) (n : ℕ) (u : List ℕ) (p : ℕ) (x : Reply A) → Weight n w u x → Weight n w u (no-nearer p x)
+unfolding no-nearer
 further-weight w n u p (ok a c r) h = h
 further-weight w n u p (fail q) h = tt
 further-weight w n u p (stop j q) h = tt
@@ -160,14 +162,14 @@ module _ {S : Type 0} (w : S → ℕ) {f : S → Parser S} {g : ℕ → S → S}
   weighs-iter s = record { weighs = λ b u. iter-within (suc (length u)) s .weighs b u }
 
 -- A list whose records are those of its elements.
-no-records : {A : Type 0} {records : List A → List Record} {one : A → List Record} → Elementwise records one → word-count (records []) ≡ 0
-no-records e = ap word-count (e .nothing) ∙ word-count-none
+no-records : {A : Type 0} {records : List A → List Record} {one : A → List Record} → Elementwise records one → word-count layout (records []) ≡ 0
+no-records e = ap (word-count layout) (e .nothing) ∙ word-count-none
 
-module _ {A : Type 0} {records : List A → List Record} {one : A → List Record} (e : Elementwise records one) {m : Parser A} (v : Weighs 0 (λ a. word-count (one a)) m) where
+module _ {A : Type 0} {records : List A → List Record} {one : A → List Record} (e : Elementwise records one) {m : Parser A} (v : Weighs 0 (λ a. word-count layout (one a)) m) where
   abbrev behind : List A → List A → ℕ
-  behind l k = word-count (records (l ++ k))
+  behind l k = word-count layout (records (l ++ k))
 
-  prepend-weight : (l : List A) (a : A) (r u : List ℕ) → word-count (one a) + length r ≤ 0 + length u → (x : Reply (List A)) → Weight (word-count (records (l ++ (a ∷ [])))) (behind (l ++ (a ∷ []))) r x → Weight (word-count (records l)) (behind l) u (prepend a x)
+  prepend-weight : (l : List A) (a : A) (r u : List ℕ) → word-count layout (one a) + length r ≤ 0 + length u → (x : Reply (List A)) → Weight (word-count layout (records (l ++ (a ∷ [])))) (behind (l ++ (a ∷ []))) r x → Weight (word-count layout (records l)) (behind l) u (prepend a x)
   unfolding prepend
   prepend-weight l a r u h (ok k c q) i =
       let z : (l ++ (a ∷ [])) ++ k ≡ l ++ (a ∷ k) = append-assoc l (a ∷ []) k in
@@ -175,22 +177,22 @@ module _ {A : Type 0} {records : List A → List Record} {one : A → List Recor
   prepend-weight l a r u h (fail p) i = tt
   prepend-weight l a r u h (stop n p) i = tt
 
-  nothing-more : (l : List A) (u : List ℕ) → behind l [] + length u ≤ word-count (records l) + length u
+  nothing-more : (l : List A) (u : List ℕ) → behind l [] + length u ≤ word-count layout (records l) + length u
   nothing-more l u = rw (append-nil l) (omega arith)
 
-  many-within : (n : ℕ) (l : List A) → Weighs (word-count (records l)) (behind l) (manyWithin n m)
+  many-within : (n : ℕ) (l : List A) → Weighs (word-count layout (records l)) (behind l) (manyWithin n m)
   unfolding manyWithin
   many-within zero l = record { weighs = λ b u. nothing-more l u }
   many-within (suc n) l = record { weighs = λ b u. go b u (m b u) refl (v .weighs b u) (many-within n) }
     where
-      go : (b : ℕ) (u : List ℕ) (x : Reply A) → m b u ≡ x → Weight 0 (λ a. word-count (one a)) u x → ((l : List A) → Weighs (word-count (records l)) (behind l) (manyWithin n m)) → Weight (word-count (records l)) (behind l) u (manyWithin (suc n) m b u)
+      go : (b : ℕ) (u : List ℕ) (x : Reply A) → m b u ≡ x → Weight 0 (λ a. word-count layout (one a)) u x → ((l : List A) → Weighs (word-count layout (records l)) (behind l) (manyWithin n m)) → Weight (word-count layout (records l)) (behind l) u (manyWithin (suc n) m b u)
       go b u (ok a c r) q i ih = rw (q, manyWithin) (prepend-weight l a r u i (manyWithin n m c r) (ih (l ++ (a ∷ [])) .weighs c r))
       go b u (fail p) q i ih = rw (q, manyWithin) (nothing-more l u)
       go b u (stop j p) q i ih = rw (q, manyWithin) tt
 
-  weighs-many0 : Weighs 0 (λ l. word-count (records l)) (many0 m)
+  weighs-many0 : Weighs 0 (λ l. word-count layout (records l)) (many0 m)
   unfolding many0
-  weighs-many0 = record { weighs = λ b u. weight-behind (behind []) (word-count (records [])) 0 u u (omega (arith, no-records e)) (manyWithin (suc (length u)) m b u) (many-within (suc (length u)) [] .weighs b u) }
+  weighs-many0 = record { weighs = λ b u. weight-behind (behind []) (word-count layout (records [])) 0 u u (omega (arith, no-records e)) (manyWithin (suc (length u)) m b u) (many-within (suc (length u)) [] .weighs b u) }
 
 -- between braces
 weighs-enclosed : {A : Type 0} {w : A → ℕ} {m : Parser A} (g : A → ℕ → ℕ) → Weighs 0 w m → Weighs 0 w (enclosed m g)
@@ -231,8 +233,8 @@ annotations = takes-any (chain-inside constant-annotations-list-inside)
 optional : {A : Type 0} {m : Parser A} → OnChain m → Takes 0 (opt m)
 optional h = takes-any (chain-opt h)
 
-word-set : (n : ℕ) → Takes 0 (set-flags n)
-word-set n = takes-any (set-flags-chain n)
+word-set : (ks : List (List ℕ)) → Takes 0 (set-flags ks)
+word-set ks = takes-any (set-flags-chain ks)
 
 struct-type : (k : Option Word) → Takes 0 (struct-type-of k)
 struct-type k = takes-any (chain-local (struct-type-of-local k))
@@ -300,7 +302,7 @@ cluster-head-takes = search takes-rules depth 30
 
 device-type-takes : Takes 3 device-type
 unfolding device-type
-device-type-takes = search (takes-rules, name-behind-consumes) depth 20
+device-type-takes = search (takes-rules, two-keywords-name-consumes) depth 20
 
 attribute-instantiation-takes : Takes 2 attribute-instantiation
 unfolding attribute-instantiation
@@ -312,38 +314,38 @@ endpoint-head-takes = search takes-rules depth 12
 
 -- a head and then a list: the head takes as many bytes as its record has words
 headed-weighs : {I H L A : Type 0} {m : I → Parser A} {records : I → A → List Record} {head : Parser H} {list : Parser L} {rs : L → List Record} {k : ℕ} → Headed m records head list rs k
-    → Takes k head → Weighs 0 (λ l. word-count (rs l)) list → (i : I) → Weighs 0 (λ a. word-count (records i a)) (m i)
+    → Takes k head → Weighs 0 (λ l. word-count layout (rs l)) list → (i : I) → Weighs 0 (λ a. word-count layout (records i a)) (m i)
 headed-weighs d h v i = rw (d .reads i) (weighs-bind h λ x. weighs-bind v λ l. weighs-ret _ (omega (arith, headed-words d i x l)))
 
 -- entries, enums and bitmaps
-entries-weigh : Weighs 0 (λ l. word-count (map entry-record l)) constant-entries-list
+entries-weigh : Weighs 0 (λ l. word-count layout (map entry-record l)) constant-entries-list
 unfolding constant-entries-list constant-entries
 entries-weigh = weighs-braces (weighs-many0 (map-elementwise entry-record) (weighs-by blank-entry-takes λ e. omega (arith, entry-words e)))
 
-choice-weighs : (kind place : ℕ) (k : List ℕ) (d : Doc) (m : ℕ) → Weighs 0 (λ c. word-count (choice-records kind place c)) (choice-after-doc-maturity k d m)
+choice-weighs : (kind place : ℕ) (k : List ℕ) (d : Doc) (m : ℕ) → Weighs 0 (λ c. word-count layout (choice-records kind place c)) (choice-after-doc-maturity k d m)
 choice-weighs kind place k d m = headed-weighs (choice-headed k) (choice-head-takes k) entries-weigh (record { kind = kind; place = place; doc = d; maturity = m })
 
 -- structs and events
-fields-weigh : Weighs 0 (λ l. word-count (map field-record l)) struct-fields
-unfolding struct-fields fields-run word-count catalogue-words each record-words layout-20 field-record plain
+fields-weigh : Weighs 0 (λ l. word-count layout (map field-record l)) struct-fields
+unfolding struct-fields fields-run word-count catalogue-words each record-words layout field-record plain
 fields-weigh = weighs-braces (weighs-many0 (map-elementwise field-record) (weighs-by closed-field-takes λ f. lit≤ tt))
 
-struct-weighs : (place : ℕ) (d : Doc) (m : ℕ) → Weighs 0 (λ s. word-count (struct-records place s)) (parse-struct-after-doc-maturity d m)
+struct-weighs : (place : ℕ) (d : Doc) (m : ℕ) → Weighs 0 (λ s. word-count layout (struct-records place s)) (parse-struct-after-doc-maturity d m)
 struct-weighs place d m = headed-weighs struct-headed struct-head-takes fields-weigh (record { kind = 5; place = place; doc = d; maturity = m })
 
-event-weighs : (d : Doc) (m : ℕ) → Weighs 0 (λ e. word-count (event-records e)) (parse-event-after-doc-maturity d m)
+event-weighs : (d : Doc) (m : ℕ) → Weighs 0 (λ e. word-count layout (event-records e)) (parse-event-after-doc-maturity d m)
 event-weighs d m = headed-weighs event-headed event-head-takes fields-weigh (record { kind = 9; place = 0; doc = d; maturity = m })
 
 -- attributes and commands, as lists of their records
-attribute-weighs : (d : Doc) (m : ℕ) → Weighs 0 (λ a. word-count (attribute-records a)) (parse-attribute-after-doc-maturity d m)
+attribute-weighs : (d : Doc) (m : ℕ) → Weighs 0 (λ a. word-count layout (attribute-records a)) (parse-attribute-after-doc-maturity d m)
 attribute-weighs d m = weighs-by (attribute-takes d m) λ a. omega (arith, attribute-words a)
 
-command-weighs : (d : Doc) (m : ℕ) → Weighs 0 (λ c. word-count (command-record c ∷ [])) (parse-command-after-doc-maturity d m)
+command-weighs : (d : Doc) (m : ℕ) → Weighs 0 (λ c. word-count layout (command-record c ∷ [])) (parse-command-after-doc-maturity d m)
 command-weighs d m = weighs-by (command-takes d m) λ c. omega (arith, command-words c)
 
 -- clusters
 abbrev member-words : Member → ℕ
-member-words x = word-count (member-records (λ y. 0) x)
+member-words x = word-count layout (member-records (λ y. 0) x)
 
 revision-weighs : Weighs 0 member-words parse-revision
 unfolding parse-revision member-records word-count catalogue-words each
@@ -364,11 +366,11 @@ member-weighs : Weighs 0 member-words parse-cluster-member
 unfolding parse-cluster-member
 member-weighs = weighs-bind blank λ d. weighs-bind maturity λ m. weighs-then blank (member-tries-weigh d m)
 
-members-weigh : Weighs 0 (λ l. word-count (each (member-records (λ y. 0)) l)) (braces cluster-members)
+members-weigh : Weighs 0 (λ l. word-count layout (each (member-records (λ y. 0)) l)) (braces cluster-members)
 unfolding cluster-members
 members-weigh = weighs-braces (weighs-many0 (each-elementwise (member-records (λ y. 0))) member-weighs)
 
-cluster-weighs : Weighs 0 (λ c. word-count (cluster-records (λ y. 0) c)) parse-cluster
+cluster-weighs : Weighs 0 (λ c. word-count layout (cluster-records (λ y. 0) c)) parse-cluster
 unfolding parse-cluster
 cluster-weighs =
     weighs-bind blank λ d.
@@ -376,28 +378,28 @@ cluster-weighs =
     weighs-then blank (headed-weighs cluster-headed cluster-head-takes members-weigh (record { kind = 1; place = 0; doc = d; maturity = m }))
 
 -- tries that keep the furthest place
-weighs-intercept : {A : Type 0} {w : A → ℕ} {m : Parser A} {k : ℕ → Parser (Tried A)} (q : ℕ) → Weighs 0 w m → ((q : ℕ) → Weighs 0 (λ t. w (t .found)) (k q)) → Weighs 0 (λ t. w (t .found)) (intercept q m k)
+weighs-intercept : {A : Type 0} {w : A → ℕ} {m : Parser A} {k : ℕ → Parser (Tried A)} (q : ℕ) → Weighs 0 w m → ((q : ℕ) → Weighs 0 (λ t. w (t .value)) (k q)) → Weighs 0 (λ t. w (t .value)) (intercept q m k)
 unfolding intercept
 weighs-intercept q v h = weighs-catch (weighs-mapped _ v) (λ p. h _)
 
-module _ {A : Type 0} {records : List A → List Record} {one : A → List Record} (e : Elementwise records one) {f : ℕ → Parser (Tried A)} (v : (q : ℕ) → Weighs 0 (λ t. word-count (one (t .found))) (f q)) where
+module _ {A : Type 0} {records : List A → List Record} {one : A → List Record} (e : Elementwise records one) {f : ℕ → Parser (Tried A)} (v : (q : ℕ) → Weighs 0 (λ t. word-count layout (one (t .value))) (f q)) where
   abbrev deep-words : Deep A → ℕ
-  deep-words s = word-count (records (s .read))
+  deep-words s = word-count layout (records (s .read))
 
   deep-step-weighs : (s : Deep A) → Weighs (deep-words s) deep-words (deep-step f s)
   unfolding deep-step
-  deep-step-weighs s = weighs-then blank (weighs-mapped _ (weighs-by (v (s .deepest)) λ t. omega (arith, word-count-more e (s .read) (t .found))))
+  deep-step-weighs s = weighs-then blank (weighs-mapped _ (weighs-by (v (s .deepest)) λ t. omega (arith, word-count-more e (s .read) (t .value))))
 
   deep-run-weighs : Weighs 0 deep-words (deep-run f)
   unfolding deep-run deeper
   deep-run-weighs = weighs-bind (takes-any chain-position) λ b. weighs-by (weighs-iter deep-words deep-step-weighs (λ p s. omega arith) _) λ s. omega (arith, no-records e)
 
-  deep-braces-weigh : Weighs 0 (λ l. word-count (records l)) (deep-braces f)
+  deep-braces-weigh : Weighs 0 (λ l. word-count layout (records l)) (deep-braces f)
   unfolding deep-braces
   deep-braces-weigh = weighs-mapped _ (weighs-enclosed deep-place deep-run-weighs)
 
 -- instances, parts and endpoints
-instance-weighs : (q : ℕ) → Weighs 0 (λ t. word-count (instance-record (t .found) ∷ [])) (instance-tries q)
+instance-weighs : (q : ℕ) → Weighs 0 (λ t. word-count layout (instance-record (t .value) ∷ [])) (instance-tries q)
 unfolding instance-tries
 instance-weighs q =
     weighs-intercept q (weighs-mapped attribute-instance (weighs-by attribute-instantiation-takes λ a. omega (arith, attribute-instance-words a))) λ q.
@@ -405,10 +407,10 @@ instance-weighs q =
     weighs-intercept q (weighs-mapped event-instance (weighs-by (takes-some (named-after-consumes _ _)) λ n. omega (arith, event-instance-words n))) λ q.
     weighs-fail q
 
-instantiation-weighs : Weighs 0 (λ i. word-count (part-records (instantiation i))) cluster-instantiation
+instantiation-weighs : Weighs 0 (λ i. word-count layout (part-records (instantiation i))) cluster-instantiation
 instantiation-weighs = headed-weighs instantiation-headed (takes-some instantiation-head-consumes) (deep-braces-weigh (map-elementwise instance-record) instance-weighs) tt
 
-part-weighs : (q : ℕ) → Weighs 0 (λ t. word-count (part-records (t .found))) (part-tries q)
+part-weighs : (q : ℕ) → Weighs 0 (λ t. word-count layout (part-records (t .value))) (part-tries q)
 unfolding part-tries
 part-weighs q =
     weighs-intercept q (weighs-mapped device (weighs-by device-type-takes λ t. omega (arith, device-words t))) λ q.
@@ -416,7 +418,7 @@ part-weighs q =
     weighs-intercept q (weighs-mapped instantiation instantiation-weighs) λ q.
     weighs-fail q
 
-endpoint-weighs : Weighs 0 (λ e. word-count (endpoint-records e)) endpoint
+endpoint-weighs : Weighs 0 (λ e. word-count layout (endpoint-records e)) endpoint
 endpoint-weighs = headed-weighs endpoint-headed endpoint-head-takes (deep-braces-weigh (each-elementwise part-records) part-weighs) tt
 
 -- items
@@ -424,11 +426,11 @@ weighs-behind-doc : {A : Type 0} {w : A → ℕ} {f : Doc → ℕ → Parser A} 
 unfolding with-doc-maturity
 weighs-behind-doc v = weighs-bind blank λ d. weighs-then blank (weighs-bind maturity λ m. weighs-then blank (v d m))
 
-blank-item-weighs : Weighs 0 (λ i. word-count (unhoisted-item i)) (whitespace1 >> ret blank-item)
+blank-item-weighs : Weighs 0 (λ i. word-count layout (unhoisted-item i)) (whitespace1 >> ret blank-item)
 unfolding item-records
 blank-item-weighs = weighs-then (takes-any whitespace1-chain) (weighs-ret blank-item (omega (arith, word-count-none)))
 
-pub item-weighs : Weighs 0 (λ i. word-count (unhoisted-item i)) item
+pub item-weighs : Weighs 0 (λ i. word-count layout (unhoisted-item i)) item
 unfolding item item-records parse-enum-after-doc-maturity parse-bitmap-after-doc-maturity
 item-weighs =
     weighs-or (weighs-mapped cluster-item cluster-weighs) (
@@ -439,5 +441,5 @@ item-weighs =
     blank-item-weighs))))
 
 -- the items that are read from a text take no more words than the bytes that they are read from
-pub items-words : (b : ℕ) (u : List ℕ) {l : List Item} {c : ℕ} {r : List ℕ} → ok l c r ≡ many0 item b u → word-count (each unhoisted-item l) + length r ≤ length u
+pub items-words : (b : ℕ) (u : List ℕ) {l : List Item} {c : ℕ} {r : List ℕ} → ok l c r ≡ many0 item b u → word-count layout (each unhoisted-item l) + length r ≤ length u
 items-words b u e = let h = rw (sym e) at (weighs-many0 (each-elementwise unhoisted-item) item-weighs .weighs b u) in omega (arith, h)

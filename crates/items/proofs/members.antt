@@ -1,3 +1,2 @@
--- Laws of the readers of events and commands.
+-- Laws of the readers of members.
 pub mod Laws
-pub mod Levels

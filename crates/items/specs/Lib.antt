@@ -7,5 +7,6 @@ pub mod endpoints
 pub mod items
 pub mod records
 pub mod layout
+pub mod stored
 pub mod answers
 pub mod inner

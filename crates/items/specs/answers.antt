@@ -1,20 +1,12 @@
 -- What the answers of the code say, as replies of the definitions: what the modules share, and each module's own apart.
-pub mod entries
-pub mod structs
-pub mod choices
-pub mod clusters
-pub mod members
-pub mod attributes
-pub mod endpoints
 pub mod items
 use Prim.Native.Nat.{ℕ, _+_, _-_, _*_, _≤_, _<_}
 use mathlib.Core.Path.{_≡_}
 use mathlib.Core.Bool.{Bool, true, false}
 use mathlib.Core.Option.{Option, none, some}
-use mathlib.Core.List.{List, [], _∷_}
-use lib.ListN.{length, take, drop}
+use mathlib.Core.List.{List}
+use lib.ListN.{length, drop}
 use Rattle.lexing.specs.reply.{Parser, ok, ret, _>>=_, _>>_}
-use Rattle.lexing.specs.words.{word}
 use Rattle.lexing.specs.blanks.{Doc, whitespace0}
 use Rattle.lexing.specs.answers.{Answer, got, lost, reply, docOf, Fail, Stop, onLost}
 use Rattle.lexing.specs.declared.answers.Lost.{Lost}
@@ -22,8 +14,8 @@ use Rattle.lexing.specs.declared.blanks.DocSpan.{DocSpan}
 use Rattle.lexing.specs.declared.blanks.DocSpan.the-variants.{Absent, At}
 use Rattle.items.specs.entries.{api-maturity}
 use Rattle.items.specs.clusters.{mapped}
-use Rattle.items.specs.records.{Record, bits}
-use Rattle.items.specs.layout.{layout-20, catalogue-bytes, word-count, packed, text-limit}
+use Rattle.items.specs.records.{Record}
+use Rattle.items.specs.layout.{layout, catalogue-bytes, word-count, packed, offset-width, first-row, span-row, text-limit}
 use Rattle.lexing.specs.buffers.{put}
 use Rattle.items.specs.declared.counts.Count.{Count}
 use Rattle.items.specs.declared.counts.Count.the-variants.{Words, NoCount}
@@ -59,7 +51,7 @@ pub record MaturityTo (p : Parser ℕ) (r : Maturity) (b : ℕ) (u : List ℕ) :
 
 -- a declaration by the words that its records take
 unfoldable pub counted : {A : Type 0} → (A → List Record) → Parser A → Parser ℕ
-counted records m = mapped m (λ a. word-count (records a))
+counted records m = mapped m (λ a. word-count layout (records a))
 
 abbrev pub countAnswer : Count → Answer ℕ
 countAnswer (Words n c) = got n c
@@ -100,45 +92,33 @@ pub record Room {A : Type 0} (records : A → List Record) (m : Parser A) (b : �
   pub value : A
   pub next : ℕ
   pub is : ok value next (drop (next - b) u) ≡ m b u
-  pub fits : at + 8 * word-count (records value) ≤ n
+  pub fits : at + 8 * word-count layout (records value) ≤ n
 
 -- its records are written from a place on; the answer is where reading and writing stand then
 pub record Written {A : Type 0} (records : A → List Record) (m : Parser A) (b : ℕ) (u : List ℕ) (at : ℕ) (w : Wrote) (old new : List ℕ) : Type 0 where
   pub value : A
   pub is : ok value (w .next) (drop (w .next - b) u) ≡ m b u
-  pub place : w .to ≡ at + 8 * word-count (records value)
-  pub bytes : new ≡ put at (catalogue-bytes layout-20 (records value)) old
+  pub place : w .to ≡ at + 8 * word-count layout (records value)
+  pub bytes : new ≡ put at (catalogue-bytes layout (records value)) old
 
 -- the first word of a record, and what fits it
 abbrev pub first-of : First → ℕ
-first-of f =
-    packed 0 (
-    bits 8 (f .kind) ∷
-    bits 2 (f .place) ∷
-    bits 2 (f .maturity) ∷
-    bits 1 (f .documented) ∷
-    bits 7 (f .flags) ∷
-    bits 20 (f .name) ∷
-    bits 20 (f .size) ∷
-    bits 2 (f .privilege) ∷
-    bits 2 (f .further) ∷
-    []
-    )
+first-of f = packed 0 (first-row offset-width (f .kind) (f .place) (f .maturity) (f .«doc_present») (f .flags) (f .name) (f .«name_length») (f .«first_privilege») (f .«second_privilege»))
 
 pub record Fits (f : First) : Type 0 where
   pub kind-fits : f .kind < 256
   pub place-fits : f .place < 4
   pub maturity-fits : f .maturity < 4
-  pub documented-fits : f .documented < 2
+  pub doc-present-fits : f .«doc_present» < 2
   pub flags-fits : f .flags < 128
-  pub name-fits : f .name < 1048576
-  pub size-fits : f .size < 1048576
-  pub privilege-fits : f .privilege < 4
-  pub further-fits : f .further < 4
+  pub name-fits : f .name ≤ text-limit
+  pub name-length-fits : f .«name_length» ≤ text-limit
+  pub first-privilege-fits : f .«first_privilege» < 4
+  pub second-privilege-fits : f .«second_privilege» < 4
 
 -- the word of a span
 abbrev pub spanWord : ℕ → ℕ → ℕ
-spanWord o n = packed 0 (bits 20 o ∷ bits 20 n ∷ bits 24 0 ∷ [])
+spanWord o n = packed 0 (span-row offset-width o n)
 
 -- the word and the bit of a doc comment, and what fits them
 abbrev pub docWord : DocSpan → ℕ

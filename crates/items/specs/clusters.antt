@@ -44,7 +44,7 @@ member-tries d m =
     mapped (parse-command-after-doc-maturity d m) command or
     mapped (parse-event-after-doc-maturity d m) event
 
--- `parse_cluster_member`, parser.rs line 973; a member that fails passes no place on, since `parse-cluster` repeats it
+-- `parse_cluster_member`, parser.rs line 979; a member that fails passes no place on, since `parse-cluster` repeats it
 unfoldable pub parse-cluster-member : Parser Member
 parse-cluster-member = do
   d ← whitespace0
@@ -55,7 +55,7 @@ parse-cluster-member = do
 unfoldable pub cluster-members : Parser (List Member)
 cluster-members = many0 parse-cluster-member
 
--- `parse_cluster`, line 1022
+-- `parse_cluster`, parser.rs line 1026
 pub record Cluster : Type 0 where
   pub doc : Doc
   pub maturity : ℕ

@@ -5,7 +5,7 @@ use mathlib.Core.Option.{Option}
 use mathlib.Core.List.{List, [], _∷_, _++_}
 use Rattle.lexing.specs.bytes.{ascii, byte}
 use Rattle.lexing.specs.reply.{Parser, ret, _>>=_, _>>_, opt, _or_, catch, iter, position, failAt}
-use Rattle.lexing.specs.names.{name-behind, named-after}
+use Rattle.lexing.specs.names.{two-keywords-name, named-after}
 use Rattle.lexing.specs.words.{Word, parse-id, keyword, tag}
 use Rattle.lexing.specs.integers.{positive-integer, Signed, signed-integer}
 use Rattle.lexing.specs.blanks.{whitespace0, whitespace1}
@@ -13,12 +13,16 @@ use Rattle.lexing.specs.strings.{Span, default-string}
 use Rattle.items.specs.entries.{enclosed}
 use Rattle.items.specs.clusters.{mapped}
 
--- `DeepestError`, parser.rs line 72, around a loop of tries between braces: the furthest place of any try inside is kept, a number that starts at the current offset.
+-- `DeepestError`, parser.rs line 79, around a loop of tries between braces: the furthest place of any try inside is kept, a number that starts at the current offset.
+-- That one rule is the Rust's in both loops, that of `cluster_instantiation` and that of `endpoint`:
+-- the Rust starts with no place, as at depth 0, and keeps one only if it is deeper. It starts behind a `{`, and a try fails where it begins or further on; so the first failure is kept, and it is no nearer than the offset started from here.
+-- `cluster_instantiation` intercepts the missing `}` too, so its place counts among the others. `endpoint` does not, and answers the deepest of the tries alone. But `}` is missed where the tries of the last turn begin, behind the same blanks,
+-- and all of them failed there or further on; so the furthest of the tries and the missing `}` is that of the tries.
 
 -- what a try gave, with the furthest place so far
 pub record Tried (A : Type 0) : Type 0 where
   pub furthest : ℕ
-  pub found : A
+  pub value : A
 
 -- what was read so far, with the furthest place so far
 pub record Deep (A : Type 0) : Type 0 where
@@ -27,10 +31,10 @@ pub record Deep (A : Type 0) : Type 0 where
 
 -- `deepest_error.intercept(..)`, and else the next try
 unfoldable pub intercept : {A : Type 0} → ℕ → Parser A → (ℕ → Parser (Tried A)) → Parser (Tried A)
-intercept q m k = catch (mapped m (λ a. record { furthest = q; found = a })) (λ p. k (max q p))
+intercept q m k = catch (mapped m (λ a. record { furthest = q; value = a })) (λ p. k (max q p))
 
 unfoldable pub deep-step : {A : Type 0} → (ℕ → Parser (Tried A)) → Deep A → Parser (Deep A)
-deep-step f s = whitespace0 >> mapped (f (s .deepest)) (λ t. record { deepest = t .furthest; read = s .read ++ (t .found ∷ []) })
+deep-step f s = whitespace0 >> mapped (f (s .deepest)) (λ t. record { deepest = t .furthest; read = s .read ++ (t .value ∷ []) })
 
 unfoldable pub deeper : {A : Type 0} → ℕ → Deep A → Deep A
 deeper p s = record { deepest = max p (s .deepest); read = s .read }
@@ -46,7 +50,7 @@ deep-place s p = max p (s .deepest)
 unfoldable pub deep-braces : {A : Type 0} → (ℕ → Parser (Tried A)) → Parser (List A)
 deep-braces f = mapped (enclosed (deep-run f) deep-place) (λ s. s .read)
 
--- `device_type`, line 1066
+-- `device_type`, parser.rs line 1071
 pub record DeviceType : Type 0 where
   pub name : Word
   pub code : ℕ
@@ -67,7 +71,7 @@ device-version = do
 
 unfoldable pub device-type : Parser DeviceType
 device-type = do
-  n ← name-behind (ascii "device") (ascii "type")
+  n ← two-keywords-name (ascii "device") (ascii "type")
   whitespace0
   tag (byte "=")
   whitespace0
@@ -75,7 +79,7 @@ device-type = do
   v ← device-version
   ret (record { name = n; code = c; version = v })
 
--- `default_attribute_value`, line 1101
+-- `default_attribute_value`, parser.rs line 1101
 pub data Default : Type 0 where
   number : ℕ → Default
   signed-number : Signed → Default
@@ -98,11 +102,11 @@ default-attribute-value = do
   whitespace0
   value-tries
 
--- `attribute_handling_type`, line 1169: ram, callback, persist = 0 to 2
+-- `attribute_handling_type`, parser.rs line 1171: ram, callback, persist = 0 to 2
 unfoldable pub attribute-handling-type : Parser ℕ
 attribute-handling-type = (keyword (ascii "ram") >> ret 0) or (keyword (ascii "callback") >> ret 1) or (keyword (ascii "persist") >> ret 2)
 
--- `attribute_instantiation`, line 1180
+-- `attribute_instantiation`, parser.rs line 1181
 pub record AttributeInstance : Type 0 where
   pub handling : ℕ
   pub name : Word
@@ -120,7 +124,7 @@ attribute-instantiation = do
   tag (byte ";")
   ret (record { handling = h; name = n; default = v })
 
--- `cluster_instantiation`, line 1199
+-- `cluster_instantiation`, parser.rs line 1200
 pub data Instance : Type 0 where
   attribute-instance : AttributeInstance → Instance
   command-instance event-instance : Word → Instance
@@ -140,7 +144,7 @@ pub record Instantiation : Type 0 where
 unfoldable pub instantiation-head : Parser Word
 instantiation-head = do
   whitespace0
-  n ← name-behind (ascii "server") (ascii "cluster")
+  n ← two-keywords-name (ascii "server") (ascii "cluster")
   whitespace0
   ret n
 
@@ -150,7 +154,7 @@ cluster-instantiation = do
   l ← deep-braces instance-tries
   ret (record { name = n; instances = l })
 
--- `endpoint`, line 1266
+-- `endpoint`, parser.rs line 1275
 pub data Part : Type 0 where
   device : DeviceType → Part
   binding : Word → Part

@@ -30,7 +30,7 @@ where-missing a p = p
 unfoldable pub braces : {A : Type 0} → Parser A → Parser A
 braces m = enclosed m where-missing
 
--- `api_maturity`, parser.rs line 127: stable, provisional, internal, deprecated = 0 to 3; it can't fail
+-- `api_maturity`, parser.rs line 131: stable, provisional, internal, deprecated = 0 to 3; it can't fail
 unfoldable pub api-maturity : Parser ℕ
 api-maturity =
     (keyword (ascii "stable") >> ret 0) or
@@ -39,7 +39,7 @@ api-maturity =
     (keyword (ascii "deprecated") >> ret 3) or
     ret 0
 
--- `constant_annotation`, line 415
+-- `constant_annotation`, parser.rs line 415
 pub record Annotation : Type 0 where
   pub key : Word
   pub value : Span
@@ -56,7 +56,7 @@ constant-annotation = do
   opt (tag (byte ","))
   ret (record { key = k; value = v })
 
--- `constant_annotations_list`, line 433: none, or those in brackets
+-- `constant_annotations_list`, parser.rs line 433: none, or those in brackets
 unfoldable pub blank-annotation : Parser Annotation
 blank-annotation = whitespace0 >> constant-annotation
 
@@ -71,7 +71,7 @@ annotations-in-brackets = do
 unfoldable pub constant-annotations-list : Parser (Option (List Annotation))
 constant-annotations-list = opt annotations-in-brackets
 
--- `constant_entry`, line 468; the annotations are read and dropped
+-- `constant_entry`, parser.rs line 468; the annotations are read and dropped
 pub record Entry : Type 0 where
   pub maturity : ℕ
   pub name : Word
@@ -93,7 +93,7 @@ constant-entry = do
   tag (byte ";")
   ret (record { maturity = m; name = n; code = c })
 
--- `constant_entries_list`, line 496
+-- `constant_entries_list`, parser.rs line 496
 unfoldable pub blank-entry : Parser Entry
 blank-entry = whitespace0 >> constant-entry
 
@@ -138,7 +138,7 @@ choice-head k = do
   whitespace0
   ret (record { head-shared = present s; head-name = n; head-base = t })
 
--- `parse_enum_after_doc_maturity`, line 517, and `parse_bitmap_after_doc_maturity`, line 555: one but for the keyword
+-- `parse_enum_after_doc_maturity`, parser.rs line 517, and `parse_bitmap_after_doc_maturity`, parser.rs line 553: one but for the keyword
 unfoldable pub choice-after-doc-maturity : List ℕ → Doc → ℕ → Parser Choice
 choice-after-doc-maturity k d m = do
   h ← choice-head k

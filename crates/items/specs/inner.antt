@@ -1,11 +1,19 @@
 -- What private functions promise. No public contract rests on it.
 pub mod counts
+pub mod writing
 pub mod maturity
+pub mod levels
 pub mod entries
-pub mod structs
 pub mod choices
-pub mod members
+pub mod fields
+pub mod structs
+pub mod events
+pub mod commands
 pub mod attributes
+pub mod member_kinds
+pub mod members
 pub mod clusters
+pub mod defaults
+pub mod instances
 pub mod endpoints
 pub mod items

@@ -7,10 +7,10 @@ use Rattle.lexing.specs.reply.{Parser, ret, _>>=_, _>>_, opt, _or_, many0, catc
 use Rattle.lexing.specs.words.{Word, bytesOf, offsetOf, parse-id, keyword, any-keyword, tag}
 use Rattle.lexing.specs.integers.{positive-integer}
 use Rattle.lexing.specs.blanks.{Doc, whitespace0, whitespace1}
-use Rattle.lexing.specs.word_sets.{same-bytes, set-flags}
+use Rattle.lexing.specs.word_sets.{same-bytes, set-flags, event-set, command-set, attribute-set}
 use Rattle.items.specs.structs.{StructField, parse-struct-field, struct-fields}
 
--- `access_privilege`, parser.rs line 738: view, operate, manage, administer = 0 to 3
+-- `access_privilege`, parser.rs line 742: view, operate, manage, administer = 0 to 3
 unfoldable pub access-privilege : Parser ℕ
 access-privilege =
     (keyword (ascii "view") >> ret 0) or
@@ -23,11 +23,11 @@ unfoldable pub or-else : ℕ → Option ℕ → ℕ
 or-else z none = z
 or-else z (some n) = n
 
--- `event_priority`, line 752: critical, info, debug = 0 to 2
+-- `event_priority`, parser.rs line 756: critical, info, debug = 0 to 2
 unfoldable pub event-priority : Parser ℕ
 event-priority = (keyword (ascii "info") >> ret 1) or (keyword (ascii "critical") >> ret 0) or (keyword (ascii "debug") >> ret 2)
 
--- `parse_event_after_doc_maturity`, line 773
+-- `parse_event_after_doc_maturity`, parser.rs line 777
 pub record Event : Type 0 where
   pub doc : Doc
   pub maturity : ℕ
@@ -61,7 +61,7 @@ pub record EventQualities : Type 0 where
 
 unfoldable pub event-qualities : Parser EventQualities
 event-qualities = do
-  q ← set-flags 2
+  q ← set-flags event-set
   whitespace0
   y ← event-priority
   whitespace1
@@ -96,7 +96,7 @@ parse-event-after-doc-maturity d m = do
   fs ← struct-fields
   ret (record { doc = d; maturity = m; fabric-sensitive = h .sensitive; priority = h .rank; access = h .privilege; name = h .id; code = h .number; fields = fs })
 
--- `parse_command_after_doc_maturity`, line 833; flags: timed, fabric
+-- `parse_command_after_doc_maturity`, parser.rs line 833; flags: timed, fabric
 pub record Command : Type 0 where
   pub doc : Doc
   pub maturity : ℕ
@@ -118,7 +118,7 @@ invoke-access = whitespace0 >> access-to (ascii "invoke")
 
 unfoldable pub command-head : Parser CommandHead
 command-head = do
-  q ← set-flags 3
+  q ← set-flags command-set
   whitespace0
   keyword (ascii "command")
   a ← opt invoke-access
@@ -157,7 +157,7 @@ parse-command-after-doc-maturity d m = do
   tag (byte ";")
   ret (record { doc = d; maturity = m; flags = h .qualities; access = h .privilege; name = h .id; input = t .from; output = t .to; code = c })
 
--- `attribute_access`, line 884: a list of `read` and `write`, with blanks allowed around everything
+-- `attribute_access`, parser.rs line 890: a list of `read` and `write`, with blanks allowed around everything
 pub record Access : Type 0 where
   pub operation : Word
   pub granted : ℕ
@@ -224,7 +224,7 @@ attribute-access = do
   l ← opt access-list
   granted-by default-privileges (listed l)
 
--- `parse_attribute_after_doc_maturity`, line 935; flags: readonly, writeonly, nosubscribe, timedwrite
+-- `parse_attribute_after_doc_maturity`, parser.rs line 941; flags: readonly, writeonly, nosubscribe, timedwrite
 pub record Attribute : Type 0 where
   pub doc : Doc
   pub maturity : ℕ
@@ -234,7 +234,7 @@ pub record Attribute : Type 0 where
 
 unfoldable pub parse-attribute-after-doc-maturity : Doc → ℕ → Parser Attribute
 parse-attribute-after-doc-maturity d m = do
-  q ← set-flags 4
+  q ← set-flags attribute-set
   whitespace0
   keyword (ascii "attribute")
   whitespace1

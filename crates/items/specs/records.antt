@@ -1,8 +1,9 @@
 -- Records: what each declaration hands out, row by row of document 01's table.
 use Prim.Native.Nat.{ℕ, zero, suc, _+_, _-_, _^_}
-use mathlib.Core.Bool.{Bool, true, false}
+use mathlib.Core.Bool.{Bool, true, false, _&&_}
 use mathlib.Core.Option.{Option, none, some}
 use mathlib.Core.List.{List, [], _∷_, map}
+use lib.Dec.{leb, ltb}
 use lib.ListN.{length, getD}
 use Rattle.lexing.specs.buffers.{each}
 use Rattle.lexing.specs.words.{Word, word}
@@ -30,6 +31,67 @@ pub data Bits : Type 0 where
 pub data Further : Type 0 where
   value : ℕ → Further
   spanned : Extent → Further
+
+-- The kinds of records, document 01's.
+
+abbrev pub cluster-kind : ℕ
+cluster-kind = 1
+
+abbrev pub enum-kind : ℕ
+enum-kind = 2
+
+abbrev pub bitmap-kind : ℕ
+bitmap-kind = 3
+
+abbrev pub entry-kind : ℕ
+entry-kind = 4
+
+abbrev pub struct-kind : ℕ
+struct-kind = 5
+
+abbrev pub field-kind : ℕ
+field-kind = 6
+
+abbrev pub attribute-kind : ℕ
+attribute-kind = 7
+
+abbrev pub command-kind : ℕ
+command-kind = 8
+
+abbrev pub event-kind : ℕ
+event-kind = 9
+
+abbrev pub endpoint-kind : ℕ
+endpoint-kind = 10
+
+abbrev pub device-type-kind : ℕ
+device-type-kind = 11
+
+abbrev pub binding-kind : ℕ
+binding-kind = 12
+
+abbrev pub instantiation-kind : ℕ
+instantiation-kind = 13
+
+abbrev pub attribute-instance-kind : ℕ
+attribute-instance-kind = 14
+
+abbrev pub command-instance-kind : ℕ
+command-instance-kind = 15
+
+abbrev pub event-instance-kind : ℕ
+event-instance-kind = 16
+
+-- how many further words a record of a kind has, in the order of the kinds; 0 is none
+abbrev pub further-counts : List ℕ
+further-counts = 0 ∷ 3 ∷ 2 ∷ 2 ∷ 1 ∷ 2 ∷ 3 ∷ 1 ∷ 4 ∷ 2 ∷ 1 ∷ 2 ∷ 0 ∷ 0 ∷ 1 ∷ 0 ∷ 0 ∷ []
+
+unfoldable pub further-of-kind : ℕ → ℕ
+further-of-kind k = getD further-counts k 0
+
+-- 1 to the last kind
+unfoldable pub known-kind : ℕ → Bool
+known-kind k = leb 1 k && ltb k (length further-counts)
 
 pub record Record : Type 0 where
   pub kind : ℕ
@@ -95,17 +157,17 @@ plain k m f n l = record { kind = k; place = 0; maturity = m; doc-present = 0; f
 unfoldable pub documented : ℕ → ℕ → ℕ → Doc → List Bits → Extent → ℕ → ℕ → List Further → Record
 documented k p m d f n x y l = record { kind = k; place = p; maturity = m; doc-present = doc-bit d; flags = f; name = n; first-privilege = x; second-privilege = y; further = spanned (doc-extent d) ∷ l }
 
--- 2 enum, 3 bitmap, 4 entry
+-- enum, bitmap, entry
 unfoldable pub entry-record : Entry → Record
-entry-record e = plain 4 (e .maturity) [] (word-extent (e .name)) (value (e .code) ∷ [])
+entry-record e = plain entry-kind (e .maturity) [] (word-extent (e .name)) (value (e .code) ∷ [])
 
 unfoldable pub choice-records : (kind place : ℕ) → Choice → List Record
 choice-records k p c = documented k p (c .maturity) (c .doc) (flag (c .shared) ∷ []) (word-extent (c .name)) 0 0 (spanned (word-extent (c .base)) ∷ []) ∷ map entry-record (c .entries)
 
--- 5 struct: regular, request, response, shared = 0 to 3; 6 field
+-- struct: regular, request, response, shared = 0 to 3; field
 unfoldable pub field-record : StructField → Record
 field-record f =
-    plain 6 (f .maturity) (flag (f .field .list) ∷ flag (present (f .field .maximum)) ∷ bits 3 (f .flags) ∷ []) (word-extent (f .field .name))
+    plain field-kind (f .maturity) (flag (f .field .list) ∷ flag (present (f .field .maximum)) ∷ bits 3 (f .flags) ∷ []) (word-extent (f .field .name))
     (spanned (word-extent (f .field .data-type)) ∷ value (f .field .code) ∷ value (or-else 0 (f .field .maximum)) ∷ [])
 
 unfoldable pub struct-number : StructType → ℕ
@@ -121,23 +183,23 @@ response-of (response c) = c
 response-of shared = 0
 
 unfoldable pub struct-records : (place : ℕ) → Struct → List Record
-struct-records p s = documented 5 p (s .maturity) (s .doc) (bits 2 (struct-number (s .struct-type)) ∷ bits 1 (s .fabric-scoped) ∷ []) (word-extent (s .name)) 0 0 (value (response-of (s .struct-type)) ∷ []) ∷ map field-record (s .fields)
+struct-records p s = documented struct-kind p (s .maturity) (s .doc) (bits 2 (struct-number (s .struct-type)) ∷ bits 1 (s .fabric-scoped) ∷ []) (word-extent (s .name)) 0 0 (value (response-of (s .struct-type)) ∷ []) ∷ map field-record (s .fields)
 
--- 7 attribute, and its field
+-- attribute, and its field
 unfoldable pub attribute-records : Attribute → List Record
-attribute-records a = documented 7 0 (a .maturity) (a .doc) (bits 4 (a .flags) ∷ []) absent (a .privileges .read) (a .privileges .write) [] ∷ field-record (a .field) ∷ []
+attribute-records a = documented attribute-kind 0 (a .maturity) (a .doc) (bits 4 (a .flags) ∷ []) absent (a .privileges .read) (a .privileges .write) [] ∷ field-record (a .field) ∷ []
 
--- 8 command: the first privilege is invoke's
+-- command: the first privilege is invoke's
 unfoldable pub command-record : Command → Record
 command-record c =
-    documented 8 0 (c .maturity) (c .doc) (bits 2 (c .flags) ∷ flag (present (c .input)) ∷ []) (word-extent (c .name)) (c .access) 0
+    documented command-kind 0 (c .maturity) (c .doc) (bits 2 (c .flags) ∷ flag (present (c .input)) ∷ []) (word-extent (c .name)) (c .access) 0
     (spanned (optional-extent (c .input)) ∷ spanned (word-extent (c .output)) ∷ value (c .code) ∷ [])
 
--- 9 event: the first privilege is read's
+-- event: the first privilege is read's
 unfoldable pub event-records : Event → List Record
-event-records e = documented 9 0 (e .maturity) (e .doc) (bits 2 (e .priority) ∷ bits 1 (e .fabric-sensitive) ∷ []) (word-extent (e .name)) (e .access) 0 (value (e .code) ∷ []) ∷ map field-record (e .fields)
+event-records e = documented event-kind 0 (e .maturity) (e .doc) (bits 2 (e .priority) ∷ bits 1 (e .fabric-sensitive) ∷ []) (word-extent (e .name)) (e .access) 0 (value (e .code) ∷ []) ∷ map field-record (e .fields)
 
--- 1 cluster; the last revision wins, with none it is 0. place gives a type's place.
+-- cluster; the last revision wins, with none it is 0. place gives a type's place.
 unfoldable pub last-revision : ℕ → List Member → ℕ
 last-revision z [] = z
 last-revision z (revision n ∷ ms) = last-revision n ms
@@ -150,17 +212,17 @@ last-revision z (event e ∷ ms) = last-revision z ms
 
 unfoldable pub member-records : (place : Member → ℕ) → Member → List Record
 member-records place (revision n) = []
-member-records place (bitmap c) = choice-records 3 (place (bitmap c)) c
-member-records place (enum c) = choice-records 2 (place (enum c)) c
+member-records place (bitmap c) = choice-records bitmap-kind (place (bitmap c)) c
+member-records place (enum c) = choice-records enum-kind (place (enum c)) c
 member-records place (struct s) = struct-records (place (struct s)) s
 member-records place (attribute a) = attribute-records a
 member-records place (command c) = command-record c ∷ []
 member-records place (event e) = event-records e
 
 unfoldable pub cluster-records : (place : Member → ℕ) → Cluster → List Record
-cluster-records place c = documented 1 0 (c .maturity) (c .doc) [] (word-extent (c .name)) 0 0 (value (c .code) ∷ value (last-revision 0 (c .members)) ∷ []) ∷ each (member-records place) (c .members)
+cluster-records place c = documented cluster-kind 0 (c .maturity) (c .doc) [] (word-extent (c .name)) 0 0 (value (c .code) ∷ value (last-revision 0 (c .members)) ∷ []) ∷ each (member-records place) (c .members)
 
--- 14 attribute instance: a default is none, number, signed, truth, string = 0 to 4; 15 command instance, 16 event instance
+-- attribute instance: a default is none, number, signed, truth, string = 0 to 4; command instance, event instance
 unfoldable pub default-number : Option Default → ℕ
 default-number none = 0
 default-number (some (number n)) = 1
@@ -182,28 +244,24 @@ default-word (some (truth t)) = value (bit t)
 default-word (some (text (span o n))) = spanned (at o n)
 
 unfoldable pub instance-record : Instance → Record
-instance-record (attribute-instance a) = plain 14 0 (bits 2 (a .handling) ∷ bits 3 (default-number (a .default)) ∷ []) (word-extent (a .name)) (default-word (a .default) ∷ [])
-instance-record (command-instance n) = plain 15 0 [] (word-extent n) []
-instance-record (event-instance n) = plain 16 0 [] (word-extent n) []
+instance-record (attribute-instance a) = plain attribute-instance-kind 0 (bits 2 (a .handling) ∷ bits 3 (default-number (a .default)) ∷ []) (word-extent (a .name)) (default-word (a .default) ∷ [])
+instance-record (command-instance n) = plain command-instance-kind 0 [] (word-extent n) []
+instance-record (event-instance n) = plain event-instance-kind 0 [] (word-extent n) []
 
--- 10 endpoint, 11 device type, 12 binding, 13 instantiation
+-- endpoint, device type, binding, instantiation
 unfoldable pub part-records : Part → List Record
-part-records (device t) = plain 11 0 [] (word-extent (t .name)) (value (t .code) ∷ value (t .version) ∷ []) ∷ []
-part-records (binding n) = plain 12 0 [] (word-extent n) [] ∷ []
-part-records (instantiation i) = plain 13 0 [] (word-extent (i .name)) [] ∷ map instance-record (i .instances)
+part-records (device t) = plain device-type-kind 0 [] (word-extent (t .name)) (value (t .code) ∷ value (t .version) ∷ []) ∷ []
+part-records (binding n) = plain binding-kind 0 [] (word-extent n) [] ∷ []
+part-records (instantiation i) = plain instantiation-kind 0 [] (word-extent (i .name)) [] ∷ map instance-record (i .instances)
 
 unfoldable pub endpoint-records : Endpoint → List Record
-endpoint-records e = plain 10 0 [] absent (value (e .id) ∷ []) ∷ each part-records (e .parts)
-
--- how many further words a record of a kind has, in the order of the kinds
-unfoldable pub further-of-kind : ℕ → ℕ
-further-of-kind k = getD (0 ∷ 3 ∷ 2 ∷ 2 ∷ 1 ∷ 2 ∷ 3 ∷ 1 ∷ 4 ∷ 2 ∷ 1 ∷ 2 ∷ 0 ∷ 0 ∷ 1 ∷ 0 ∷ 0 ∷ []) k 0
+endpoint-records e = plain endpoint-kind 0 [] absent (value (e .id) ∷ []) ∷ each part-records (e .parts)
 
 -- an item's records; top is the place of a type at the top, place that of a type in a cluster
 unfoldable pub item-records : (top : ℕ) → (place : Member → ℕ) → Item → List Record
 item-records top place (cluster-item c) = cluster-records place c
 item-records top place (endpoint-item e) = endpoint-records e
-item-records top place (enum-item c) = choice-records 2 top c
-item-records top place (bitmap-item c) = choice-records 3 top c
+item-records top place (enum-item c) = choice-records enum-kind top c
+item-records top place (bitmap-item c) = choice-records bitmap-kind top c
 item-records top place (struct-item s) = struct-records top s
 item-records top place blank-item = []

@@ -8,10 +8,10 @@ use Rattle.lexing.specs.reply.{Parser, ret, _>>=_, _>>_, opt, many0, pick}
 use Rattle.lexing.specs.words.{Word, bytesOf, parse-id, keyword, any-keyword, tag}
 use Rattle.lexing.specs.integers.{positive-integer}
 use Rattle.lexing.specs.blanks.{Doc, whitespace0, whitespace1}
-use Rattle.lexing.specs.word_sets.{same-bytes, set-flags}
+use Rattle.lexing.specs.word_sets.{same-bytes, set-flags, field-set, struct-set}
 use Rattle.items.specs.entries.{present, braces, api-maturity}
 
--- `parse_field`, parser.rs line 584
+-- `parse_field`, parser.rs line 583
 pub record Field : Type 0 where
   pub data-type : Word
   pub maximum : Option ℕ
@@ -51,7 +51,7 @@ parse-field = do
   c ← positive-integer
   ret (record { data-type = t; maximum = x; name = n; list = present l; code = c })
 
--- `parse_struct_field`, line 650; flags: optional, nullable, fabric sensitive
+-- `parse_struct_field`, parser.rs line 650; flags: optional, nullable, fabric sensitive
 pub record StructField : Type 0 where
   pub maturity : ℕ
   pub flags : ℕ
@@ -62,11 +62,11 @@ parse-struct-field = do
   whitespace0
   m ← api-maturity
   whitespace0
-  q ← set-flags 0
+  q ← set-flags field-set
   f ← parse-field
   ret (record { maturity = m; flags = q; field = f })
 
--- `struct_fields`, line 672
+-- `struct_fields`, parser.rs line 672
 unfoldable pub closed-field : Parser StructField
 closed-field = do
   whitespace0
@@ -103,17 +103,17 @@ response-code = do
   ret (response c)
 
 -- `match struct_type` of the word before the struct, which counts in lower case only
-unfoldable pub struct-kind : List ℕ → Parser StructType
-struct-kind w =
+unfoldable pub type-by-word : List ℕ → Parser StructType
+type-by-word w =
     pick (same-bytes w (ascii "request")) (ret request)
     (pick (same-bytes w (ascii "response")) response-code
     (pick (same-bytes w (ascii "shared")) (ret shared) (ret regular)))
 
 unfoldable pub struct-type-of : Option Word → Parser StructType
 struct-type-of none = ret regular
-struct-type-of (some w) = struct-kind (bytesOf w)
+struct-type-of (some w) = type-by-word (bytesOf w)
 
--- `parse_struct_after_doc_maturity`, line 691: up to the fields
+-- `parse_struct_after_doc_maturity`, parser.rs line 693: up to the fields
 pub record StructHead : Type 0 where
   pub head-type : StructType
   pub head-scoped : ℕ
@@ -123,7 +123,7 @@ unfoldable pub struct-head : Parser StructHead
 struct-head = do
   k ← opt (any-keyword (ascii "request" ∷ ascii "response" ∷ ascii "shared" ∷ []))
   whitespace0
-  q ← set-flags 1
+  q ← set-flags struct-set
   whitespace0
   keyword (ascii "struct")
   whitespace1

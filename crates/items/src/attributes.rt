@@ -6,20 +6,24 @@ ghost use Prim.Native.Nat.{_+_, _≤_};
 ghost use lib.ListN.{length};
 ghost use Rattle.lexing.specs.words.{isKey, keyword, any-keyword};
 ghost use Rattle.lexing.specs.answers.{docOf};
-ghost use Rattle.items.specs.layout.{text-limit, layout-20, catalogue-bytes};
+ghost use Rattle.items.specs.layout.{text-limit, layout, catalogue-bytes};
 ghost use Rattle.lexing.specs.buffers.{put};
-ghost use Rattle.items.specs.records.{attribute-records};
+ghost use Rattle.items.specs.records.{attribute-records, attribute-kind};
 ghost use Rattle.items.specs.answers.{FrontFits, Room, Written};
 ghost use Rattle.items.specs.members.{parse-attribute-after-doc-maturity};
-ghost use Rattle.items.specs.answers.attributes.{PrivilegesTo, privilegesLost, AttributeCountTo};
-ghost use Rattle.items.specs.inner.attributes.{access-words, operation-of, OperationTo, grantsWith, grantsSmall, EntryTo, EntriesTo, AttributeHeadSmall, AttributeHeadTo, attributeHeadLost, attribute-first};
+ghost use Rattle.items.specs.inner.attributes.{PrivilegesTo, privilegesLost, AttributeCountTo, access-words, operation-of, OperationTo, grantsWith, grantsSmall, AccessEntryTo, AccessEntriesTo, AttributeHeadSmall, AttributeHeadTo, attributeHeadLost, attribute-first};
+ghost use Rattle.items.specs.inner.writing.{room-for};
 use crate::counts::Count;
-use crate::members::Level;
-use crate::members::colon_privilege;
-use crate::structs::StructFieldRead;
-use crate::structs::closed_field;
-use crate::structs::put_field;
-use crate::structs::struct_field_lost;
+use crate::fields::StructFieldRead;
+use crate::fields::closed_field;
+use crate::fields::put_field;
+use crate::fields::struct_field_lost;
+use crate::layout::ATTRIBUTE;
+use crate::layout::ATTRIBUTE_BYTES;
+use crate::layout::WHOLE_ATTRIBUTE_BYTES;
+use crate::layout::WHOLE_ATTRIBUTE_WORDS;
+use crate::levels::Level;
+use crate::levels::colon_privilege;
 use crate::writing::First;
 use crate::writing::FrontParts;
 use crate::writing::Wrote;
@@ -30,11 +34,13 @@ use lexing::answers::Step;
 use lexing::answers::step_lost;
 use lexing::answers::stop_by;
 use lexing::bytes::lower_of;
+use lexing::names::Named;
 use lexing::parts::peek;
 use lexing::parts::rest_at;
 use lexing::steps::blank_at;
 use lexing::steps::gap_at;
 use lexing::steps::tag_behind;
+use lexing::word_sets::ATTRIBUTE_SET;
 use lexing::word_sets::is_lower;
 use lexing::word_sets::keywords_set;
 use lexing::words::keyword;
@@ -76,7 +82,7 @@ enum Grants {
 }
 
 // What entries have granted, and the offset behind them.
-struct Entries {
+struct AccessEntries {
     grants: Grants,
     next: usize,
 }
@@ -126,12 +132,12 @@ fn grants_with(grants: Grants, operation: Operation, privilege: u8, at: usize) -
 }
 
 // An entry more. Where it is not there whole, nothing is read and nothing granted.
-fn access_entry(part: &[u8], base: usize, grants: Grants) -> Entries
+fn access_entry(part: &[u8], base: usize, grants: Grants) -> AccessEntries
     requires { ⌜ base + length (now part) ≤ text-limit ⌝ }
     requires { ⌜ grantsSmall grants ⌝ }
-    ensures { λ r. ⌜ EntryTo grants r base (now (part .entry)) ⌝ }
+    ensures { λ r. ⌜ AccessEntryTo grants r base (now (part .entry)) ⌝ }
 {
-    let absent = Entries { grants, next: base };
+    let absent = AccessEntries { grants, next: base };
     let c1 = blank_at(part, base, base);
     let word = access_word(rest_at(part, base, c1), c1);
     let OperationRead::Named(operation, c2) = word else {
@@ -144,13 +150,13 @@ fn access_entry(part: &[u8], base: usize, grants: Grants) -> Entries
     };
     let next = blank_at(part, base, c4);
     let more = grants_with(grants, operation, privilege, c1);
-    Entries { grants: more, next }
+    AccessEntries { grants: more, next }
 }
 
-// Entries with commas between them; there may be none. The blanks behind a comma are those before an entry.
-fn access_entries(part: &[u8], base: usize) -> Entries
+// AccessEntries with commas between them; there may be none. The blanks behind a comma are those before an entry.
+fn access_entries(part: &[u8], base: usize) -> AccessEntries
     requires { ⌜ base + length (now part) ≤ text-limit ⌝ }
-    ensures { λ r. ⌜ EntriesTo r base (now (part .entry)) ⌝ }
+    ensures { λ r. ⌜ AccessEntriesTo r base (now (part .entry)) ⌝ }
 {
     let mut grants = Grants::Granted(0, 1);
     let mut end = base;
@@ -158,13 +164,13 @@ fn access_entries(part: &[u8], base: usize) -> Entries
     loop {
         let entry = access_entry(rest_at(part, base, c), c, grants);
         if entry.next == c {
-            return Entries { grants, next: end };
+            return AccessEntries { grants, next: end };
         }
         grants = entry.grants;
         end = entry.next;
         let comma = tag_behind(part, base, end, b',');
         let Step::Next(next) = comma else {
-            return Entries { grants, next: end };
+            return AccessEntries { grants, next: end };
         };
         c = next;
     }
@@ -183,7 +189,7 @@ pub fn attribute_access(part: &[u8], base: usize) -> PrivilegesRead
             return absent;
         }
     }
-    // In place, and not by `access_opening`, which then is called at one place and copied there.
+    // Read in place.
     let c1 = blank_at(part, base, base);
     let word = keyword(rest_at(part, base, c1), c1, b"access");
     let Step::Next(c2) = word else {
@@ -221,7 +227,7 @@ fn attribute_head(part: &[u8], base: usize) -> AttributeHeadRead
     ensures { λ r. ⌜ AttributeHeadTo r base (now (part .entry)) ⌝ }
 {
     let part = &part[..];
-    let q = keywords_set(part, base, 4);
+    let q = keywords_set(part, base, ATTRIBUTE_SET);
     let c1 = blank_at(part, base, q.next);
     let attribute = keyword(rest_at(part, base, c1), c1, b"attribute");
     let Step::Next(c2) = attribute else {
@@ -253,7 +259,7 @@ fn attribute_head_lost(r: AttributeHeadRead) -> Lost
 }
 
 // The first pass over an attribute: two words, and the four of its field.
-pub fn parse_attribute_after_doc_maturity(part: &[u8], base: usize) -> Count
+pub fn count_attribute(part: &[u8], base: usize) -> Count
     requires { ⌜ base + length (now part) ≤ text-limit ⌝ }
     ensures { λ r. ⌜ AttributeCountTo r base (now (part .entry)) ⌝ }
 {
@@ -265,27 +271,27 @@ pub fn parse_attribute_after_doc_maturity(part: &[u8], base: usize) -> Count
     let StructFieldRead::StructField(_, c2) = r else {
         return Count::NoCount(struct_field_lost(r));
     };
-    Count::Words(6, c2)
+    Count::Words(WHOLE_ATTRIBUTE_WORDS, c2)
 }
 
 // The first record of an attribute.
 fn put_attribute(out: &mut [u8], at: usize, front: FrontParts, head: AttributeHeadParts)
-    requires { ⌜ at + 16 ≤ length (now out) ⌝ }
+    requires { ⌜ at + room-for attribute-kind ≤ length (now out) ⌝ }
     requires { ⌜ FrontFits front ⌝ }
     requires { ⌜ AttributeHeadSmall head ⌝ }
-    ensures { λ _. ⌜ now (out .exit) ≡ put at (catalogue-bytes layout-20 (attribute-first front head ∷ [])) (now (out .entry)) ⌝ }
+    ensures { λ _. ⌜ now (out .exit) ≡ put at (catalogue-bytes layout (attribute-first front head ∷ [])) (now (out .entry)) ⌝ }
 {
     let doc = front.doc;
     let first = First {
-        kind: 7,
+        kind: ATTRIBUTE,
         place: 0,
         maturity: front.maturity,
-        documented: doc_bit(doc),
+        doc_present: doc_bit(doc),
         flags: head.flags * 8,
         name: 0,
-        size: 0,
-        privilege: head.read,
-        further: head.write,
+        name_length: 0,
+        first_privilege: head.read,
+        second_privilege: head.write,
     };
     put_documented(out, at, first, doc);
 }
@@ -312,10 +318,10 @@ pub fn write_attribute(
     let StructFieldRead::StructField(field, c2) = r else {
         return nothing;
     };
-    put_field(out, at + 16, field);
+    put_field(out, at + ATTRIBUTE_BYTES, field);
     put_attribute(out, at, front, h);
     Wrote {
         next: c2,
-        to: at + 48,
+        to: at + WHOLE_ATTRIBUTE_BYTES,
     }
 }

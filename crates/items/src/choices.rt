@@ -7,15 +7,17 @@ ghost use Rattle.lexing.specs.words.{isKey};
 ghost use mathlib.Core.List.{[], _∷_};
 ghost use Rattle.lexing.specs.answers.{docOf};
 ghost use Rattle.items.specs.entries.{choice-after-doc-maturity};
-ghost use Rattle.items.specs.records.{choice-records};
-ghost use Rattle.items.specs.layout.{text-limit, layout-20, catalogue-bytes};
+ghost use Rattle.items.specs.records.{choice-records, enum-kind};
+ghost use Rattle.items.specs.layout.{text-limit, layout, catalogue-bytes};
 ghost use Rattle.lexing.specs.buffers.{put};
 ghost use Rattle.items.specs.answers.{FrontFits, Room, Written};
-ghost use Rattle.items.specs.answers.choices.{ChoiceFrom, choiceHeadLost, ChoiceHeadBetween, ChoiceHeadTo, ChoiceCountTo};
-ghost use Rattle.items.specs.inner.choices.{choice-first};
+ghost use Rattle.items.specs.inner.choices.{ChoiceFrom, choiceHeadLost, ChoiceHeadBetween, ChoiceHeadTo, ChoiceCountTo, choice-first};
+ghost use Rattle.items.specs.inner.writing.{room-for};
 use crate::counts::Count;
-use crate::entries::constant_entries_list;
+use crate::entries::count_entries_list;
 use crate::entries::write_entries_list;
+use crate::layout::CHOICE_BYTES;
+use crate::layout::CHOICE_WORDS;
 use crate::writing::First;
 use crate::writing::FrontParts;
 use crate::writing::Wrote;
@@ -36,7 +38,7 @@ use lexing::steps::blank_at;
 use lexing::steps::tag_behind;
 use lexing::words::id_at;
 
-// Up to the entries: whether it is shared, and the offsets of its name and of its base type and behind them. The order of the fields is as in structs::FieldParts.
+// Up to the entries: whether it is shared, and the offsets of its name and of its base type and behind them.
 pub struct ChoiceHeadParts {
     pub shared: bool,
     pub name: usize,
@@ -63,7 +65,7 @@ pub fn choice_head(part: &[u8], base: usize, from: usize, key: &[u8]) -> ChoiceH
     let Named::Name(name, end, c1) = named else {
         return ChoiceHeadRead::NoChoiceHead(named_lost(named));
     };
-    // In place, and not by `type_behind`, which then is called at one place and copied there.
+    // Read in place.
     let colon = tag_behind(part, base, c1, b':');
     let Step::Next(c2) = colon else {
         return ChoiceHeadRead::NoChoiceHead(step_lost(colon));
@@ -96,7 +98,7 @@ pub fn choice_head_lost(r: ChoiceHeadRead) -> Lost
 }
 
 // The first pass over an enum or a bitmap: three words, and those of its entries.
-pub fn choice_after_doc_maturity(part: &[u8], base: usize, from: usize, key: &[u8]) -> Count
+pub fn count_choice(part: &[u8], base: usize, from: usize, key: &[u8]) -> Count
     requires { ⌜ base + length (now part) ≤ text-limit ⌝ }
     requires { ⌜ ChoiceFrom from base (now part) ⌝ }
     requires { ⌜ isKey (now key) ≡ true ⌝ }
@@ -108,31 +110,31 @@ pub fn choice_after_doc_maturity(part: &[u8], base: usize, from: usize, key: &[u
     let ChoiceHeadRead::ChoiceHead(_, c1) = head else {
         return Count::NoCount(choice_head_lost(head));
     };
-    let run = constant_entries_list(rest_at(part, base, c1), c1);
+    let run = count_entries_list(rest_at(part, base, c1), c1);
     let Count::Words(n, c2) = run else {
         return run;
     };
-    Count::Words(n + 3, c2)
+    Count::Words(n + CHOICE_WORDS, c2)
 }
 
 // The first record of an enum or a bitmap, by its kind.
 fn put_choice(out: &mut [u8], at: usize, front: FrontParts, head: ChoiceHeadParts)
-    requires { ⌜ at + 24 ≤ length (now out) ⌝ }
+    requires { ⌜ at + room-for enum-kind ≤ length (now out) ⌝ }
     requires { ⌜ FrontFits front ⌝ }
     requires { ⌜ ChoiceHeadBetween 0 head text-limit ⌝ }
-    ensures { λ _. ⌜ now (out .exit) ≡ put at (catalogue-bytes layout-20 (choice-first front head ∷ [])) (now (out .entry)) ⌝ }
+    ensures { λ _. ⌜ now (out .exit) ≡ put at (catalogue-bytes layout (choice-first front head ∷ [])) (now (out .entry)) ⌝ }
 {
     let doc = front.doc;
     let first = First {
         kind: front.kind,
         place: front.place,
         maturity: front.maturity,
-        documented: doc_bit(doc),
+        doc_present: doc_bit(doc),
         flags: flag(head.shared) * 64,
         name: head.name,
-        size: head.end - head.name,
-        privilege: 0,
-        further: 0,
+        name_length: head.end - head.name,
+        first_privilege: 0,
+        second_privilege: 0,
     };
     let base = span_word(head.base_at, head.base_end - head.base_at);
     put_three(out, at, first_word(first), doc_word(doc), base);
@@ -161,7 +163,7 @@ pub fn write_choice(
     let ChoiceHeadRead::ChoiceHead(h, c) = head else {
         return Wrote { next: base, to: at };
     };
-    let w = write_entries_list(rest_at(part, base, c), c, out, at + 24);
+    let w = write_entries_list(rest_at(part, base, c), c, out, at + CHOICE_BYTES);
     put_choice(out, at, front, h);
     w
 }

@@ -1,10 +1,10 @@
 // The first pass: how many words the records of a declaration take.
 ghost use mathlib.Core.Path.{_≡_};
-ghost use Prim.Native.Nat.{_+_, _≤_};
+ghost use Prim.Native.Nat.{_+_, _≤_, max};
 ghost use lib.ListN.{length};
 ghost use Rattle.items.specs.layout.{text-limit};
 ghost use Rattle.items.specs.answers.{countLost, countEnd};
-ghost use Rattle.items.specs.inner.counts.{EndsIn, ClosedTo};
+ghost use Rattle.items.specs.inner.counts.{EndsIn, ClosedTo, lostNoEarlier, failNoEarlier};
 use lexing::answers::Lost;
 use lexing::answers::Step;
 use lexing::answers::step_lost;
@@ -49,4 +49,37 @@ pub fn closed(part: &[u8], base: usize, run: Count) -> Count
         return Count::NoCount(step_lost(close));
     };
     Count::Words(n, c2)
+}
+
+// The later of two places.
+fn later(p: usize, q: usize) -> usize
+    ensures { λ r. ⌜ r ≡ max p q ⌝ }
+{
+    if p < q {
+        return q;
+    }
+    p
+}
+
+// What is lost, its place no nearer than the furthest so far.
+pub fn lost_no_earlier(l: Lost, q: usize) -> Lost
+    ensures { λ x. ⌜ x ≡ lostNoEarlier l q ⌝ }
+{
+    if l.cause != 0 {
+        return l;
+    }
+    Lost {
+        cause: 0,
+        place: later(l.place, q),
+    }
+}
+
+// A count that is lost no earlier than at a place.
+pub fn fail_no_earlier(r: Count, place: usize) -> Count
+    ensures { λ x. ⌜ x ≡ failNoEarlier r place ⌝ }
+{
+    let Count::NoCount(l) = r else {
+        return r;
+    };
+    Count::NoCount(lost_no_earlier(l, place))
 }

@@ -6,31 +6,34 @@ ghost use lib.ListN.{length};
 ghost use Rattle.lexing.specs.reply.{opt, many0};
 ghost use Rattle.lexing.specs.words.{tag};
 ghost use Rattle.items.specs.entries.{constant-annotation, blank-annotation, annotations-in-brackets, constant-annotations-list, constant-entry, constant-entries, constant-entries-list};
-ghost use Rattle.items.specs.records.{entry-record};
-ghost use Rattle.items.specs.layout.{layout-20, catalogue-bytes, text-limit};
+ghost use Rattle.items.specs.records.{entry-record, entry-kind};
+ghost use Rattle.items.specs.layout.{layout, catalogue-bytes, text-limit};
 ghost use Rattle.lexing.specs.buffers.{put};
 ghost use Rattle.lexing.specs.answers.{Skips};
 ghost use Rattle.items.specs.answers.{CountTo, Room, Written};
-ghost use Rattle.items.specs.answers.entries.{EntryTo, entryLost};
-ghost use Rattle.items.specs.inner.entries.{EndTo, parts-record};
+ghost use Rattle.items.specs.inner.entries.{EntryTo, entryLost, EndTo, parts-record};
+ghost use Rattle.items.specs.inner.writing.{room-for};
 use crate::counts::Count;
 use crate::counts::closed;
 use crate::counts::count_end;
+use crate::layout::ENTRY;
+use crate::layout::ENTRY_BYTES;
+use crate::layout::ENTRY_WORDS;
 use crate::maturity::maturity_between;
 use crate::writing::First;
 use crate::writing::Wrote;
 use crate::writing::first_word;
 use lexing::answers::Lost;
 use lexing::answers::Step;
+use lexing::answers::optional;
 use lexing::answers::step_lost;
 use lexing::buffers::put_two;
 use lexing::integers::Number;
 use lexing::integers::number_lost;
 use lexing::names::Named;
-use lexing::names::code_at;
+use lexing::names::blank_word;
+use lexing::names::equals_code;
 use lexing::names::named_lost;
-use lexing::names::word_behind;
-use lexing::optional::optional;
 use lexing::parts::rest_at;
 use lexing::steps::blank_at;
 use lexing::steps::tag_behind;
@@ -62,7 +65,7 @@ pub fn constant_annotation(part: &[u8], base: usize) -> Step
     requires { ⌜ base + length (now part) ≤ text-limit ⌝ }
     ensures { λ r. ⌜ Skips constant-annotation r base (now (part .entry)) ⌝ }
 {
-    let key = word_behind(part, base, base);
+    let key = blank_word(part, base, base);
     let Named::Name(_, _, c1) = key else {
         return Step::Not(named_lost(key));
     };
@@ -142,7 +145,7 @@ pub fn constant_entry(part: &[u8], base: usize) -> EntryRead
         return EntryRead::NoEntry(step_lost(name));
     };
     let equals = blank_at(part, base, end);
-    let value = code_at(part, base, equals);
+    let value = equals_code(part, base, equals);
     let Number::Value(code, c) = value else {
         return EntryRead::NoEntry(number_lost(value));
     };
@@ -181,12 +184,12 @@ pub fn count_entries(part: &[u8], base: usize) -> Count
             return count_end(entry_lost(r), n, c);
         };
         c = next;
-        n = n + 2;
+        n += ENTRY_WORDS;
     }
 }
 
 // The entries between braces.
-pub fn constant_entries_list(part: &[u8], base: usize) -> Count
+pub fn count_entries_list(part: &[u8], base: usize) -> Count
     requires { ⌜ base + length (now part) ≤ text-limit ⌝ }
     ensures { λ r. ⌜ CountTo (map entry-record) constant-entries-list r base (now (part .entry)) ⌝ }
 {
@@ -200,22 +203,22 @@ pub fn constant_entries_list(part: &[u8], base: usize) -> Count
 
 // The two words of an entry's record.
 fn put_entry(out: &mut [u8], at: usize, e: EntryParts)
-    requires { ⌜ at + 16 ≤ length (now out) ⌝ }
+    requires { ⌜ at + room-for entry-kind ≤ length (now out) ⌝ }
     requires { ⌜ e .maturity < 4 ⌝ }
     requires { ⌜ e .name ≤ e .end ⌝ }
     requires { ⌜ e .end ≤ text-limit ⌝ }
-    ensures { λ _. ⌜ now (out .exit) ≡ put at (catalogue-bytes layout-20 (parts-record e ∷ [])) (now (out .entry)) ⌝ }
+    ensures { λ _. ⌜ now (out .exit) ≡ put at (catalogue-bytes layout (parts-record e ∷ [])) (now (out .entry)) ⌝ }
 {
     let first = First {
-        kind: 4,
+        kind: ENTRY,
         place: 0,
         maturity: e.maturity,
-        documented: 0,
+        doc_present: 0,
         flags: 0,
         name: e.name,
-        size: e.end - e.name,
-        privilege: 0,
-        further: 0,
+        name_length: e.end - e.name,
+        first_privilege: 0,
+        second_privilege: 0,
     };
     put_two(out, at, first_word(first), e.code);
 }
@@ -235,7 +238,7 @@ pub fn write_entries(part: &[u8], base: usize, out: &mut [u8], at: usize) -> Wro
         };
         put_entry(out, to, e);
         c = next;
-        to = to + 16;
+        to += ENTRY_BYTES;
     }
 }
 

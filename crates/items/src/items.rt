@@ -7,25 +7,27 @@ ghost use Rattle.lexing.specs.words.{any-keyword};
 ghost use Rattle.lexing.specs.blanks.{no-doc, whitespace0};
 ghost use Rattle.lexing.specs.answers.{docOf};
 ghost use Rattle.items.specs.layout.{text-limit};
-ghost use Rattle.items.specs.items.{declaration, item};
+ghost use Rattle.items.specs.answers.items.{declaration, unhoisted-item, DeclarationCountTo};
+ghost use Rattle.items.specs.items.{item};
 ghost use Rattle.items.specs.answers.{CountTo, DocFits, Room, Written};
-ghost use Rattle.items.specs.answers.items.{unhoisted-item, DeclarationCountTo};
-ghost use Rattle.items.specs.inner.clusters.{found};
-ghost use Rattle.items.specs.inner.items.{cluster-words, typeKind, declaration-try, DeclarationFrom, KindCountTo, StartTo};
-use crate::choices::choice_after_doc_maturity;
+ghost use Rattle.items.specs.inner.member_kinds.{is-ok};
+ghost use Rattle.items.specs.inner.items.{cluster-starts, typeKind, declaration-try, DeclarationFrom, KindCountTo, StartTo};
+use crate::choices::count_choice;
 use crate::choices::write_choice;
-use crate::clusters::MemberKind;
-use crate::clusters::cluster_after_doc_maturity;
-use crate::clusters::member_kind;
-use crate::clusters::raise;
-use crate::clusters::starts;
+use crate::clusters::count_cluster;
 use crate::clusters::write_cluster;
 use crate::counts::Count;
 use crate::counts::count_end;
-use crate::endpoints::endpoint;
+use crate::counts::fail_no_earlier;
+use crate::endpoints::count_endpoint;
 use crate::endpoints::write_endpoint;
+use crate::layout::BITMAP;
+use crate::layout::ENUM;
 use crate::maturity::maturity_blank;
-use crate::structs::parse_struct_after_doc_maturity;
+use crate::member_kinds::MemberKind;
+use crate::member_kinds::member_kind;
+use crate::member_kinds::starts;
+use crate::structs::count_struct;
 use crate::structs::write_struct;
 use crate::writing::FrontParts;
 use crate::writing::Wrote;
@@ -47,7 +49,7 @@ pub enum DeclarationKind {
 // How a declaration starts: the one try that its first word leaves, the furthest place at which the others fail, its maturity, where the try stands and, behind `shared`, where it goes on.
 pub struct DeclarationStart {
     pub kind: DeclarationKind,
-    pub floor: usize,
+    pub others_fail_at: usize,
     pub maturity: u8,
     pub next: usize,
     pub from: usize,
@@ -55,7 +57,7 @@ pub struct DeclarationStart {
 
 fn starts_cluster(part: &[u8], base: usize) -> bool
     requires { ⌜ base + length (now part) ≤ text-limit ⌝ }
-    ensures { λ r. ⌜ r ≡ found (any-keyword cluster-words base (now (part .entry))) ⌝ }
+    ensures { λ r. ⌜ r ≡ is-ok (any-keyword cluster-starts base (now (part .entry))) ⌝ }
 {
     if starts(part, base, b"client") {
         return true;
@@ -92,7 +94,7 @@ fn declaration_start(part: &[u8], base: usize) -> DeclarationStart
     if starts(part, base, b"endpoint") {
         return DeclarationStart {
             kind: DeclarationKind::Endpoint,
-            floor: base,
+            others_fail_at: base,
             maturity: 0,
             next: base,
             from: base,
@@ -103,7 +105,7 @@ fn declaration_start(part: &[u8], base: usize) -> DeclarationStart
     if starts_cluster(rest_at(part, base, c), c) {
         return DeclarationStart {
             kind: DeclarationKind::Cluster,
-            floor: c,
+            others_fail_at: c,
             maturity: m.level,
             next: c,
             from: c,
@@ -113,7 +115,7 @@ fn declaration_start(part: &[u8], base: usize) -> DeclarationStart
     let kind = k.kind;
     DeclarationStart {
         kind: type_kind(kind),
-        floor: k.floor,
+        others_fail_at: k.others_fail_at,
         maturity: m.level,
         next: c,
         from: k.from,
@@ -121,7 +123,7 @@ fn declaration_start(part: &[u8], base: usize) -> DeclarationStart
 }
 
 // The first pass over a declaration of a kind.
-fn count_declaration(part: &[u8], s: DeclarationStart) -> Count
+fn count_declaration_of_kind(part: &[u8], s: DeclarationStart) -> Count
     requires { ⌜ s .next + length (now part) ≤ text-limit ⌝ }
     requires { ⌜ DeclarationFrom (s .kind) (s .from) (s .next) (now part) ⌝ }
     ensures { λ r. ⌜ KindCountTo (s .kind) r (s .next) (now (part .entry)) ⌝ }
@@ -129,11 +131,11 @@ fn count_declaration(part: &[u8], s: DeclarationStart) -> Count
     let base = s.next;
     let kind = s.kind;
     match kind {
-        DeclarationKind::Cluster => cluster_after_doc_maturity(part, base),
-        DeclarationKind::Endpoint => endpoint(part, base),
-        DeclarationKind::Enum => choice_after_doc_maturity(part, base, s.from, b"enum"),
-        DeclarationKind::Bitmap => choice_after_doc_maturity(part, base, s.from, b"bitmap"),
-        DeclarationKind::Struct => parse_struct_after_doc_maturity(part, base, s.from),
+        DeclarationKind::Cluster => count_cluster(part, base),
+        DeclarationKind::Endpoint => count_endpoint(part, base),
+        DeclarationKind::Enum => count_choice(part, base, s.from, b"enum"),
+        DeclarationKind::Bitmap => count_choice(part, base, s.from, b"bitmap"),
+        DeclarationKind::Struct => count_struct(part, base, s.from),
         DeclarationKind::Unknown => Count::NoCount(Lost {
             cause: 0,
             place: base,
@@ -142,24 +144,24 @@ fn count_declaration(part: &[u8], s: DeclarationStart) -> Count
 }
 
 // The first pass over a declaration, where no blank stands before it.
-pub fn declaration(part: &[u8], base: usize) -> Count
+pub fn count_declaration(part: &[u8], base: usize) -> Count
     requires { ⌜ base + length (now part) ≤ text-limit ⌝ }
     requires { ⌜ whitespace0 base (now part) ≡ ok no-doc base (now part) ⌝ }
     ensures { λ r. ⌜ DeclarationCountTo r base (now (part .entry)) ⌝ }
 {
     let s = declaration_start(part, base);
-    let r = count_declaration(rest_at(part, base, s.next), s);
-    raise(r, s.floor)
+    let r = count_declaration_of_kind(rest_at(part, base, s.next), s);
+    fail_no_earlier(r, s.others_fail_at)
 }
 
 // The first pass over an item: blanks with no declaration behind them are one.
-pub fn item(part: &[u8], base: usize) -> Count
+pub fn count_item(part: &[u8], base: usize) -> Count
     requires { ⌜ base + length (now part) ≤ text-limit ⌝ }
     ensures { λ r. ⌜ CountTo unhoisted-item item r base (now (part .entry)) ⌝ }
 {
     let w = whitespace0(part, base);
     let c = w.next;
-    let r = declaration(rest_at(part, base, c), c);
+    let r = count_declaration(rest_at(part, base, c), c);
     let Count::NoCount(l) = r else {
         return r;
     };
@@ -170,7 +172,13 @@ pub fn item(part: &[u8], base: usize) -> Count
 }
 
 // The second pass over a declaration of a kind. A type at the top is global.
-fn write_kind(part: &[u8], s: DeclarationStart, doc: DocSpan, out: &mut [u8], at: usize) -> Wrote
+fn write_declaration_of_kind(
+    part: &[u8],
+    s: DeclarationStart,
+    doc: DocSpan,
+    out: &mut [u8],
+    at: usize,
+) -> Wrote
     requires { ⌜ s .next + length (now part) ≤ text-limit ⌝ }
     requires { ⌜ DeclarationFrom (s .kind) (s .from) (s .next) (now part) ⌝ }
     requires { ⌜ DocFits doc ⌝ }
@@ -183,7 +191,7 @@ fn write_kind(part: &[u8], s: DeclarationStart, doc: DocSpan, out: &mut [u8], at
     let maturity = s.maturity;
     // Only an enum and a bitmap take their record's kind from it, and a cluster has no place.
     let front = FrontParts {
-        kind: 2,
+        kind: ENUM,
         place: 1,
         doc,
         maturity,
@@ -194,7 +202,7 @@ fn write_kind(part: &[u8], s: DeclarationStart, doc: DocSpan, out: &mut [u8], at
         DeclarationKind::Enum => write_choice(part, base, s.from, b"enum", front, out, at),
         DeclarationKind::Bitmap => {
             let front = FrontParts {
-                kind: 3,
+                kind: BITMAP,
                 place: 1,
                 doc,
                 maturity,
@@ -215,5 +223,5 @@ pub fn write_declaration(part: &[u8], base: usize, doc: DocSpan, out: &mut [u8],
     ensures { λ r. ⌜ Written unhoisted-item (declaration (docOf doc)) base (now (part .entry)) at r (now (out .entry)) (now (out .exit)) ⌝ }
 {
     let s = declaration_start(part, base);
-    write_kind(rest_at(part, base, s.next), s, doc, out, at)
+    write_declaration_of_kind(rest_at(part, base, s.next), s, doc, out, at)
 }

@@ -72,7 +72,7 @@ fn is_initial(x: u8) -> bool
     }
 }
 
-// A maturity and the blanks behind it. It is called at two places, so that it stays a function of its own and what is left of `maturity_between` is short.
+// A maturity and the blanks behind it: what is left behind the short front of `maturity_between`.
 pub fn maturity_blank(part: &[u8], base: usize) -> Maturity
     requires { ⌜ base + length (now part) ≤ u64-max ⌝ }
     ensures { λ r. ⌜ MaturityTo maturity-blank r base (now (part .entry)) ⌝ }

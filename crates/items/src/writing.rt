@@ -7,6 +7,16 @@ ghost use Rattle.lexing.specs.word_sets.{bit};
 ghost use Rattle.lexing.specs.buffers.{put, words-bytes};
 ghost use Rattle.items.specs.layout.{text-limit};
 ghost use Rattle.items.specs.answers.{Fits, first-of, spanWord, DocFits, docWord, docBit};
+use crate::layout::DOC_UNIT;
+use crate::layout::FIRST_PRIVILEGE_UNIT;
+use crate::layout::FLAGS_UNIT;
+use crate::layout::KIND_UNIT;
+use crate::layout::LENGTH_UNIT;
+use crate::layout::MATURITY_UNIT;
+use crate::layout::NAME_UNIT;
+use crate::layout::PLACE_UNIT;
+use crate::layout::SPAN_LENGTH_UNIT;
+use crate::layout::SPAN_OFFSET_UNIT;
 use lexing::blanks::DocSpan;
 use lexing::buffers::put_two;
 
@@ -15,12 +25,12 @@ pub struct First {
     pub kind: u8,
     pub place: u8,
     pub maturity: u8,
-    pub documented: u8,
+    pub doc_present: u8,
     pub flags: u8,
     pub name: usize,
-    pub size: usize,
-    pub privilege: u8,
-    pub further: u8,
+    pub name_length: usize,
+    pub first_privilege: u8,
+    pub second_privilege: u8,
 }
 
 // Where reading and writing stand.
@@ -33,15 +43,15 @@ pub fn first_word(f: First) -> u64
     requires { ⌜ Fits f ⌝ }
     ensures { λ r. ⌜ r ≡ first-of f ⌝ }
 {
-    f.kind as u64 * 0x100_0000_0000_0000
-        + f.place as u64 * 0x40_0000_0000_0000
-        + f.maturity as u64 * 0x10_0000_0000_0000
-        + f.documented as u64 * 0x8_0000_0000_0000
-        + f.flags as u64 * 0x1000_0000_0000
-        + f.name as u64 * 0x100_0000
-        + f.size as u64 * 16
-        + f.privilege as u64 * 4
-        + f.further as u64
+    f.kind as u64 * KIND_UNIT
+        + f.place as u64 * PLACE_UNIT
+        + f.maturity as u64 * MATURITY_UNIT
+        + f.doc_present as u64 * DOC_UNIT
+        + f.flags as u64 * FLAGS_UNIT
+        + f.name as u64 * NAME_UNIT
+        + f.name_length as u64 * LENGTH_UNIT
+        + f.first_privilege as u64 * FIRST_PRIVILEGE_UNIT
+        + f.second_privilege as u64
 }
 
 // What stands before a declaration, and its record's kind and place.
@@ -58,7 +68,7 @@ pub fn span_word(offset: usize, size: usize) -> u64
     requires { ⌜ size ≤ text-limit ⌝ }
     ensures { λ r. ⌜ r ≡ spanWord offset size ⌝ }
 {
-    offset as u64 * 0x1000_0000_0000 + size as u64 * 0x100_0000
+    offset as u64 * SPAN_OFFSET_UNIT + size as u64 * SPAN_LENGTH_UNIT
 }
 
 pub fn doc_word(doc: DocSpan) -> u64

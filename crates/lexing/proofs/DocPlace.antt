@@ -1,14 +1,15 @@
 -- The doc comment of a run of blanks stands in the run.
-use mathlib.Core.Path.{_≡_, refl, sym, ap, _∙_}
+use mathlib.Core.Path.{_≡_, refl, sym}
 use mathlib.Core.Bool.{Bool, true, false, _&&_}
 use mathlib.Core.List.{List, [], _∷_}
 use Prim.Native.Nat.{ℕ, zero, suc, _+_, _-_, _≤_}
 use native.Mathlib.Omega.{arith}
 use lib.Dec.{eqb}
 use lib.ListN.{length, drop}
-use Rattle.lexing.specs.bytes.{slash, star, isSpace, inLine, takeWhile, dropWhile}
-use Rattle.lexing.specs.reply.{Reply, ok, fail, stop, Parser, ret, _>>=_, catch, iterWithin, iter, keep}
-use Rattle.lexing.specs.blanks.{Whitespace, white, plain, doc-comment, line-comment, Until, found, never, until-close, comment-kind, closed, block-comment, multispace1, whitespace-group, Doc, no-doc, doc-at, after, one-blank, whitespace0}
+use Rattle.lexing.specs.bytes.{slash, star, isSpace, inLine}
+use Rattle.lexing.specs.runs.{take-while1, tag2}
+use Rattle.lexing.specs.reply.{Reply, ok, fail, stop, Parser, ret, _>>=_, _>>_, catch, iterWithin, iter, keep}
+use Rattle.lexing.specs.blanks.{Whitespace, white, plain, doc-comment, line-comment, Until, found, never, until-close, comment-kind, closed, block-comment, multispace1, whitespace-group, Doc, no-doc, doc-at, doc-after, one-blank, whitespace0}
 use Rattle.lexing.specs.answers.{docOf, BlankTo}
 use Rattle.lexing.specs.declared.blanks.Blank.{Blank}
 use Rattle.lexing.proofs.Onward.{group-advances}
@@ -29,16 +30,18 @@ GroupEnds b (fail p) = Unit {0}
 GroupEnds b (stop n p) = Unit {0}
 
 -- one blank
-line-in : (b : ℕ) (u : List ℕ) → GroupEnds b (line-comment b u)
-unfolding line-comment
-line-in b [] = tt
-line-in b (x ∷ []) = tt
-line-in b (x ∷ y ∷ []) = tt
-line-in b (x ∷ y ∷ z ∷ u) = go (eqb x slash && (eqb y slash && inLine z))
+then-in : {A : Type 0} (m : Parser A) (k : Parser Whitespace) (b c : ℕ) (u : List ℕ) → ((d : ℕ) (r : List ℕ) → GroupEnds b (k d r)) → GroupEnds b ((m >> k) c u)
+unfolding _>>_ _>>=_
+then-in {A} m k b c u h = go (m c u) refl
   where
-    go : (t : Bool) → GroupEnds b (elim t [ true ↦ ok plain (b + (3 + length (takeWhile inLine u))) (dropWhile inLine u) | false ↦ fail b ])
-    go true = tt
-    go false = tt
+    go : (x : Reply A) → m c u ≡ x → GroupEnds b ((m >> k) c u)
+    go (ok a d r) e = rw (e, _>>_, _>>=_) (h d r)
+    go (fail p) e = rw (e, _>>_, _>>=_) tt
+    go (stop n p) e = rw (e, _>>_, _>>=_) tt
+
+line-in : (b : ℕ) (u : List ℕ) → GroupEnds b (line-comment b u)
+unfolding line-comment ret
+line-in b u = then-in (tag2 slash slash) (take-while1 inLine >> ret plain) b b u λ c r. then-in (take-while1 inLine) (ret plain) b c r λ d q. tt
 
 kind-in : (b n : ℕ) (v : List ℕ) → GroupIn b (b + (4 + n)) (comment-kind b n v)
 unfolding comment-kind
@@ -66,13 +69,8 @@ block-in b (x ∷ y ∷ v) = go (eqb x slash && eqb y star)
     go false = tt
 
 space-in : (b : ℕ) (u : List ℕ) → GroupEnds b (multispace1 b u)
-unfolding multispace1
-space-in b [] = tt
-space-in b (x ∷ u) = go (isSpace x)
-  where
-    go : (t : Bool) → GroupEnds b (elim t [ true ↦ ok white (b + suc (length (takeWhile isSpace u))) (dropWhile isSpace u) | false ↦ fail b ])
-    go true = tt
-    go false = tt
+unfolding multispace1 ret
+space-in b u = then-in (take-while1 isSpace) (ret white) b b u λ c r. tt
 
 catch-in : (m : Parser Whitespace) (k : ℕ → Parser Whitespace) (b : ℕ) (u : List ℕ) → GroupEnds b (m b u) → ((p : ℕ) → GroupEnds b (k p b u)) → GroupEnds b (catch m k b u)
 unfolding catch
@@ -96,8 +94,8 @@ later-in : (a b c : ℕ) (d : Doc) → b ≤ c → DocIn a b d → DocIn a c d
 later-in a b c no-doc h i = tt
 later-in a b c (doc-at o n) h i = (i .0, omega (arith, i .1))
 
-after-in : (a b c : ℕ) (g : Whitespace) (d : Doc) → b ≤ c → Holds a b d → GroupIn b c g → DocIn a c (after g d)
-unfolding after
+after-in : (a b c : ℕ) (g : Whitespace) (d : Doc) → b ≤ c → Holds a b d → GroupIn b c g → DocIn a c (doc-after g d)
+unfolding doc-after
 after-in a b c white d h i j = later-in a b c d h (i .held)
 after-in a b c plain d h i j = tt
 after-in a b c (doc-comment o n) d h i j = (omega (arith, i .from, j .0), j .1)
@@ -108,8 +106,8 @@ one-in a b u d e c r h q = go (whitespace-group b u) refl (group-in b u)
   where
     go : (x : Reply Whitespace) → whitespace-group b u ≡ x → GroupEnds b x → Holds a c e
     go (ok g c' r') z i =
-        let y : ok (after g d) c' r' ≡ ok e c r = rw (z, one-blank, _>>=_) at q in
-        let f : after g d ≡ e = cc in
+        let y : ok (doc-after g d) c' r' ≡ ok e c r = rw (z, one-blank, _>>=_) at q in
+        let f : doc-after g d ≡ e = cc in
         let l : c' ≡ c = cc in
         let up : b ≤ c' = omega (arith, (rw z at (group-advances .reads b u)) .2) in
         record { from = omega (arith, h .from, up, l); held = rw (← l, ← f) (after-in a b c' g d up h i) }

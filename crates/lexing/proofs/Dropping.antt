@@ -15,7 +15,7 @@ use Rattle.lexing.proofs.Onward.{Onward}
 use Rattle.lexing.proofs.Locality.{Consumes}
 use Rattle.lexing.proofs.Slicing.{Took, took, told-not, begin, on}
 use Rattle.lexing.proofs.Repetition.{ManyAt, manyEnd, many0-ends}
-use Rattle.lexing.proofs.optional.Laws.{optional-skips}
+use Rattle.lexing.proofs.answers.Laws.{optional-skips}
 
 -- the two ends of a sequence; a value of the right type where there is none
 pub skip-is : {A : Type 0} (m : Parser A) (v : A) (b c : ℕ) (u : List ℕ) → ok v c (drop (c - b) u) ≡ m b u → Skips m (Next c) b u

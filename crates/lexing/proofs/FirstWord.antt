@@ -9,10 +9,10 @@ use lib.Dec.{eqb}
 use lib.ListN.{length, getD}
 use borrow.Author.Tests.{eq-eqb, eqb-true, eqb-false, not-true}
 use Rattle.lexing.specs.bytes.{isLetter, isWord, lower, takeWhile}
-use Rattle.lexing.specs.reply.{Reply, ok, fail, stop, ret, _>>=_, _or_, further, iterWithin, iter, keep}
+use Rattle.lexing.specs.reply.{Reply, ok, fail, stop, ret, _>>=_, _or_, no-nearer, iterWithin, iter, keep, position, pick, failAt}
 use Rattle.lexing.specs.words.{Word, isKeyword, keyword, any-keyword}
-use Rattle.lexing.specs.blanks.{Whitespace, whitespace-group, Doc, no-doc, after, one-blank, whitespace0}
-use Rattle.lexing.specs.word_sets.{next-word, set-step, keywords-set, same-bytes, contains, bit, flags, set-of, set-flags}
+use Rattle.lexing.specs.blanks.{Whitespace, whitespace-group, Doc, no-doc, doc-after, one-blank, whitespace0, whitespace1}
+use Rattle.lexing.specs.word_sets.{next-word, set-step, keywords-set, same-bytes, contains, bit, flags, set-flags}
 use Rattle.lexing.specs.inner.word_sets.{initial}
 use Rattle.lexing.proofs.Tests.{and-left, and-right, or-false, false-if}
 use Rattle.lexing.proofs.TokenLocality.{one-blank-consumes, set-step-consumes}
@@ -57,16 +57,16 @@ Frees b u [] = Unit {0}
 Frees b u (j ∷ js) = (keyword j b u ≡ fail b) × Frees b u js
 
 pub free-keywords : (b : ℕ) (u : List ℕ) (js : List (List ℕ)) → Frees b u js → any-keyword js b u ≡ fail b
-unfolding any-keyword _or_ further
+unfolding any-keyword _or_ no-nearer
 free-keywords b u [] l = refl
 free-keywords b u (j ∷ js) l = let z : max b b ≡ b = omega arith in rw (l .0, _or_) (rw (free-keywords b u js (l .1)) (rw z))
 
-pub free-set : (b : ℕ) (u : List ℕ) (n : ℕ) → Frees b u (set-of n) → set-flags n b u ≡ ok 0 b u
+pub free-set : (b : ℕ) (u : List ℕ) (ks : List (List ℕ)) → Frees b u ks → set-flags ks b u ≡ ok 0 b u
 unfolding set-flags keywords-set set-step next-word keep _>>=_ ret
-free-set b u n l = rw (iter-fail (set-step (set-of n)) keep (set-step-consumes (set-of n)) [] b u b none, _>>=_) (ap (λ v. ok v b u) (no-flags (set-of n)))
+free-set b u ks l = rw (iter-fail (set-step ks) keep (set-step-consumes ks) [] b u b none, _>>=_) (ap (λ v. ok v b u) (no-flags ks))
   where
-    none : set-step (set-of n) [] b u ≡ fail b
-    none = rw (free-keywords b u (set-of n) l, set-step, next-word, _>>=_)
+    none : set-step ks [] b u ≡ fail b
+    none = rw (free-keywords b u ks l, set-step, next-word, _>>=_)
 
 -- a keyword that begins with another byte than the text, in lower case, is not there
 pub other-first : (x : ℕ) (k : List ℕ) (b : ℕ) (u : List ℕ) → (lower (getD u 0 0) ≡ x → ⊥) → keyword (x ∷ k) b u ≡ fail b
@@ -121,7 +121,7 @@ unfolding one-blank _>>=_ ret
 one-blank-fails d b u p e = go (whitespace-group b u) refl
   where
     go : (x : Reply Whitespace) → whitespace-group b u ≡ x → whitespace-group b u ≡ fail p
-    go (ok g c r) z = let y : ok (after g d) c r ≡ fail p = rw (z, one-blank, _>>=_) at e in let w : _≡_ {A = ℕ} 0 1 = cc in absurd (omega arith)
+    go (ok g c r) z = let y : ok (doc-after g d) c r ≡ fail p = rw (z, one-blank, _>>=_) at e in let w : _≡_ {A = ℕ} 0 1 = cc in absurd (omega arith)
     go (fail q) z = let y : _≡_ {A = Reply Doc} (fail q) (fail p) = rw (z, one-blank, _>>=_) at e in let v : q ≡ p = cc in z ∙ ap fail v
     go (stop n q) z = let y : stop n q ≡ fail p = rw (z, one-blank, _>>=_) at e in let w : _≡_ {A = ℕ} 0 1 = cc in absurd (omega arith)
 
@@ -144,3 +144,21 @@ unfolding whitespace0 iter one-blank _>>=_ keep
 blank-clear b u d c r e =
     let x = run-ends (suc (length u)) b u no-doc d c r (omega arith) e in
     iter-fail one-blank keep one-blank-consumes no-doc c r (x .0) (rw (x .1, one-blank, _>>=_) refl)
+
+-- nor behind a gap
+pub gap-clear : (b : ℕ) (u : List ℕ) (d : Doc) (c : ℕ) (r : List ℕ) → whitespace1 b u ≡ ok d c r → whitespace0 c r ≡ ok no-doc c r
+unfolding whitespace1 _>>=_ position pick failAt ret
+gap-clear b u d c r h = go (whitespace0 b u) refl
+  where
+    by : (e : Doc) (c' : ℕ) (r' : List ℕ) → whitespace0 b u ≡ ok e c' r' → (t : Bool) → eqb b c' ≡ t → whitespace0 c r ≡ ok no-doc c r
+    by e c' r' z true q = let i : fail b ≡ ok d c r = rw (q, pick) at (rw (z, whitespace1, _>>=_) at h) in let t : _≡_ {A = ℕ} 0 1 = cc in absurd (omega arith)
+    by e c' r' z false q =
+        let i : ok e c' r' ≡ ok d c r = rw (q, pick) at (rw (z, whitespace1, _>>=_) at h) in
+        let x : c' ≡ c = cc in
+        let y : r' ≡ r = cc in
+        rw (← x, ← y) (blank-clear b u e c' r' z)
+
+    go : (x : Reply Doc) → whitespace0 b u ≡ x → whitespace0 c r ≡ ok no-doc c r
+    go (ok e c' r') z = by e c' r' z (eqb b c') refl
+    go (fail p) z = let i : fail p ≡ ok d c r = rw (z, whitespace1, _>>=_) at h in let t : _≡_ {A = ℕ} 0 1 = cc in absurd (omega arith)
+    go (stop n p) z = let i : stop n p ≡ ok d c r = rw (z, whitespace1, _>>=_) at h in let t : _≡_ {A = ℕ} 0 1 = cc in absurd (omega arith)

@@ -4,13 +4,14 @@ use mathlib.Core.Path.{_≡_, refl}
 use mathlib.Core.Bool.{true, false}
 use mathlib.Core.List.{List, [], _∷_, map}
 use Prim.Native.String.{String}
+use Rattle.lexing.specs.runs.{take-while, take-while1, tag2}
 use Rattle.lexing.specs.bytes.{ascii, isLetter, isDigit, isHex, isWord, isSpace, inLine, within, lower, takeWhile, dropWhile, digit, number}
-use Rattle.lexing.specs.reply.{Reply, ok, fail, stop, Parser, ret, _>>=_, _>>_, _or_, further, catch, iter, iterWithin, keep, position, failAt, pick}
-use Rattle.lexing.specs.blanks.{no-doc, doc-at, after, line-comment, block-comment, multispace1, until-close, one-more, comment-kind, closed, whitespace-group, one-blank, whitespace0, whitespace1}
+use Rattle.lexing.specs.reply.{Reply, ok, fail, stop, Parser, ret, _>>=_, _>>_, _or_, no-nearer, catch, iter, iterWithin, keep, position, failAt, pick}
+use Rattle.lexing.specs.blanks.{no-doc, doc-at, doc-after, line-comment, block-comment, multispace1, until-close, one-more, comment-kind, closed, whitespace-group, one-blank, whitespace0, whitespace1}
 use Rattle.lexing.specs.words.{word, bytesOf, parse-id, isKeyword, keyword, any-keyword}
 use Rattle.lexing.specs.integers.{signed, fitting, hex-integer, decimal-integer, positive-integer, largest, in-range, after-sign, signed-integer}
 use Rattle.lexing.specs.strings.{span, string-rest, span-from, string-with, annotation-escape, quoted-string, default-escape, default-string}
-use Rattle.lexing.specs.word_sets.{next-word, set-step, keywords-set, same-bytes, contains, bit, flags, sets, set-of, set-flags}
+use Rattle.lexing.specs.word_sets.{next-word, set-step, keywords-set, same-bytes, contains, bit, flags, set-flags, field-set}
 
 -- a text and the reply to it, read from offset 0
 abbrev Case : Type 0 → Type 0
@@ -30,11 +31,11 @@ pub blanks : Known whitespace0
     ("/** a */ x", ok (doc-at 3 3) 9 (ascii "x")) ∷
     ("/** a */ /* b */x", ok no-doc 16 (ascii "x")) ∷
     [])
-unfolding whitespace0 iter iterWithin one-blank whitespace-group catch line-comment block-comment multispace1 until-close one-more comment-kind closed after keep _>>=_ ret isSpace inLine takeWhile dropWhile
+unfolding whitespace0 iter iterWithin one-blank whitespace-group catch line-comment block-comment multispace1 until-close one-more comment-kind closed doc-after keep _>>=_ ret isSpace inLine takeWhile dropWhile take-while take-while1 tag2 _>>_ position
 blanks = refl
 
 pub gaps : Known whitespace1 (("", fail 0) ∷ ("//", fail 0) ∷ (" x", ok no-doc 1 (ascii "x")) ∷ [])
-unfolding whitespace1 whitespace0 iter iterWithin one-blank whitespace-group catch line-comment block-comment multispace1 until-close after keep _>>=_ ret position failAt pick isSpace inLine takeWhile dropWhile
+unfolding whitespace1 whitespace0 iter iterWithin one-blank whitespace-group catch line-comment block-comment multispace1 until-close doc-after keep _>>=_ ret position failAt pick isSpace inLine takeWhile dropWhile take-while take-while1 tag2 _>>_
 gaps = refl
 
 pub keywords : Known (keyword (ascii "enum"))
@@ -43,7 +44,7 @@ pub keywords : Known (keyword (ascii "enum"))
     ("enu", fail 0) ∷
     ("1enum", fail 0) ∷
     [])
-unfolding keyword parse-id isKeyword bytesOf _>>=_ ret position failAt pick isLetter isWord isDigit within lower takeWhile dropWhile
+unfolding keyword parse-id isKeyword bytesOf _>>=_ ret position failAt pick isLetter isWord isDigit within lower takeWhile dropWhile take-while take-while1 tag2 _>>_ catch
 keywords = refl
 
 pub integers : Known positive-integer
@@ -55,7 +56,7 @@ pub integers : Known positive-integer
     ("18446744073709551616", stop 4 0) ∷
     ("x", fail 0) ∷
     [])
-unfolding positive-integer catch hex-integer decimal-integer fitting isDigit isHex within takeWhile dropWhile digit number
+unfolding positive-integer catch hex-integer decimal-integer fitting isDigit isHex within takeWhile dropWhile digit number take-while take-while1 tag2 _>>=_ _>>_ ret position
 integers = refl
 
 pub signed-integers : Known signed-integer
@@ -66,7 +67,7 @@ pub signed-integers : Known signed-integer
     ("-0x1", ok (signed true 0) 2 (ascii "x1")) ∷
     ("5", fail 0) ∷
     [])
-unfolding signed-integer after-sign in-range largest isDigit within takeWhile dropWhile digit number
+unfolding signed-integer after-sign in-range largest isDigit within takeWhile dropWhile digit number take-while take-while1 tag2 _>>=_ _>>_ ret position catch
 signed-integers = refl
 
 pub annotation-strings : Known quoted-string
@@ -87,12 +88,12 @@ pub default-strings : Known default-string
 unfolding default-string string-with string-rest span-from default-escape
 default-strings = refl
 
-pub word-sets : Known (set-flags 0)
+pub word-sets : Known (set-flags field-set)
     (("OPTIONAL optional t", ok 4 17 (ascii " t")) ∷
     ("OPTIONAL t", ok 0 8 (ascii " t")) ∷
     ("optionalnullable", ok 0 0 (ascii "optionalnullable")) ∷
     ("optional/**/nullable;", ok 6 20 (ascii ";")) ∷
     ("optional other nullable", ok 4 8 (ascii " other nullable")) ∷
     [])
-unfolding set-flags keywords-set set-step next-word any-keyword keyword parse-id isKeyword bytesOf whitespace1 whitespace0 iter iterWithin one-blank whitespace-group catch line-comment block-comment multispace1 until-close one-more comment-kind closed after keep _>>=_ _>>_ _or_ further ret position failAt pick isSpace inLine isLetter isWord isDigit within lower takeWhile dropWhile same-bytes contains bit flags sets set-of
+unfolding set-flags keywords-set set-step next-word any-keyword keyword parse-id isKeyword bytesOf whitespace1 whitespace0 iter iterWithin one-blank whitespace-group catch line-comment block-comment multispace1 until-close one-more comment-kind closed doc-after keep _>>=_ _>>_ _or_ no-nearer ret position failAt pick isSpace inLine isLetter isWord isDigit within lower takeWhile dropWhile same-bytes contains bit flags field-set take-while take-while1 tag2
 word-sets = refl

@@ -1,9 +1,10 @@
 -- Laws of the definitions. A module's own laws, for the proofs of its functions, stand in MODULE/Laws.antt.
 
--- bytes; tests computed for every byte; runs of bytes and texts that end at a cut; loops that scan a run
+-- bytes; tests computed for every byte; runs of bytes and texts that end at a cut; the tokens that are runs; loops that scan a run
 pub mod Tests
 pub mod EveryByte
 pub mod Runs
+pub mod TokenRuns
 pub mod Scans
 -- a parser that succeeds ends inside its text
 pub mod Onward
@@ -17,7 +18,8 @@ pub mod TokenLocality
 pub mod Losses
 pub mod Slicing
 pub mod Repetition
--- a parser made of parsers; what an answer gives its caller; several steps taken as one; parts that are dropped; words by their offsets
+-- sequences whose first step is known; a parser made of parsers; what an answer gives its caller; several steps taken as one; parts that are dropped; words by their offsets
+pub mod Sequences
 pub mod Composed
 pub mod AnswerLaws
 pub mod Pairs
@@ -27,4 +29,14 @@ pub mod WordBetween
 pub mod DocPlace
 -- what a first word rules out
 pub mod FirstWord
+-- the end of a text
+pub mod TextEnd
+-- numbers of refusals
+pub mod Numbers
+-- parsers that never stop; what is read stands in the text; where it is refused
+pub mod Calm
+pub mod Truth
+pub mod RefusedPlaces
+-- where tokens fail
+pub mod TokenPlaces
 pub mod KnownAnswers

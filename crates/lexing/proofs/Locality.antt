@@ -5,7 +5,7 @@ use mathlib.Core.Bool.{Bool, true, false}
 use mathlib.Core.List.{List, [], _∷_, _++_}
 use native.Mathlib.Omega.{arith}
 use lib.ListN.{length, length-append}
-use Rattle.lexing.specs.reply.{Reply, ok, fail, stop, Parser, ret, _>>=_, _>>_, opt, further, _or_, prepend, manyWithin, many0, failAt, position, catch, pick, iterWithin, iter}
+use Rattle.lexing.specs.reply.{Reply, ok, fail, stop, Parser, ret, _>>=_, _>>_, opt, no-nearer, _or_, prepend, manyWithin, many0, failAt, position, catch, pick, iterWithin, iter}
 use Rattle.lexing.proofs.Runs.{Cut, Suf, suf-length}
 use Rattle.lexing.proofs.Chain.{To, here, Clean, to-trans, to-suf, resume, inside-cut, Moves, CutRest, Shorter, ext}
 
@@ -144,20 +144,20 @@ module _ {A : Type 0} {m : Parser A} where
   inside-opt t = record { on-chain = chain-opt (t .on-chain); local = λ j b u s c d. opt-ext m b u s (t .local j b u s c d) }
 
 -- a choice
-further-moves : {A : Type 0} (j b p : ℕ) (u : List ℕ) (x : Reply A) → Moves j b u x → Moves j b u (further p x)
-unfolding further
+further-moves : {A : Type 0} (j b p : ℕ) (u : List ℕ) (x : Reply A) → Moves j b u x → Moves j b u (no-nearer p x)
+unfolding no-nearer
 further-moves j b p u (ok a c r) m = m
 further-moves j b p u (fail q) m = tt
 further-moves j b p u (stop n q) m = tt
 
-further-cut : {A : Type 0} (p : ℕ) (x : Reply A) → CutRest x → CutRest (further p x)
-unfolding further
+further-cut : {A : Type 0} (p : ℕ) (x : Reply A) → CutRest x → CutRest (no-nearer p x)
+unfolding no-nearer
 further-cut p (ok a c r) m = m
 further-cut p (fail q) m = tt
 further-cut p (stop n q) m = tt
 
-further-ext : {A : Type 0} (p : ℕ) (s : List ℕ) (x : Reply A) → further p (ext s x) ≡ ext s (further p x)
-unfolding further ext
+further-ext : {A : Type 0} (p : ℕ) (s : List ℕ) (x : Reply A) → no-nearer p (ext s x) ≡ ext s (no-nearer p x)
+unfolding no-nearer ext
 further-ext p s (ok a c r) = refl
 further-ext p s (fail q) = refl
 further-ext p s (stop n q) = refl
@@ -226,8 +226,8 @@ module _ {A B : Type 0} {m : Parser A} {k : A → Parser B} where
       go b u (fail q) e p = rw (e, _>>=_) tt
       go b u (stop n q) e p = rw (e, _>>=_) tt
 
-further-shorter : {A : Type 0} (p : ℕ) (u : List ℕ) (x : Reply A) → Shorter u x → Shorter u (further p x)
-unfolding further
+further-shorter : {A : Type 0} (p : ℕ) (u : List ℕ) (x : Reply A) → Shorter u x → Shorter u (no-nearer p x)
+unfolding no-nearer
 further-shorter p u (ok a c r) m = m
 further-shorter p u (fail q) m = tt
 further-shorter p u (stop n q) m = tt
@@ -342,10 +342,6 @@ consumes-fail p = record { consumes = λ b u. tt }
 pub local-fail : {A : Type 0} (p : ℕ) → Local (failAt {A = A} p)
 unfolding failAt ext
 local-fail p = record { on-chain = chain-fail p; local = λ k b u s c d. refl }
-
-pub blind-fail : {A : Type 0} (p : ℕ) → Blind (failAt {A = A} p)
-unfolding failAt ext
-blind-fail p = record { on-chain = chain-fail p; local = λ b u s. refl }
 
 pub chain-position : OnChain position
 unfolding position

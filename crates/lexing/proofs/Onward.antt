@@ -1,18 +1,21 @@
 -- A parser that succeeds ends inside its text: what it leaves is a tail of the text, and the offset has been counted on. Tokens read a byte or more.
 use Prim.Native.Nat.{ℕ, suc, _+_, _<_}
-use mathlib.Core.Path.{_≡_, refl}
-use mathlib.Core.Bool.{Bool, true, false, _&&_, _||_}
+use mathlib.Core.Path.{_≡_, refl, _∙_}
+use mathlib.Core.Bool.{Bool, true, false, _&&_}
 use mathlib.Core.List.{List, [], _∷_}
 use native.Mathlib.Omega.{arith}
 use lib.Dec.{eqb, leb}
 use lib.ListN.{length}
 use Rattle.lexing.specs.bytes.{quote, backslash, slash, star, plus, minus, isLetter, isDigit, isWord, isHex, isSpace, inLine, takeWhile}
-use Rattle.lexing.specs.reply.{Reply, ok, fail, stop, Parser, catch}
+use Rattle.lexing.specs.reply.{Reply, ok, fail, stop, Parser, ret, _>>=_, _>>_, catch, position}
+use Rattle.lexing.specs.runs.{take-while1, tag2}
 use Rattle.lexing.specs.words.{parse-id, tag}
 use Rattle.lexing.specs.integers.{u64-max, fitting, hex-integer, decimal-integer, positive-integer, largest, in-range, after-sign, signed-integer}
-use Rattle.lexing.specs.blanks.{line-comment, Until, found, never, one-more, until-close, closed, block-comment, multispace1, whitespace-group}
-use Rattle.lexing.specs.strings.{Escape, allowed, forbidden, panics, string-rest, span-from, string-with}
-use Rattle.lexing.proofs.Runs.{Suf, same, skip, dropWhile-suf, run-length}
+use Rattle.lexing.specs.blanks.{white, plain, line-comment, Until, found, never, one-more, until-close, closed, block-comment, multispace1, whitespace-group}
+use Rattle.lexing.specs.strings.{Escape, allowed, forbidden, panics, string-rest, span-from, string-with, annotation-escape, quoted-string, default-escape, default-string}
+use Rattle.lexing.proofs.Runs.{Suf, same, skip, suf-trans, suf-length, dropWhile-suf, run-length}
+use Rattle.lexing.proofs.Tests.{letter-word}
+use Rattle.lexing.proofs.TokenRuns.{run-yes, run-no, tag2-yes, tag2-no, id-nil, id-yes, id-no}
 
 -- a tail, the offset counted on
 abbrev pub Ends : {A : Type 0} → ℕ → List ℕ → Reply A → Type 0
@@ -49,18 +52,75 @@ advances-catch {A} {m} {h} w v = record { reads = λ b u. go b u (m b u) refl (w
     go b u (fail q) e p = rw (e, catch) (v q .reads b u)
     go b u (stop n q) e p = rw (e, catch) tt
 
+-- one parser behind another
+reads-then : {A B : Type 0} (b c : ℕ) (u r : List ℕ) (a : A) → Reads b u (ok a c r) → (x : Reply B) → Ends c r x → Reads b u x
+reads-then b c u r a p (ok d e q) k = (suf-trans (k .0) (p .0), k .1 ∙ p .1, omega (arith, p .2, k .1, suf-length (k .0)))
+reads-then b c u r a p (fail i) k = tt
+reads-then b c u r a p (stop n i) k = tt
+
+module _ {A B : Type 0} {m : Parser A} where
+  advances-bind : {k : A → Parser B} → Advances m → ((a : A) → Onward (k a)) → Advances (m >>= k)
+  unfolding _>>=_
+  advances-bind {k} w v = record { reads = λ b u. go b u (m b u) refl (w .reads b u) }
+    where
+      go : (b : ℕ) (u : List ℕ) (x : Reply A) → m b u ≡ x → Reads b u x → Reads b u ((m >>= k) b u)
+      go b u (ok a c r) e p = rw (e, _>>=_) (reads-then b c u r a p (k a c r) (v a .onward c r))
+      go b u (fail q) e p = rw (e, _>>=_) tt
+      go b u (stop n q) e p = rw (e, _>>=_) tt
+
+  advances-then : {k : Parser B} → Advances m → Onward k → Advances (m >> k)
+  unfolding _>>_
+  advances-then w v = advances-bind w (λ a. v)
+
+  advances-last : (d : B) → Advances m → Advances (m >> ret d)
+  unfolding ret
+  advances-last d w = advances-then w (record { onward = λ b u. (same, refl) })
+
+advances-here : {B : Type 0} {k : ℕ → Parser B} → ((b : ℕ) → Advances (k b)) → Advances (position >>= k)
+unfolding _>>=_ position
+advances-here v = record { reads = λ b u. v b .reads b u }
+
+-- runs
+run-some : (f : ℕ → Bool) (x : ℕ) (u : List ℕ) → f x ≡ true → 0 < length (takeWhile f (x ∷ u))
+unfolding takeWhile
+run-some f x u e = rw (e, takeWhile) (omega arith)
+
+run-reads : (f : ℕ → Bool) (b : ℕ) (u : List ℕ) → Reads b u (take-while1 f b u)
+unfolding take-while1
+run-reads f b [] = tt
+run-reads f b (x ∷ u) = go (f x) refl
+  where
+    go : (t : Bool) → f x ≡ t → Reads b (x ∷ u) (take-while1 f b (x ∷ u))
+    go true e = rw (run-yes f b x u e) (dropWhile-suf f (x ∷ u), omega (arith, run-length f (x ∷ u)), omega (arith, run-some f x u e))
+    go false e = rw (run-no f b x u e) tt
+
+pub run-advances : (f : ℕ → Bool) → Advances (take-while1 f)
+run-advances f = record { reads = run-reads f }
+
 -- words and tags
 parse-id-reads : (b : ℕ) (u : List ℕ) → Reads b u (parse-id b u)
-unfolding parse-id
-parse-id-reads b [] = tt
+parse-id-reads b [] = rw (id-nil b) tt
 parse-id-reads b (x ∷ u) = go (isLetter x) refl
   where
     go : (t : Bool) → isLetter x ≡ t → Reads b (x ∷ u) (parse-id b (x ∷ u))
-    go true e = rw (e, parse-id) (skip x (dropWhile-suf isWord u), omega (arith, run-length isWord u), omega arith)
-    go false e = rw (e, parse-id) tt
+    go true e = rw (id-yes b x u e) (dropWhile-suf isWord (x ∷ u), omega (arith, run-length isWord (x ∷ u)), omega (arith, run-some isWord x u (letter-word x e)))
+    go false e = rw (id-no b x u e) tt
 
 pub parse-id-advances : Advances parse-id
 parse-id-advances = record { reads = parse-id-reads }
+
+tag2-reads : (s t b : ℕ) (u : List ℕ) → Reads b u (tag2 s t b u)
+unfolding tag2
+tag2-reads s t b [] = tt
+tag2-reads s t b (x ∷ []) = tt
+tag2-reads s t b (x ∷ y ∷ u) = go (eqb x s && eqb y t) refl
+  where
+    go : (z : Bool) → (eqb x s && eqb y t) ≡ z → Reads b (x ∷ y ∷ u) (tag2 s t b (x ∷ y ∷ u))
+    go true e = rw (tag2-yes s t b x y u e) (skip x (skip y same), omega arith, omega arith)
+    go false e = rw (tag2-no s t b x y u e) tt
+
+pub tag2-advances : (s t : ℕ) → Advances (tag2 s t)
+tag2-advances s t = record { reads = tag2-reads s t }
 
 tag-reads : (t b : ℕ) (u : List ℕ) → Reads b u (tag t b u)
 unfolding tag
@@ -75,41 +135,28 @@ pub tag-advances : (t : ℕ) → Advances (tag t)
 tag-advances t = record { reads = tag-reads t }
 
 -- integers
-fitting-reads : (b v c : ℕ) (u r : List ℕ) → Suf r u → c + length r ≡ b + length u → b < c → Reads b u (fitting b v c r)
+fitting-onward : (b v : ℕ) → Onward (fitting b v)
 unfolding fitting
-fitting-reads b v c u r s n l = go (leb v u64-max) refl
+fitting-onward b v = record { onward = λ c r. go c r (leb v u64-max) refl }
   where
-    go : (t : Bool) → leb v u64-max ≡ t → Reads b u (fitting b v c r)
-    go true e = rw (e, fitting) (s, n, l)
-    go false e = rw (e, fitting) tt
+    go : (c : ℕ) (r : List ℕ) (t : Bool) → leb v u64-max ≡ t → Ends c r (fitting b v c r)
+    go c r true e = rw (e, fitting) (same, refl)
+    go c r false e = rw (e, fitting) tt
 
-hex-reads : (b : ℕ) (u : List ℕ) → Reads b u (hex-integer b u)
+pub mark-advances : Advances (catch (tag2 0x30 0x78) λ p. tag2 0x30 0x58)
+mark-advances = advances-catch (tag2-advances 0x30 0x78) λ p. tag2-advances 0x30 0x58
+
+hex-advances : Advances hex-integer
 unfolding hex-integer
-hex-reads b [] = tt
-hex-reads b (x ∷ []) = tt
-hex-reads b (x ∷ y ∷ []) = tt
-hex-reads b (x ∷ y ∷ z ∷ u) = go (eqb x 0x30 && ((eqb y 0x78 || eqb y 0x58) && isHex z)) refl
-  where
-    go : (t : Bool) → (eqb x 0x30 && ((eqb y 0x78 || eqb y 0x58) && isHex z)) ≡ t → Reads b (x ∷ y ∷ z ∷ u) (hex-integer b (x ∷ y ∷ z ∷ u))
-    go true e = rw (e, hex-integer) (fitting-reads b _ _ (x ∷ y ∷ z ∷ u) _ (skip x (skip y (dropWhile-suf isHex (z ∷ u)))) (omega (arith, run-length isHex (z ∷ u))) (omega arith))
-    go false e = rw (e, hex-integer) tt
+hex-advances = advances-here λ b. advances-then mark-advances (advances-onward (advances-bind (run-advances isHex) λ w. fitting-onward b _))
 
-run-some : (f : ℕ → Bool) (x : ℕ) (u : List ℕ) → f x ≡ true → 0 < length (takeWhile f (x ∷ u))
-unfolding takeWhile
-run-some f x u e = rw (e, takeWhile) (omega arith)
-
-decimal-reads : (b : ℕ) (u : List ℕ) → Reads b u (decimal-integer b u)
+decimal-advances : Advances decimal-integer
 unfolding decimal-integer
-decimal-reads b [] = tt
-decimal-reads b (x ∷ u) = go (isDigit x) refl
-  where
-    go : (t : Bool) → isDigit x ≡ t → Reads b (x ∷ u) (decimal-integer b (x ∷ u))
-    go true e = rw (e, decimal-integer) (fitting-reads b _ _ (x ∷ u) _ (dropWhile-suf isDigit (x ∷ u)) (omega (arith, run-length isDigit (x ∷ u))) (omega (arith, run-some isDigit x u e)))
-    go false e = rw (e, decimal-integer) tt
+decimal-advances = advances-here λ b. advances-bind (run-advances isDigit) λ w. fitting-onward b _
 
 pub integer-advances : Advances positive-integer
 unfolding positive-integer
-integer-advances = advances-catch (record { reads = hex-reads }) λ p. record { reads = decimal-reads }
+integer-advances = advances-catch hex-advances λ p. decimal-advances
 
 after-sign-reads : (m : Bool) (b x : ℕ) (u : List ℕ) → Reads b (x ∷ u) (after-sign m b u)
 unfolding after-sign in-range
@@ -141,16 +188,9 @@ pub signed-advances : Advances signed-integer
 signed-advances = record { reads = signed-reads }
 
 -- blanks
-line-reads : (b : ℕ) (u : List ℕ) → Reads b u (line-comment b u)
+line-advances : Advances line-comment
 unfolding line-comment
-line-reads b [] = tt
-line-reads b (x ∷ []) = tt
-line-reads b (x ∷ y ∷ []) = tt
-line-reads b (x ∷ y ∷ z ∷ u) = go (eqb x slash && (eqb y slash && inLine z)) refl
-  where
-    go : (t : Bool) → (eqb x slash && (eqb y slash && inLine z)) ≡ t → Reads b (x ∷ y ∷ z ∷ u) (line-comment b (x ∷ y ∷ z ∷ u))
-    go true e = rw (e, line-comment) (skip x (skip y (skip z (dropWhile-suf inLine u))), omega (arith, run-length inLine u), omega arith)
-    go false e = rw (e, line-comment) tt
+line-advances = advances-then (tag2-advances slash slash) (advances-onward (advances-last plain (run-advances inLine)))
 
 abbrev UntilEnds : List ℕ → Until → Type 0
 UntilEnds v (found n r) = Suf r v × (suc (suc n) + length r ≡ length v)
@@ -186,18 +226,13 @@ block-reads b (x ∷ y ∷ v) = go (eqb x slash && eqb y star) refl
     go true e = rw (e, block-comment) (closed-reads b x y v (until-close v) (until-ends v))
     go false e = rw (e, block-comment) tt
 
-multispace-reads : (b : ℕ) (u : List ℕ) → Reads b u (multispace1 b u)
+multispace-advances : Advances multispace1
 unfolding multispace1
-multispace-reads b [] = tt
-multispace-reads b (x ∷ u) = go (isSpace x) refl
-  where
-    go : (t : Bool) → isSpace x ≡ t → Reads b (x ∷ u) (multispace1 b (x ∷ u))
-    go true e = rw (e, multispace1) (skip x (dropWhile-suf isSpace u), omega (arith, run-length isSpace u), omega arith)
-    go false e = rw (e, multispace1) tt
+multispace-advances = advances-last white (run-advances isSpace)
 
 pub group-advances : Advances whitespace-group
 unfolding whitespace-group
-group-advances = advances-catch (record { reads = line-reads }) λ p. advances-catch (record { reads = block-reads }) λ q. record { reads = multispace-reads }
+group-advances = advances-catch line-advances λ p. advances-catch (record { reads = block-reads }) λ q. multispace-advances
 
 -- strings
 string-skip : (b b' x : ℕ) (u : List ℕ) (y : Reply ℕ) → b' ≡ suc b → Reads b' u y → Reads b (x ∷ u) y
@@ -244,3 +279,11 @@ string-reads f b (x ∷ u) = go (eqb x quote) refl
 
 pub string-advances : (f : ℕ → Escape) → Advances (string-with f)
 string-advances f = record { reads = string-reads f }
+
+pub quoted-advances : Advances quoted-string
+unfolding quoted-string
+quoted-advances = string-advances annotation-escape
+
+pub default-string-advances : Advances default-string
+unfolding default-string
+default-string-advances = string-advances default-escape

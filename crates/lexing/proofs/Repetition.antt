@@ -4,7 +4,7 @@ use mathlib.Core.List.{List, [], _∷_, _++_, append-assoc, append-nil}
 use Prim.Native.Nat.{ℕ, zero, suc, _+_, _-_, _≤_, _<_}
 use native.Mathlib.Omega.{arith}
 use lib.ListN.{length, drop, length-drop}
-use Rattle.lexing.specs.reply.{Reply, ok, fail, stop, Parser, prepend, manyWithin, many0, iterWithin, iter}
+use Rattle.lexing.specs.reply.{Reply, ok, fail, stop, Parser, ret, _>>=_, prepend, manyWithin, many0, iterWithin, iter}
 use Rattle.lexing.proofs.Losses.{by-lost}
 use Rattle.lexing.proofs.Chain.{Shorter}
 use Rattle.lexing.proofs.Locality.{Consumes}
@@ -70,6 +70,30 @@ module _ {A : Type 0} (m : Parser A) (w : Consumes m) where
   unfolding many0 manyWithin
   many0-stop b u n p e = rw (e, manyWithin)
 
+-- a value before a repetition, by what the repetition comes to
+module _ {A : Type 0} (a : A) where
+  pub prepend-ok : (l : List A) (c : ℕ) (r : List ℕ) → prepend a (ok l c r) ≡ ok (a ∷ l) c r
+  unfolding prepend
+  prepend-ok l c r = refl
+
+  pub prepend-fail : (p : ℕ) → prepend a (fail p) ≡ fail p
+  unfolding prepend
+  prepend-fail p = refl
+
+  pub prepend-stop : (n p : ℕ) → prepend a (stop n p) ≡ stop n p
+  unfolding prepend
+  prepend-stop n p = refl
+
+  -- the same as a sequence
+  pub prepends : (m : Parser (List A)) (c : ℕ) (r : List ℕ) → (m >>= λ l. ret (a ∷ l)) c r ≡ prepend a (m c r)
+  unfolding _>>=_ ret prepend
+  prepends m c r = go (m c r) refl
+    where
+      go : (x : Reply (List A)) → m c r ≡ x → (m >>= λ l. ret (a ∷ l)) c r ≡ prepend a (m c r)
+      go (ok l e v) z = rw (z, _>>=_) refl
+      go (fail p) z = rw (z, _>>=_) refl
+      go (stop n p) z = rw (z, _>>=_) refl
+
 -- A loop of the code against `many0`: the values so far, and the same repetition on what is left.
 abbrev pub before : {A : Type 0} → List A → Reply (List A) → Reply (List A)
 before l (ok k c r) = ok (l ++ k) c r
@@ -81,7 +105,7 @@ before-nil (ok k c r) = refl
 before-nil (fail p) = refl
 before-nil (stop n p) = refl
 
-before-cons : {A : Type 0} (l : List A) (a : A) (x : Reply (List A)) → before l (prepend a x) ≡ before (l ++ (a ∷ [])) x
+pub before-cons : {A : Type 0} (l : List A) (a : A) (x : Reply (List A)) → before l (prepend a x) ≡ before (l ++ (a ∷ [])) x
 unfolding prepend
 before-cons l a (ok k c r) = rw (append-assoc l (a ∷ []) k)
 before-cons l a (fail p) = refl

@@ -1,19 +1,21 @@
 -- The place moves by the shift of the base: a parser that reads at an offset moved by d answers the same, with every offset moved by d.
 use Prim.Native.Nat.{ℕ, zero, suc, _+_, _-_}
 use mathlib.Core.Path.{_≡_, refl, _∙_, ap}
-use mathlib.Core.Bool.{Bool, true, false, _&&_, _||_}
+use mathlib.Core.Bool.{Bool, true, false, _&&_}
 use mathlib.Core.Option.{Option, none, some}
 use mathlib.Core.List.{List, [], _∷_, map}
 use native.Mathlib.Omega.{arith}
 use lib.Dec.{eqb, leb, eqb·suc-suc}
 use lib.ListN.{length}
-use Rattle.lexing.specs.bytes.{quote, backslash, slash, star, plus, minus, isLetter, isDigit, isWord, isHex, isSpace, inLine, takeWhile}
-use Rattle.lexing.specs.reply.{Reply, ok, fail, stop, Parser, ret, _>>=_, _>>_, opt, further, _or_, prepend, manyWithin, many0, failAt, stopAt, position, catch, pick, iterWithin, iter, keep}
-use Rattle.lexing.specs.words.{Word, word, bytesOf, parse-id, isKeyword, keyword, any-keyword, tag}
+use Rattle.lexing.specs.bytes.{quote, backslash, slash, star, plus, minus, isLetter, isDigit, isWord, isHex, isSpace, inLine, takeWhile, number}
+use Rattle.lexing.specs.reply.{Reply, ok, fail, stop, Parser, ret, _>>=_, _>>_, opt, no-nearer, _or_, prepend, manyWithin, many0, failAt, stopAt, position, catch, pick, iterWithin, iter, keep}
+use Rattle.lexing.specs.runs.{take-while, take-while1, tag2}
+use Rattle.lexing.specs.words.{Word, word, offsetOf, bytesOf, parse-id, isKeyword, keyword, any-keyword, tag}
 use Rattle.lexing.specs.integers.{u64-max, fitting, hex-integer, decimal-integer, positive-integer, largest, in-range, after-sign, signed-integer}
-use Rattle.lexing.specs.blanks.{Whitespace, white, plain, doc-comment, line-comment, Until, found, never, until-close, comment-kind, closed, block-comment, multispace1, whitespace-group, Doc, no-doc, doc-at, after, one-blank, whitespace0, whitespace1}
-use Rattle.lexing.specs.strings.{Span, span, Escape, allowed, forbidden, panics, string-rest, span-from, string-with}
-use Rattle.lexing.specs.word_sets.{next-word, set-step, keywords-set, contains, flags, set-of, set-flags}
+use Rattle.lexing.specs.blanks.{Whitespace, white, plain, doc-comment, line-comment, Until, found, never, until-close, comment-kind, closed, block-comment, multispace1, whitespace-group, Doc, no-doc, doc-at, doc-after, one-blank, whitespace0, whitespace1}
+use Rattle.lexing.specs.strings.{Span, span, Escape, allowed, forbidden, panics, string-rest, span-from, string-with, annotation-escape, quoted-string, default-escape, default-string}
+use Rattle.lexing.specs.word_sets.{next-word, set-step, keywords-set, contains, flags, set-flags}
+use Rattle.lexing.proofs.TokenRuns.{run-yes, run-no, tag2-yes, tag2-no}
 
 -- values, with their offsets moved
 unfoldable pub shiftReply : {A : Type 0} → ℕ → (A → A) → Reply A → Reply A
@@ -74,8 +76,8 @@ module _ (d : ℕ) where
       go b u (fail p) e = rw (s .shifts b u, e, opt)
       go b u (stop n p) e = rw (s .shifts b u, e, opt)
 
-  further-shift : {A : Type 0} (f : A → A) (p : ℕ) (x : Reply A) → further (d + p) (shiftReply d f x) ≡ shiftReply d f (further p x)
-  unfolding further shiftReply
+  further-shift : {A : Type 0} (f : A → A) (p : ℕ) (x : Reply A) → no-nearer (d + p) (shiftReply d f x) ≡ shiftReply d f (no-nearer p x)
+  unfolding no-nearer shiftReply
   further-shift f p (ok a c r) = refl
   further-shift {A} f p (fail q) = ap {B = Reply A} fail (omega arith)
   further-shift f p (stop n q) = refl
@@ -166,21 +168,48 @@ module _ (d : ℕ) where
       rw (p, q) (eqb·suc-suc (k + b) (k + c) ∙ eqb-add k b c)
 
   -- words and tags
-  pub shift-parse-id : Shifts d (shiftWord d) parse-id parse-id
-  unfolding parse-id shiftReply shiftWord
-  shift-parse-id = record { shifts = at }
-    where
-      at : (b : ℕ) (u : List ℕ) → parse-id (d + b) u ≡ shiftReply d (shiftWord d) (parse-id b u)
-      at b [] = refl
-      at b (x ∷ u) = go (isLetter x) refl
-        where
-          go : (t : Bool) → isLetter x ≡ t → parse-id (d + b) (x ∷ u) ≡ shiftReply d (shiftWord d) (parse-id b (x ∷ u))
-          go true e = rw (e, parse-id) (rw (sum-left b (suc (length (takeWhile isWord u)))))
-          go false e = rw (e, parse-id)
+  -- runs and a tag of two bytes
+  shift-while : (f : ℕ → Bool) → Shifts d still (take-while f) (take-while f)
+  unfolding take-while shiftReply still
+  shift-while f = record { shifts = λ b u. rw (sum-left b (length (takeWhile f u))) }
 
-  bytes-shift : (w : Word) → bytesOf (shiftWord d w) ≡ bytesOf w
+  shift-run : (f : ℕ → Bool) → Shifts d still (take-while1 f) (take-while1 f)
+  unfolding take-while1 shiftReply still
+  shift-run f = record { shifts = at }
+    where
+      at : (b : ℕ) (u : List ℕ) → take-while1 f (d + b) u ≡ shiftReply d still (take-while1 f b u)
+      at b [] = refl
+      at b (x ∷ u) = go (f x) refl
+        where
+          go : (t : Bool) → f x ≡ t → take-while1 f (d + b) (x ∷ u) ≡ shiftReply d still (take-while1 f b (x ∷ u))
+          go true e = rw (run-yes f (d + b) x u e, run-yes f b x u e) (rw (sum-left b (length (takeWhile f (x ∷ u)))))
+          go false e = rw (run-no f (d + b) x u e, run-no f b x u e)
+
+  shift-tag2 : (s t : ℕ) → Shifts d still (tag2 s t) (tag2 s t)
+  unfolding tag2 shiftReply still
+  shift-tag2 s t = record { shifts = at }
+    where
+      at : (b : ℕ) (u : List ℕ) → tag2 s t (d + b) u ≡ shiftReply d still (tag2 s t b u)
+      at b [] = refl
+      at b (x ∷ []) = refl
+      at b (x ∷ y ∷ u) = go (eqb x s && eqb y t) refl
+        where
+          go : (z : Bool) → (eqb x s && eqb y t) ≡ z → tag2 s t (d + b) (x ∷ y ∷ u) ≡ shiftReply d still (tag2 s t b (x ∷ y ∷ u))
+          go true e = rw (tag2-yes s t (d + b) x y u e, tag2-yes s t b x y u e) (rw (sum-left b 2))
+          go false e = rw (tag2-no s t (d + b) x y u e, tag2-no s t b x y u e)
+
+  pub shift-parse-id : Shifts d (shiftWord d) parse-id parse-id
+  unfolding parse-id shiftWord still
+  shift-parse-id = shift-bind shift-position λ p' p ep. shift-bind (shift-run isLetter) λ v' v ev. shift-bind (shift-while isWord) λ w' w ew. shift-ret _ _ (rw (ep, ev, ew))
+
+  -- a word's bytes do not move, its offset does
+  pub bytes-shift : (w : Word) → bytesOf (shiftWord d w) ≡ bytesOf w
   unfolding bytesOf shiftWord
   bytes-shift (word o w) = refl
+
+  pub offset-shift : (w : Word) → offsetOf (shiftWord d w) ≡ d + offsetOf w
+  unfolding offsetOf shiftWord
+  offset-shift (word o w) = refl
 
   pub shift-keyword : (k : List ℕ) → Shifts d (shiftWord d) (keyword k) (keyword k)
   unfolding keyword
@@ -204,39 +233,21 @@ module _ (d : ℕ) where
           go false e = rw (e, tag)
 
   -- integers
-  fitting-shift : (b v n : ℕ) (r : List ℕ) → fitting (d + b) v (d + b + n) r ≡ shiftReply d still (fitting b v (b + n) r)
+  shift-fitting : (p' p v' v : ℕ) → p' ≡ d + p → v' ≡ v → Shifts d still (fitting p' v') (fitting p v)
   unfolding fitting shiftReply still
-  fitting-shift b v n r = go (leb v u64-max) refl
+  shift-fitting p' p v' v ep ev = rw (ep, ev) (record { shifts = λ c r. go c r (leb v u64-max) refl })
     where
-      go : (t : Bool) → leb v u64-max ≡ t → fitting (d + b) v (d + b + n) r ≡ shiftReply d still (fitting b v (b + n) r)
-      go true e = rw (e, fitting) (rw (sum-left b n))
-      go false e = rw (e, fitting)
+      go : (c : ℕ) (r : List ℕ) (t : Bool) → leb v u64-max ≡ t → fitting (d + p) v (d + c) r ≡ shiftReply d still (fitting p v c r)
+      go c r true e = rw (e, fitting)
+      go c r false e = rw (e, fitting)
 
   shift-hex : Shifts d still hex-integer hex-integer
-  unfolding hex-integer shiftReply
-  shift-hex = record { shifts = at }
-    where
-      at : (b : ℕ) (u : List ℕ) → hex-integer (d + b) u ≡ shiftReply d still (hex-integer b u)
-      at b [] = refl
-      at b (x ∷ []) = refl
-      at b (x ∷ y ∷ []) = refl
-      at b (x ∷ y ∷ z ∷ u) = go (eqb x 0x30 && ((eqb y 0x78 || eqb y 0x58) && isHex z)) refl
-        where
-          go : (t : Bool) → (eqb x 0x30 && ((eqb y 0x78 || eqb y 0x58) && isHex z)) ≡ t → hex-integer (d + b) (x ∷ y ∷ z ∷ u) ≡ shiftReply d still (hex-integer b (x ∷ y ∷ z ∷ u))
-          go true e = rw (e, hex-integer) (fitting-shift b _ _ _)
-          go false e = rw (e, hex-integer)
+  unfolding hex-integer still
+  shift-hex = shift-bind shift-position λ p' p ep. shift-then (shift-catch (shift-tag2 0x30 0x78) λ q' q eq. shift-tag2 0x30 0x58) (shift-bind (shift-run isHex) λ w' w ew. shift-fitting _ _ _ _ ep (ap (number 16 0) ew))
 
   shift-decimal : Shifts d still decimal-integer decimal-integer
-  unfolding decimal-integer shiftReply
-  shift-decimal = record { shifts = at }
-    where
-      at : (b : ℕ) (u : List ℕ) → decimal-integer (d + b) u ≡ shiftReply d still (decimal-integer b u)
-      at b [] = refl
-      at b (x ∷ u) = go (isDigit x) refl
-        where
-          go : (t : Bool) → isDigit x ≡ t → decimal-integer (d + b) (x ∷ u) ≡ shiftReply d still (decimal-integer b (x ∷ u))
-          go true e = rw (e, decimal-integer) (fitting-shift b _ _ _)
-          go false e = rw (e, decimal-integer)
+  unfolding decimal-integer still
+  shift-decimal = shift-bind shift-position λ p' p ep. shift-bind (shift-run isDigit) λ w' w ew. shift-fitting _ _ _ _ ep (ap (number 10 0) ew)
 
   pub shift-integer : Shifts d still positive-integer positive-integer
   unfolding positive-integer
@@ -273,18 +284,8 @@ module _ (d : ℕ) where
 
   -- blanks
   shift-line : Shifts d (shiftBlank d) line-comment line-comment
-  unfolding line-comment shiftReply shiftBlank
-  shift-line = record { shifts = at }
-    where
-      at : (b : ℕ) (u : List ℕ) → line-comment (d + b) u ≡ shiftReply d (shiftBlank d) (line-comment b u)
-      at b [] = refl
-      at b (x ∷ []) = refl
-      at b (x ∷ y ∷ []) = refl
-      at b (x ∷ y ∷ z ∷ u) = go (eqb x slash && (eqb y slash && inLine z)) refl
-        where
-          go : (t : Bool) → (eqb x slash && (eqb y slash && inLine z)) ≡ t → line-comment (d + b) (x ∷ y ∷ z ∷ u) ≡ shiftReply d (shiftBlank d) (line-comment b (x ∷ y ∷ z ∷ u))
-          go true e = rw (e, line-comment) (rw (sum-left b (3 + length (takeWhile inLine u))))
-          go false e = rw (e, line-comment)
+  unfolding line-comment shiftBlank
+  shift-line = shift-then (shift-tag2 slash slash) (shift-then (shift-run inLine) (shift-ret plain plain refl))
 
   kind-shift : (b n : ℕ) (v : List ℕ) → comment-kind (d + b) n v ≡ shiftBlank d (comment-kind b n v)
   unfolding comment-kind shiftBlank
@@ -315,23 +316,15 @@ module _ (d : ℕ) where
           go false e = rw (e, block-comment)
 
   shift-multispace : Shifts d (shiftBlank d) multispace1 multispace1
-  unfolding multispace1 shiftReply shiftBlank
-  shift-multispace = record { shifts = at }
-    where
-      at : (b : ℕ) (u : List ℕ) → multispace1 (d + b) u ≡ shiftReply d (shiftBlank d) (multispace1 b u)
-      at b [] = refl
-      at b (x ∷ u) = go (isSpace x) refl
-        where
-          go : (t : Bool) → isSpace x ≡ t → multispace1 (d + b) (x ∷ u) ≡ shiftReply d (shiftBlank d) (multispace1 b (x ∷ u))
-          go true e = rw (e, multispace1) (rw (sum-left b (suc (length (takeWhile isSpace u)))))
-          go false e = rw (e, multispace1)
+  unfolding multispace1 shiftBlank
+  shift-multispace = shift-then (shift-run isSpace) (shift-ret white white refl)
 
   pub shift-group : Shifts d (shiftBlank d) whitespace-group whitespace-group
   unfolding whitespace-group
   shift-group = shift-catch shift-line λ p' p e. shift-catch shift-block λ q' q e'. shift-multispace
 
-  after-shift : (g : Whitespace) (c : Doc) → after (shiftBlank d g) (shiftDoc d c) ≡ shiftDoc d (after g c)
-  unfolding after shiftBlank shiftDoc
+  after-shift : (g : Whitespace) (c : Doc) → doc-after (shiftBlank d g) (shiftDoc d c) ≡ shiftDoc d (doc-after g c)
+  unfolding doc-after shiftBlank shiftDoc
   after-shift white c = refl
   after-shift plain c = refl
   after-shift (doc-comment o n) c = refl
@@ -387,6 +380,14 @@ module _ (d : ℕ) where
           go true e = rw (e, string-with) (rw (sum-suc b) (rw (rest-shift f u false (suc b)) (span-shift (suc b) (string-rest f false (suc b) u))))
           go false e = rw (e, string-with)
 
+  pub shift-quoted : Shifts d (shiftSpan d) quoted-string quoted-string
+  unfolding quoted-string
+  shift-quoted = shift-string annotation-escape
+
+  pub shift-default-string : Shifts d (shiftSpan d) default-string default-string
+  unfolding default-string
+  shift-default-string = shift-string default-escape
+
   -- word sets
   shift-next-word : (ks : List (List ℕ)) (l : List Word) → Shifts d (shiftWord d) (next-word ks (map (shiftWord d) l)) (next-word ks l)
   unfolding next-word
@@ -411,6 +412,6 @@ module _ (d : ℕ) where
   flags-shift [] ws = refl
   flags-shift (k ∷ ks) ws = rw (contains-shift ws k, flags-shift ks ws)
 
-  pub shift-set-flags : (n : ℕ) → Shifts d still (set-flags n) (set-flags n)
+  pub shift-set-flags : (ks : List (List ℕ)) → Shifts d still (set-flags ks) (set-flags ks)
   unfolding set-flags still
-  shift-set-flags n = shift-bind (shift-keywords-set (set-of n)) λ ws' ws e. shift-ret _ _ (rw e (flags-shift (set-of n) ws))
+  shift-set-flags ks = shift-bind (shift-keywords-set ks) λ ws' ws e. shift-ret _ _ (rw e (flags-shift ks ws))

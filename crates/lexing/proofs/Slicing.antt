@@ -5,13 +5,13 @@ use Prim.Native.Nat.{ℕ, suc, _+_, _-_, _≤_}
 use native.Mathlib.Omega.{arith}
 use lib.ListN.{length, drop, take, length-drop}
 use lib.Seq.{take-all, drop-drop}
-use Rattle.lexing.specs.reply.{Reply, ok, fail, stop, Parser, ret, _>>=_, _>>_, _or_, further}
+use Rattle.lexing.specs.reply.{Reply, ok, fail, stop, Parser, ret, _>>=_, _>>_, _or_, no-nearer}
 use Rattle.lexing.specs.words.{parse-id, keyword, tag}
 use Rattle.lexing.specs.integers.{positive-integer}
 use Rattle.lexing.specs.blanks.{whitespace0}
 use Rattle.lexing.specs.strings.{Escape, string-with}
 use Rattle.lexing.specs.word_sets.{set-flags}
-use Rattle.lexing.specs.answers.{lostReply, reply, stepAnswer, Rest, docOf, lostOf, numberLost, wordAt, spanTo, tagReply, wordReply, numberReply, stringReply, BlankTo, WordSetTo}
+use Rattle.lexing.specs.answers.{lostReply, reply, stepAnswer, Rest, docOf, lostOf, numberLost, wordAt, spanTo, tagReply, wordReply, numberReply, stringReply, BlankTo, set-of, WordSetTo}
 use Rattle.lexing.specs.declared.answers.Lost.{Lost}
 use Rattle.lexing.proofs.Losses.{by-lost}
 use Rattle.lexing.specs.declared.answers.Step.{Step}
@@ -120,8 +120,8 @@ module _ {b n : ℕ} {u r : List ℕ} (q : Rest b u n r) where
   pub blank-took : {t : Blank} → BlankTo t n r → Took whitespace0 b u n (docOf (t .doc)) (t .next)
   blank-took h = took (walks whitespace0-chain) q (h .reads)
 
-  pub set-took : {k : ℕ} {t : WordSet} → WordSetTo t k n r → Took (set-flags k) b u n (t .flags) (t .next)
-  set-took {k} h = took (walks (set-flags-chain k)) q (h .reads)
+  pub set-took : {k : ℕ} {t : WordSet} → WordSetTo t k n r → Took (set-flags (set-of k)) b u n (t .flags) (t .next)
+  set-took {k} h = took (walks (set-flags-chain (set-of k))) q (h .reads)
 
   module _ {a : Step} {c : ℕ} (e : a ≡ Next c) where
     -- a Step whose value is computed from the offsets
@@ -155,6 +155,10 @@ integer-lost {a} {l} {l'} e d n r X h =
     ap (λ (x : Lost). lostReply x) z ∙ subst (λ (x : Number). numberReply x n r ≡ X) d h
 
 -- the end of a sequence
+pub ret-is : {A : Type 0} (a : A) (b : ℕ) (u : List ℕ) → ret a b u ≡ ok a b u
+unfolding ret
+ret-is a b u = refl
+
 pub done : {A : Type 0} (a : A) (b c : ℕ) (u : List ℕ) → ok a c (drop (c - b) u) ≡ ret a c (drop (c - b) u)
 unfolding ret
 done a b c u = refl
@@ -165,5 +169,5 @@ unfolding _or_
 or-here m k b u a c r e = rw (sym e, _or_)
 
 pub or-next : {A : Type 0} (m k : Parser A) (b : ℕ) (u : List ℕ) (p : ℕ) (a : A) (c : ℕ) (r : List ℕ) → fail p ≡ m b u → ok a c r ≡ k b u → ok a c r ≡ (m or k) b u
-unfolding _or_ further
+unfolding _or_ no-nearer
 or-next m k b u p a c r d e = rw (sym d, _or_) (rw (← e))

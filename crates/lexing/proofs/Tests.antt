@@ -5,7 +5,7 @@ use mathlib.Core.Bool.{Bool, true, false, _||_, _&&_, true≢false, false≢true
 use mathlib.Core.Logic.{_⊎_, inl, inr}
 use native.Mathlib.Omega.{arith}
 use lib.Dec.{eqb, leb, leb→le, eqb→eq}
-use Rattle.lexing.specs.bytes.{within, isLetter, isDigit, isSpace}
+use Rattle.lexing.specs.bytes.{within, isLetter, isDigit, isWord, isSpace}
 
 pub eq-of : (x y : ℕ) → eqb x y ≡ true → x ≡ y
 eq-of x y e = eqb→eq x y (rw e tt)
@@ -57,6 +57,11 @@ blank-fails f e47 e32 e9 e10 e13 x h = a (or-true (eqb x 47) (isSpace x) h)
     a : (eqb x 47 ≡ true) ⊎ (isSpace x ≡ true) → f x ≡ false
     a (inl e) = ap f (eq-of x 47 e) ∙ e47
     a (inr e) = c (or-true (eqb x 32 || eqb x 9 || eqb x 10) (eqb x 13) e)
+
+-- a letter is a word's byte
+pub letter-word : (x : ℕ) → isLetter x ≡ true → isWord x ≡ true
+unfolding isWord
+letter-word x e = rw e
 
 -- a digit is no letter
 pub digit-no-letter : (x : ℕ) → isDigit x ≡ true → isLetter x ≡ false

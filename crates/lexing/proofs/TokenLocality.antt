@@ -6,15 +6,16 @@ use mathlib.Core.Logic.{_≢_}
 use mathlib.Core.List.{List, [], _∷_, _++_}
 use native.Mathlib.Omega.{arith}
 use lib.Dec.{eqb, leb, eqb-refl, T}
-use Rattle.lexing.specs.bytes.{quote, backslash, slash, star, plus, minus, within, isLetter, isDigit, isWord, isHex, isSpace, inLine, dropWhile}
-use Rattle.lexing.specs.reply.{Reply, ok, fail, stop, Parser, ret, _>>=_, _>>_, catch, keep, position, pick, failAt}
+use Rattle.lexing.specs.bytes.{quote, backslash, slash, star, plus, minus, within, isLetter, isDigit, isWord, isHex, isSpace, inLine}
+use Rattle.lexing.specs.reply.{Reply, ok, fail, stop, Parser, ret, _>>=_, catch, keep, position, pick, failAt}
 use Rattle.lexing.specs.words.{Word, parse-id, keyword, any-keyword, tag}
 use Rattle.lexing.specs.integers.{u64-max, fitting, hex-integer, decimal-integer, positive-integer, largest, in-range, after-sign, signed-integer}
-use Rattle.lexing.specs.blanks.{line-comment, Until, found, never, one-more, until-close, comment-kind, closed, block-comment, multispace1, whitespace-group, Doc, no-doc, after, one-blank, whitespace0, whitespace1}
-use Rattle.lexing.specs.strings.{Escape, allowed, forbidden, panics, string-rest, span-from, string-with}
-use Rattle.lexing.specs.word_sets.{next-word, set-step, keywords-set, set-of, set-flags}
+use Rattle.lexing.specs.blanks.{line-comment, Until, found, never, one-more, until-close, comment-kind, closed, block-comment, multispace1, whitespace-group, Doc, no-doc, doc-after, one-blank, whitespace0, whitespace1}
+use Rattle.lexing.specs.strings.{Escape, allowed, forbidden, panics, string-rest, span-from, string-with, annotation-escape, quoted-string, default-escape, default-string}
+use Rattle.lexing.specs.word_sets.{next-word, set-step, keywords-set, set-flags}
 use Rattle.lexing.proofs.Tests.{eq-of, and-left, and-right, blank-fails, digit-no-letter}
-use Rattle.lexing.proofs.Runs.{Cut, cut-tail, skip, suf-length, suf-cut, Has, cut-has, cut-has-lf, has-tail, takeWhile-app, dropWhile-app, dropWhile-suf, dropWhile-cut, tail-cut, dropWhile-has}
+use Rattle.lexing.proofs.Runs.{Cut, cut-tail, skip, suf-length, suf-cut, Has, cut-has, cut-has-lf, takeWhile-app, dropWhile-app, dropWhile-suf, dropWhile-cut, tail-cut, dropWhile-has}
+use Rattle.lexing.proofs.TokenRuns.{id-nil, id-yes, id-no, digits-nil, digits-yes, digits-no, space-nil, space-yes, space-no, line-text, line-nil, line-one, line-first, line-is, line-no, text-yes, text-no, isHexFront, hex-nil, hex-one, hex-other, hex-two, hex-yes, hex-else}
 use Rattle.lexing.proofs.Onward.{Reads, Advances, parse-id-advances, tag-advances, integer-advances, signed-advances, group-advances, string-advances}
 use Rattle.lexing.proofs.Shift.{shiftReply, Shifts, shift-parse-id, shift-integer, shift-signed, shift-group, shift-string}
 use Rattle.lexing.proofs.Chain.{dead, goes, behind, any-escape, token, next, here, goR, Clean, not-dead, Moves, CutRest, Shorter, ext, to-suf}
@@ -58,10 +59,6 @@ consumes-of : {A : Type 0} {m : Parser A} → Advances m → Consumes m
 consumes-of {A} {m} w = record { consumes = λ b u. shorter-of b u (m b u) (w .reads b u) }
 
 -- tests at the last byte of a cut text, }, and at the line feed before it
-letter-125 : isLetter 125 ≡ false
-unfolding isLetter within
-letter-125 = refl
-
 word-125 : isWord 125 ≡ false
 unfolding isWord isLetter isDigit within
 word-125 = refl
@@ -82,45 +79,32 @@ in-line-10 : inLine 10 ≡ false
 unfolding inLine
 in-line-10 = refl
 
--- a run in a cut text, and what is appended to it
-module _ (f : ℕ → Bool) (no : f 125 ≡ false) (x : ℕ) (u : List ℕ) (e : f x ≡ true) (c : Cut (x ∷ u)) where
-  run-has : Has f u
-  run-has = cut-has f no u (tail-cut f no x u e c)
-
-  run-cut : Cut (dropWhile f u)
-  run-cut = dropWhile-cut f no u (tail-cut f no x u e c)
-
 -- words
 parse-id-steps : (b : ℕ) (u : List ℕ) → Steps u (parse-id b u)
-unfolding next parse-id
-parse-id-steps b [] = tt
+unfolding next
+parse-id-steps b [] = rw (id-nil b) tt
 parse-id-steps b (x ∷ u) = go (isLetter x) refl
   where
     go : (t : Bool) → isLetter x ≡ t → Steps (x ∷ u) (parse-id b (x ∷ u))
     go true e = steps-of (x ∷ u) (parse-id b (x ∷ u)) (rw (e, next) (any-offset shift-parse-id b (x ∷ u)))
-    go false e = rw (e, parse-id) tt
-
-letter-word : (x : ℕ) → isLetter x ≡ true → isWord x ≡ true
-unfolding isWord
-letter-word x e = rw e
+    go false e = rw (id-no b x u e) tt
 
 parse-id-cut : (b : ℕ) (u : List ℕ) → Cut u → CutRest (parse-id b u)
-unfolding parse-id
-parse-id-cut b [] c = tt
+parse-id-cut b [] c = absurd c
 parse-id-cut b (x ∷ u) c = go (isLetter x) refl
   where
     go : (t : Bool) → isLetter x ≡ t → CutRest (parse-id b (x ∷ u))
-    go true e = rw (e, parse-id) (run-cut isWord word-125 x u (letter-word x e) c)
-    go false e = rw (e, parse-id) tt
+    go true e = rw (id-yes b x u e) (dropWhile-cut isWord word-125 (x ∷ u) c)
+    go false e = rw (id-no b x u e) tt
 
 parse-id-ext : (b : ℕ) (u s : List ℕ) → Cut u → parse-id b (u ++ s) ≡ ext s (parse-id b u)
-unfolding parse-id ext
+unfolding ext
 parse-id-ext b [] s c = absurd c
 parse-id-ext b (x ∷ u) s c = go (isLetter x) refl
   where
     go : (t : Bool) → isLetter x ≡ t → parse-id b (x ∷ (u ++ s)) ≡ ext s (parse-id b (x ∷ u))
-    go true e = let h = run-has isWord word-125 x u (letter-word x e) c in rw (e, parse-id) (rw (takeWhile-app isWord u s h, dropWhile-app isWord u s h))
-    go false e = rw (e, parse-id)
+    go true e = let h = cut-has isWord word-125 (x ∷ u) c in rw (id-yes b x (u ++ s) e, id-yes b x u e) (rw (takeWhile-app isWord (x ∷ u) s h, dropWhile-app isWord (x ∷ u) s h))
+    go false e = rw (id-no b x (u ++ s) e, id-no b x u e)
 
 pub parse-id-chain : OnChain parse-id
 parse-id-chain = chain-of parse-id-advances parse-id-steps
@@ -230,12 +214,6 @@ fitting-ext b v c r s = go (leb v u64-max) refl
     go true e = rw (e, fitting)
     go false e = rw (e, fitting)
 
-no-hex : (b x : ℕ) (u : List ℕ) → eqb x 0x30 ≡ false → hex-integer b (x ∷ u) ≡ fail b
-unfolding hex-integer
-no-hex b x [] e = refl
-no-hex b x (y ∷ []) e = refl
-no-hex b x (y ∷ z ∷ u) e = rw (e, hex-integer)
-
 not-zero : (x : ℕ) → isDigit x ≡ false → eqb x 0x30 ≡ false
 unfolding isDigit within
 not-zero x e = go (eqb x 0x30) refl
@@ -245,12 +223,12 @@ not-zero x e = go (eqb x 0x30) refl
     go false q = q
 
 no-integer : (b x : ℕ) (u : List ℕ) → isDigit x ≡ false → positive-integer b (x ∷ u) ≡ fail b
-unfolding positive-integer catch decimal-integer
-no-integer b x u e = rw (no-hex b x u (not-zero x e), catch) (rw (e, decimal-integer))
+unfolding positive-integer catch
+no-integer b x u e = rw (hex-other b x u (not-zero x e), catch) (digits-no b x u e)
 
 integer-steps : (b : ℕ) (u : List ℕ) → Steps u (positive-integer b u)
-unfolding next positive-integer catch hex-integer decimal-integer
-integer-steps b [] = tt
+unfolding next positive-integer catch
+integer-steps b [] = rw (hex-nil b, catch) (rw (digits-nil b) tt)
 integer-steps b (x ∷ u) = go (isDigit x) refl
   where
     go : (t : Bool) → isDigit x ≡ t → Steps (x ∷ u) (positive-integer b (x ∷ u))
@@ -258,48 +236,46 @@ integer-steps b (x ∷ u) = go (isDigit x) refl
     go false e = rw (no-integer b x u e) tt
 
 hex-cut : (b : ℕ) (u : List ℕ) → Cut u → CutRest (hex-integer b u)
-unfolding hex-integer
-hex-cut b [] c = tt
-hex-cut b (x ∷ []) c = tt
-hex-cut b (x ∷ y ∷ []) c = tt
-hex-cut b (x ∷ y ∷ z ∷ u) c = go (eqb x 0x30 && ((eqb y 0x78 || eqb y 0x58) && isHex z)) refl
+hex-cut b [] c = absurd c
+hex-cut b (x ∷ []) c = rw (hex-one b x) tt
+hex-cut b (x ∷ y ∷ []) c = rw (hex-two b x y .1) tt
+hex-cut b (x ∷ y ∷ z ∷ u) c = go (isHexFront x y z) refl
   where
-    go : (t : Bool) → (eqb x 0x30 && ((eqb y 0x78 || eqb y 0x58) && isHex z)) ≡ t → CutRest (hex-integer b (x ∷ y ∷ z ∷ u))
-    go true e = rw (e, hex-integer) (fitting-cut b _ _ _ (dropWhile-cut isHex hex-125 (z ∷ u) (cut-tail y z u c)))
-    go false e = rw (e, hex-integer) tt
+    go : (t : Bool) → isHexFront x y z ≡ t → CutRest (hex-integer b (x ∷ y ∷ z ∷ u))
+    go true e = rw (hex-yes b x y z u e) (fitting-cut b _ _ _ (dropWhile-cut isHex hex-125 (z ∷ u) (cut-tail y z u c)))
+    go false e = rw (hex-else b x y z e .1 u) tt
 
 hex-ext : (b : ℕ) (u s : List ℕ) → Cut u → hex-integer b (u ++ s) ≡ ext s (hex-integer b u)
-unfolding hex-integer ext
+unfolding ext
 hex-ext b [] s c = absurd c
-hex-ext b (x ∷ []) s c = no-hex b x s (ap (λ y. eqb y 0x30) c)
-hex-ext b (x ∷ y ∷ []) s c = no-hex b x (y ∷ s) (ap (λ y. eqb y 0x30) (c .0))
-hex-ext b (x ∷ y ∷ z ∷ u) s c = go (eqb x 0x30 && ((eqb y 0x78 || eqb y 0x58) && isHex z)) refl
+hex-ext b (x ∷ []) s c = let e : eqb x 0x30 ≡ false = ap (λ y. eqb y 0x30) c in rw (hex-other b x s e, hex-other b x [] e)
+hex-ext b (x ∷ y ∷ []) s c = let e : eqb x 0x30 ≡ false = ap (λ y. eqb y 0x30) (c .0) in rw (hex-other b x (y ∷ s) e, hex-other b x (y ∷ []) e)
+hex-ext b (x ∷ y ∷ z ∷ u) s c = go (isHexFront x y z) refl
   where
-    go : (t : Bool) → (eqb x 0x30 && ((eqb y 0x78 || eqb y 0x58) && isHex z)) ≡ t → hex-integer b (x ∷ y ∷ z ∷ (u ++ s)) ≡ ext s (hex-integer b (x ∷ y ∷ z ∷ u))
+    go : (t : Bool) → isHexFront x y z ≡ t → hex-integer b (x ∷ y ∷ z ∷ (u ++ s)) ≡ ext s (hex-integer b (x ∷ y ∷ z ∷ u))
     go true e =
         let h = cut-has isHex hex-125 (z ∷ u) (cut-tail y z u c) in
-        rw (e, hex-integer) (rw (takeWhile-app isHex (z ∷ u) s h, dropWhile-app isHex (z ∷ u) s h) (fitting-ext b _ _ _ s))
-    go false e = rw (e, hex-integer)
+        rw (hex-yes b x y z (u ++ s) e, hex-yes b x y z u e) (rw (takeWhile-app isHex (z ∷ u) s h, dropWhile-app isHex (z ∷ u) s h) (fitting-ext b _ _ _ s))
+    go false e = rw (hex-else b x y z e .1 (u ++ s), hex-else b x y z e .1 u)
 
 decimal-cut : (b : ℕ) (u : List ℕ) → Cut u → CutRest (decimal-integer b u)
-unfolding decimal-integer
-decimal-cut b [] c = tt
+decimal-cut b [] c = absurd c
 decimal-cut b (x ∷ u) c = go (isDigit x) refl
   where
     go : (t : Bool) → isDigit x ≡ t → CutRest (decimal-integer b (x ∷ u))
-    go true e = rw (e, decimal-integer) (fitting-cut b _ _ _ (dropWhile-cut isDigit digit-125 (x ∷ u) c))
-    go false e = rw (e, decimal-integer) tt
+    go true e = rw (digits-yes b x u e) (fitting-cut b _ _ _ (dropWhile-cut isDigit digit-125 (x ∷ u) c))
+    go false e = rw (digits-no b x u e) tt
 
 decimal-ext : (b : ℕ) (u s : List ℕ) → Cut u → decimal-integer b (u ++ s) ≡ ext s (decimal-integer b u)
-unfolding decimal-integer ext
+unfolding ext
 decimal-ext b [] s c = absurd c
 decimal-ext b (x ∷ u) s c = go (isDigit x) refl
   where
     go : (t : Bool) → isDigit x ≡ t → decimal-integer b (x ∷ (u ++ s)) ≡ ext s (decimal-integer b (x ∷ u))
     go true e =
         let h = cut-has isDigit digit-125 (x ∷ u) c in
-        rw (e, decimal-integer) (rw (takeWhile-app isDigit (x ∷ u) s h, dropWhile-app isDigit (x ∷ u) s h) (fitting-ext b _ _ _ s))
-    go false e = rw (e, decimal-integer)
+        rw (digits-yes b x (u ++ s) e, digits-yes b x u e) (rw (takeWhile-app isDigit (x ∷ u) s h, dropWhile-app isDigit (x ∷ u) s h) (fitting-ext b _ _ _ s))
+    go false e = rw (digits-no b x (u ++ s) e, digits-no b x u e)
 
 pub integer-chain : OnChain positive-integer
 integer-chain = chain-of integer-advances integer-steps
@@ -404,44 +380,48 @@ pub signed-local : Local signed-integer
 signed-local = record { on-chain = signed-chain; local = λ k b u s c d. signed-ext b u s d }
 
 -- line comments: in a cut text they end before the last line feed
-pub no-line : (b x : ℕ) (u : List ℕ) → eqb x slash ≡ false → line-comment b (x ∷ u) ≡ fail b
-unfolding line-comment
-no-line b x [] e = refl
-no-line b x (y ∷ []) e = refl
-no-line b x (y ∷ z ∷ u) e = rw (e, line-comment)
+line-has : (x y : ℕ) (u : List ℕ) → (eqb x slash && eqb y slash) ≡ true → Cut (x ∷ y ∷ u) → Has inLine u
+line-has x y [] e c = let q : _≡_ {A = ℕ} slash 10 = sym (eq-of x slash (and-left (eqb x slash) (eqb y slash) e)) ∙ c .0 in absurd (omega arith)
+line-has x y (z ∷ []) e c = let q : _≡_ {A = ℕ} slash 10 = sym (eq-of y slash (and-right (eqb x slash) (eqb y slash) e)) ∙ c .0 in absurd (omega arith)
+line-has x y (z ∷ v ∷ w) e c = cut-has-lf inLine in-line-10 z v w c
 
-line-has : (x y z : ℕ) (u : List ℕ) → (eqb x slash && (eqb y slash && inLine z)) ≡ true → Cut (x ∷ y ∷ z ∷ u) → Has inLine u
-line-has x y z [] e c =
-    let h = and-left (eqb y slash) (inLine z) (and-right (eqb x slash) (eqb y slash && inLine z) e) in
-    let q : _≡_ {A = ℕ} slash 10 = sym (eq-of y slash h) ∙ c .0 in
-    absurd (omega arith)
-line-has x y z (v ∷ w) e c =
-    let h = and-right (eqb y slash) (inLine z) (and-right (eqb x slash) (eqb y slash && inLine z) e) in
-    has-tail inLine z (v ∷ w) h (cut-has-lf inLine in-line-10 z v w c)
+text-cut : (b x y : ℕ) (u : List ℕ) → Has inLine u → Cut (x ∷ y ∷ u) → CutRest (line-text b u)
+text-cut b x y [] h c = absurd h
+text-cut b x y (z ∷ u) h c = go (inLine z) refl
+  where
+    go : (t : Bool) → inLine z ≡ t → CutRest (line-text b (z ∷ u))
+    go true e =
+        let p = dropWhile-has inLine (z ∷ u) h in
+        rw (text-yes b z u e) (rw (p .1 .1) (suf-cut (p .0) (p .1 .0) (skip x (skip y (rw (p .1 .1) at (dropWhile-suf inLine (z ∷ u))))) c))
+    go false e = rw (text-no b z u e) tt
+
+text-ext : (b : ℕ) (u s : List ℕ) → Has inLine u → line-text b (u ++ s) ≡ ext s (line-text b u)
+unfolding ext
+text-ext b [] s h = absurd h
+text-ext b (z ∷ u) s h = go (inLine z) refl
+  where
+    go : (t : Bool) → inLine z ≡ t → line-text b (z ∷ (u ++ s)) ≡ ext s (line-text b (z ∷ u))
+    go true e = rw (text-yes b z (u ++ s) e, text-yes b z u e) (rw (takeWhile-app inLine (z ∷ u) s h, dropWhile-app inLine (z ∷ u) s h))
+    go false e = rw (text-no b z (u ++ s) e, text-no b z u e)
 
 line-cut : (b : ℕ) (u : List ℕ) → Cut u → CutRest (line-comment b u)
-unfolding line-comment
-line-cut b [] c = tt
-line-cut b (x ∷ []) c = tt
-line-cut b (x ∷ y ∷ []) c = tt
-line-cut b (x ∷ y ∷ z ∷ u) c = go (eqb x slash && (eqb y slash && inLine z)) refl
+line-cut b [] c = absurd c
+line-cut b (x ∷ []) c = rw (line-one b x) tt
+line-cut b (x ∷ y ∷ u) c = go (eqb x slash && eqb y slash) refl
   where
-    go : (t : Bool) → (eqb x slash && (eqb y slash && inLine z)) ≡ t → CutRest (line-comment b (x ∷ y ∷ z ∷ u))
-    go true e =
-        let p = dropWhile-has inLine u (line-has x y z u e c) in
-        rw (e, line-comment) (rw (p .1 .1) (suf-cut (p .0) (p .1 .0) (skip x (skip y (skip z (rw (p .1 .1) at (dropWhile-suf inLine u))))) c))
-    go false e = rw (e, line-comment) tt
+    go : (t : Bool) → (eqb x slash && eqb y slash) ≡ t → CutRest (line-comment b (x ∷ y ∷ u))
+    go true e = rw (line-is b x y u e) (text-cut (b + 2) x y u (line-has x y u e c) c)
+    go false e = rw (line-no b x y u e) tt
 
 line-ext : (b : ℕ) (u s : List ℕ) → Cut u → line-comment b (u ++ s) ≡ ext s (line-comment b u)
-unfolding line-comment ext
+unfolding ext
 line-ext b [] s c = absurd c
-line-ext b (x ∷ []) s c = no-line b x s (ap (λ y. eqb y slash) c)
-line-ext b (x ∷ y ∷ []) s c = no-line b x (y ∷ s) (ap (λ y. eqb y slash) (c .0))
-line-ext b (x ∷ y ∷ z ∷ u) s c = go (eqb x slash && (eqb y slash && inLine z)) refl
+line-ext b (x ∷ []) s c = let e : eqb x slash ≡ false = ap (λ y. eqb y slash) c in rw (line-first b x s e, line-first b x [] e)
+line-ext b (x ∷ y ∷ u) s c = go (eqb x slash && eqb y slash) refl
   where
-    go : (t : Bool) → (eqb x slash && (eqb y slash && inLine z)) ≡ t → line-comment b (x ∷ y ∷ z ∷ (u ++ s)) ≡ ext s (line-comment b (x ∷ y ∷ z ∷ u))
-    go true e = let h = line-has x y z u e c in rw (e, line-comment) (rw (takeWhile-app inLine u s h, dropWhile-app inLine u s h))
-    go false e = rw (e, line-comment)
+    go : (t : Bool) → (eqb x slash && eqb y slash) ≡ t → line-comment b (x ∷ y ∷ (u ++ s)) ≡ ext s (line-comment b (x ∷ y ∷ u))
+    go true e = rw (line-is b x y (u ++ s) e, line-is b x y u e) (text-ext (b + 2) u s (line-has x y u e c))
+    go false e = rw (line-no b x y (u ++ s) e, line-no b x y u e)
 
 -- block comments: one that is closed stays so
 abbrev UntilExt : List ℕ → List ℕ → Until → Type 0
@@ -535,22 +515,21 @@ block-ext b (x ∷ y ∷ v) s c h = go (eqb x slash && eqb y star) refl
 
 -- white space
 multispace-cut : (b : ℕ) (u : List ℕ) → Cut u → CutRest (multispace1 b u)
-unfolding multispace1
-multispace-cut b [] c = tt
+multispace-cut b [] c = absurd c
 multispace-cut b (x ∷ u) c = go (isSpace x) refl
   where
     go : (t : Bool) → isSpace x ≡ t → CutRest (multispace1 b (x ∷ u))
-    go true e = rw (e, multispace1) (run-cut isSpace space-125 x u e c)
-    go false e = rw (e, multispace1) tt
+    go true e = rw (space-yes b x u e) (dropWhile-cut isSpace space-125 (x ∷ u) c)
+    go false e = rw (space-no b x u e) tt
 
 multispace-ext : (b : ℕ) (u s : List ℕ) → Cut u → multispace1 b (u ++ s) ≡ ext s (multispace1 b u)
-unfolding multispace1 ext
+unfolding ext
 multispace-ext b [] s c = absurd c
 multispace-ext b (x ∷ u) s c = go (isSpace x) refl
   where
     go : (t : Bool) → isSpace x ≡ t → multispace1 b (x ∷ (u ++ s)) ≡ ext s (multispace1 b (x ∷ u))
-    go true e = let h = run-has isSpace space-125 x u e c in rw (e, multispace1) (rw (takeWhile-app isSpace u s h, dropWhile-app isSpace u s h))
-    go false e = rw (e, multispace1)
+    go true e = let h = cut-has isSpace space-125 (x ∷ u) c in rw (space-yes b x (u ++ s) e, space-yes b x u e) (rw (takeWhile-app isSpace (x ∷ u) s h, dropWhile-app isSpace (x ∷ u) s h))
+    go false e = rw (space-no b x (u ++ s) e, space-no b x u e)
 
 -- one blank
 pub blank-no-letter : (x : ℕ) → (eqb x slash || isSpace x) ≡ true → isLetter x ≡ false
@@ -567,17 +546,17 @@ no-block b x [] e = refl
 no-block b x (y ∷ u) e = rw (e, block-comment)
 
 pub no-group : (b x : ℕ) (u : List ℕ) → (eqb x slash || isSpace x) ≡ false → whitespace-group b (x ∷ u) ≡ fail b
-unfolding whitespace-group catch multispace1
+unfolding whitespace-group catch
 no-group b x u e = go (eqb x slash) refl (isSpace x) refl
   where
     go : (t : Bool) → eqb x slash ≡ t → (t' : Bool) → isSpace x ≡ t' → whitespace-group b (x ∷ u) ≡ fail b
     go true d t' d' = absurd (true≢false (rw d at e))
     go false d true d' = absurd (true≢false (rw (d, d') at e))
-    go false d false d' = rw (no-line b x u d, catch) (rw (no-block b x u d, catch) (rw (d', multispace1)))
+    go false d false d' = rw (line-first b x u d, catch) (rw (no-block b x u d, catch) (space-no b x u d'))
 
 group-steps : (b : ℕ) (u : List ℕ) → Steps u (whitespace-group b u)
-unfolding next whitespace-group catch line-comment block-comment multispace1
-group-steps b [] = tt
+unfolding next whitespace-group catch block-comment
+group-steps b [] = rw (line-nil b, catch) (rw (space-nil b) tt)
 group-steps b (x ∷ u) = go (eqb x slash || isSpace x) refl
   where
     go : (t : Bool) → (eqb x slash || isSpace x) ≡ t → Steps (x ∷ u) (whitespace-group b (x ∷ u))
@@ -585,18 +564,13 @@ group-steps b (x ∷ u) = go (eqb x slash || isSpace x) refl
     go false e = rw (no-group b x u e) tt
 
 -- an unclosed block comment ends the chain
-pub open-line : (b : ℕ) (v : List ℕ) → line-comment b (slash ∷ star ∷ v) ≡ fail b
-unfolding line-comment
-open-line b [] = refl
-open-line b (z ∷ v) = refl
-
 open-block : (b : ℕ) (v : List ℕ) → until-close v ≡ never → block-comment b (slash ∷ star ∷ v) ≡ fail b
 unfolding block-comment closed
 open-block b v e = ap (closed b v) e
 
 open-group : (b : ℕ) (v : List ℕ) → until-close v ≡ never → whitespace-group b (slash ∷ star ∷ v) ≡ fail b
-unfolding whitespace-group catch multispace1 isSpace
-open-group b v e = rw (open-line b v, catch) (rw (open-block b v e, catch))
+unfolding whitespace-group catch isSpace
+open-group b v e = rw (line-no b slash star v refl, catch) (rw (open-block b v e, catch) (space-no b slash (star ∷ v) refl))
 
 open-dead : (v : List ℕ) → until-close v ≡ never → next (slash ∷ star ∷ v) ≡ dead
 unfolding next isLetter isDigit within behind
@@ -622,19 +596,19 @@ group-local = record { on-chain = group-chain; local = group-ext }
 -- runs of blanks
 pub one-blank-chain : (d : Doc) → OnChain (one-blank d)
 unfolding one-blank
-one-blank-chain d = chain-bind group-chain λ g. chain-ret (after g d)
+one-blank-chain d = chain-bind group-chain λ g. chain-ret (doc-after g d)
 
 one-blank-keeps : (d : Doc) → KeepsCut (one-blank d)
 unfolding one-blank
-one-blank-keeps d = keeps-bind group-keeps λ g. keeps-ret (after g d)
+one-blank-keeps d = keeps-bind group-keeps λ g. keeps-ret (doc-after g d)
 
 pub one-blank-consumes : (d : Doc) → Consumes (one-blank d)
 unfolding one-blank
-one-blank-consumes d = consumes-left (consumes-of group-advances) λ g. chain-ret (after g d)
+one-blank-consumes d = consumes-left (consumes-of group-advances) λ g. chain-ret (doc-after g d)
 
 one-blank-local : (d : Doc) → Local (one-blank d)
 unfolding one-blank
-one-blank-local d = local-bind group-local group-keeps λ g. local-ret (after g d)
+one-blank-local d = local-bind group-local group-keeps λ g. local-ret (doc-after g d)
 
 pub whitespace0-chain : OnChain whitespace0
 unfolding whitespace0
@@ -824,6 +798,30 @@ string-keeps f = record { keeps = string-cut f }
 pub string-local : (f : ℕ → Escape) → Local (string-with f)
 string-local f = record { on-chain = string-chain f; local = string-ext f }
 
+pub quoted-chain : OnChain quoted-string
+unfolding quoted-string
+quoted-chain = string-chain annotation-escape
+
+pub quoted-keeps : KeepsCut quoted-string
+unfolding quoted-string
+quoted-keeps = string-keeps annotation-escape
+
+pub quoted-local : Local quoted-string
+unfolding quoted-string
+quoted-local = string-local annotation-escape
+
+pub default-string-chain : OnChain default-string
+unfolding default-string
+default-string-chain = string-chain default-escape
+
+pub default-string-keeps : KeepsCut default-string
+unfolding default-string
+default-string-keeps = string-keeps default-escape
+
+pub default-string-local : Local default-string
+unfolding default-string
+default-string-local = string-local default-escape
+
 -- word sets
 module _ (ks : List (List ℕ)) where
   next-word-chain : (ws : List Word) → OnChain (next-word ks ws)
@@ -874,15 +872,15 @@ module _ (ks : List (List ℕ)) where
   unfolding keywords-set
   keywords-set-local = local-iter keep set-step-local set-step-keeps set-step-consumes []
 
-module _ (n : ℕ) where
-  pub set-flags-chain : OnChain (set-flags n)
+module _ (ks : List (List ℕ)) where
+  pub set-flags-chain : OnChain (set-flags ks)
   unfolding set-flags
-  set-flags-chain = chain-bind (keywords-set-chain (set-of n)) λ ws. chain-ret _
+  set-flags-chain = chain-bind (keywords-set-chain ks) λ ws. chain-ret _
 
-  pub set-flags-keeps : KeepsCut (set-flags n)
+  pub set-flags-keeps : KeepsCut (set-flags ks)
   unfolding set-flags
-  set-flags-keeps = keeps-bind (keywords-set-keeps (set-of n)) λ ws. keeps-ret _
+  set-flags-keeps = keeps-bind (keywords-set-keeps ks) λ ws. keeps-ret _
 
-  pub set-flags-local : Local (set-flags n)
+  pub set-flags-local : Local (set-flags ks)
   unfolding set-flags
-  set-flags-local = local-bind (keywords-set-local (set-of n)) (keywords-set-keeps (set-of n)) λ ws. local-ret _
+  set-flags-local = local-bind (keywords-set-local ks) (keywords-set-keeps ks) λ ws. local-ret _

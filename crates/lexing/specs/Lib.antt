@@ -1,6 +1,7 @@
 -- The definitions that the contracts of lexing cite: what a reader must believe.
 pub mod reply
 pub mod bytes
+pub mod runs
 pub mod blanks
 pub mod words
 pub mod integers

@@ -1,15 +1,16 @@
 -- What the answers of the code say, as replies of the definitions. An answer is taken with the offset b and the text u that its reader was handed.
+pub mod names
 use Prim.Native.Nat.{ℕ, zero, suc, _+_, _-_, _≤_, _<_}
 use mathlib.Core.Path.{_≡_}
 use mathlib.Core.Bool.{Bool, true, false}
-use mathlib.Core.List.{List}
+use mathlib.Core.List.{List, [], _∷_}
 use lib.ListN.{length, take, drop, getD}
 use Rattle.lexing.specs.reply.{Reply, ok, fail, stop, Parser, _>>_}
 use Rattle.lexing.specs.words.{Word, word}
 use Rattle.lexing.specs.integers.{Signed, signed}
 use Rattle.lexing.specs.blanks.{Whitespace, white, plain, doc-comment, Doc, no-doc, doc-at, whitespace0}
 use Rattle.lexing.specs.strings.{Span, span}
-use Rattle.lexing.specs.word_sets.{set-flags}
+use Rattle.lexing.specs.word_sets.{set-flags, field-set, struct-set, event-set, command-set, attribute-set}
 use Rattle.lexing.specs.declared.answers.Lost.{Lost}
 use Rattle.lexing.specs.declared.answers.Step.{Step}
 use Rattle.lexing.specs.declared.answers.Step.the-variants.{Next, Not}
@@ -33,7 +34,7 @@ pub record Rest (b : ℕ) (u : List ℕ) (c : ℕ) (r : List ℕ) : Type 0 where
   pub same : r ≡ drop (c - b) u
   pub size : c + length r ≡ b + length u
 
--- where it is said so, eight bytes stand at i, none of them x
+-- where it is said so, eight bytes stand at i, none of them x. The other answer is free: it says nothing of the bytes
 abbrev pub LacksIf : Bool → ℕ → List ℕ → ℕ → Type 0
 LacksIf true x u i = (i + 8 ≤ length u) × ((j : ℕ) → j < 8 → getD u (i + j) 0 ≡ x → ⊥)
 LacksIf false x u i = Unit {0}
@@ -103,10 +104,6 @@ signedAnswer (NoSigned l) = lost l
 abbrev pub signedReply : SignedNumber → ℕ → List ℕ → Reply Signed
 signedReply r b u = reply (signedAnswer r) b u
 
-abbrev pub signedLost : SignedNumber → Lost
-signedLost (Sized m v c) = Fail c
-signedLost (NoSigned l) = l
-
 -- blanks
 abbrev pub docOf : DocSpan → Doc
 docOf Absent = no-doc
@@ -126,7 +123,7 @@ pub record BlankTo (r : Blank) (b : ℕ) (u : List ℕ) : Type 0 where
   pub up : b ≤ r .next
   pub inside : r .next ≤ b + length u
 
--- the same in plain numbers: the doc comment is its text's offset, 0 where there is none, and its length
+-- the same in plain numbers: the doc comment is its text's offset, 0 where there is none, and its length. Without a doc comment the length is free
 abbrev pub docBy : ℕ → ℕ → Doc
 docBy zero n = no-doc
 docBy (suc o) n = doc-at (suc o) n
@@ -150,19 +147,21 @@ gapAnswer (NoGap l) = lost l
 abbrev pub gapReply : Gap → ℕ → List ℕ → Reply Doc
 gapReply r b u = reply (gapAnswer r) b u
 
-abbrev pub gapLost : Gap → Lost
-gapLost (Passed r) = Fail (r .next)
-gapLost (NoGap l) = l
-
 abbrev pub spanTo : ℕ → ℕ → Span
 spanTo b c = span (suc b) (c - 1 - suc b)
 
 abbrev pub stringReply : Step → ℕ → List ℕ → Reply Span
 stringReply r b u = reply (stepAnswer (spanTo b) r) b u
 
--- word sets
+-- word sets, which the code has by number: the constants of `word_sets`; any other number is the empty set
+abbrev pub sets : List (List (List ℕ))
+sets = field-set ∷ struct-set ∷ event-set ∷ command-set ∷ attribute-set ∷ []
+
+abbrev pub set-of : ℕ → List (List ℕ)
+set-of n = getD sets n []
+
 pub record WordSetTo (r : WordSet) (set b : ℕ) (u : List ℕ) : Type 0 where
-  pub reads : reply (got (r .flags) (r .next)) b u ≡ set-flags set b u
+  pub reads : reply (got (r .flags) (r .next)) b u ≡ set-flags (set-of set) b u
   pub up : b ≤ r .next
   pub inside : r .next ≤ b + length u
   pub small : r .flags < 16
@@ -182,7 +181,7 @@ pub record NameIn (b n e c : ℕ) : Type 0 where
   pub up : n ≤ e
   pub inside : e ≤ c
 
--- a step whose value is dropped
+-- a step whose value is dropped: the parser's value is free, and where it ends or what is lost is settled
 pub record Skips {A : Type 0} (m : Parser A) (r : Step) (b : ℕ) (u : List ℕ) : Type 0 where
   pub value : A
   pub reads : reply (stepAnswer (λ c. value) r) b u ≡ m b u

@@ -3,9 +3,9 @@ use Prim.Native.Nat.{ℕ, zero, suc, _+_}
 use mathlib.Core.Bool.{true, false, _&&_}
 use mathlib.Core.List.{List, [], _∷_}
 use lib.Dec.{eqb}
-use lib.ListN.{length}
-use Rattle.lexing.specs.bytes.{slash, star, isSpace, inLine, takeWhile, dropWhile}
-use Rattle.lexing.specs.reply.{Reply, ok, fail, Parser, ret, _>>=_, catch, iter, keep, position, failAt, pick}
+use Rattle.lexing.specs.bytes.{slash, star, isSpace, inLine}
+use Rattle.lexing.specs.runs.{take-while1, tag2}
+use Rattle.lexing.specs.reply.{Reply, ok, fail, Parser, ret, _>>=_, _>>_, catch, iter, keep, position, failAt, pick}
 
 -- one blank, as the Rust's `Whitespace`: white space, a comment that is no doc comment, or a doc comment's text, its offset and length
 pub data Whitespace : Type 0 where
@@ -14,14 +14,10 @@ pub data Whitespace : Type 0 where
 
 -- `preceded(tag("//"), is_not("\n\r"))`: a line comment has at least one byte
 unfoldable pub line-comment : Parser Whitespace
-line-comment b [] = fail b
-line-comment b (x ∷ []) = fail b
-line-comment b (x ∷ y ∷ []) = fail b
-line-comment b (x ∷ y ∷ z ∷ u) =
-    elim (eqb x slash && (eqb y slash && inLine z)) [
-      | true ↦ ok plain (b + (3 + length (takeWhile inLine u))) (dropWhile inLine u)
-      | false ↦ fail b
-    ]
+line-comment = do
+  tag2 slash slash
+  take-while1 inLine
+  ret plain
 
 -- `take_until("*/")` with the `*/` behind it: how many bytes stand before, and the rest
 pub data Until : Type 0 where
@@ -55,9 +51,9 @@ block-comment b (x ∷ y ∷ v) = elim (eqb x slash && eqb y star) [ true ↦ cl
 
 -- nom's `multispace1`
 unfoldable pub multispace1 : Parser Whitespace
-multispace1 b [] = fail b
-multispace1 b (x ∷ u) =
-    elim (isSpace x) [ true ↦ ok white (b + suc (length (takeWhile isSpace u))) (dropWhile isSpace u) | false ↦ fail b ]
+multispace1 = do
+  take-while1 isSpace
+  ret white
 
 -- `whitespace_group`, parser.rs line 288
 unfoldable pub whitespace-group : Parser Whitespace
@@ -69,15 +65,15 @@ pub data Doc : Type 0 where
   doc-at : ℕ → ℕ → Doc
 
 -- the last comment of a run decides; white space does not
-unfoldable pub after : Whitespace → Doc → Doc
-after white d = d
-after plain d = no-doc
-after (doc-comment o n) d = doc-at o n
+unfoldable pub doc-after : Whitespace → Doc → Doc
+doc-after white d = d
+doc-after plain d = no-doc
+doc-after (doc-comment o n) d = doc-at o n
 
 unfoldable pub one-blank : Doc → Parser Doc
 one-blank d = do
   g ← whitespace-group
-  ret (after g d)
+  ret (doc-after g d)
 
 -- `whitespace0`, parser.rs line 341
 unfoldable pub whitespace0 : Parser Doc

@@ -1,39 +1,35 @@
 -- Integers.
 use Prim.Native.Nat.{ℕ, suc, _+_, _-_, _^_}
-use mathlib.Core.Bool.{Bool, true, false, _&&_, _||_}
+use mathlib.Core.Bool.{Bool, true, false}
 use mathlib.Core.List.{List, [], _∷_}
 use lib.Dec.{leb, eqb}
 use lib.ListN.{length}
-use Rattle.lexing.specs.bytes.{plus, minus, isDigit, isHex, takeWhile, dropWhile, number}
-use Rattle.lexing.specs.reply.{Reply, ok, fail, stop, Parser, catch}
+use Rattle.lexing.specs.bytes.{plus, minus, isDigit, isHex, takeWhile, dropWhile, number, byte}
+use Rattle.lexing.specs.reply.{Reply, ok, fail, stop, Parser, _>>=_, _>>_, catch, position}
+use Rattle.lexing.specs.runs.{take-while1, tag2}
 
 -- the largest u64
 abbrev pub u64-max : ℕ
 u64-max = 0xffff_ffff_ffff_ffff
 
 -- a value that fits 64 bits; above that the Rust's `expect` panics: stop 4 at the integer's first byte
-unfoldable pub fitting : ℕ → ℕ → ℕ → List ℕ → Reply ℕ
+unfoldable pub fitting : ℕ → ℕ → Parser ℕ
 fitting b v c r = elim (leb v u64-max) [ true ↦ ok v c r | false ↦ stop 4 b ]
 
 -- `hex_integer`, parser.rs line 163: `0x` or `0X`, then nom's `hex_digit1`
 unfoldable pub hex-integer : Parser ℕ
-hex-integer b [] = fail b
-hex-integer b (x ∷ []) = fail b
-hex-integer b (x ∷ y ∷ []) = fail b
-hex-integer b (x ∷ y ∷ z ∷ u) =
-    elim (eqb x 0x30 && ((eqb y 0x78 || eqb y 0x58) && isHex z)) [
-      | true ↦ fitting b (number 16 0 (takeWhile isHex (z ∷ u))) (b + (2 + length (takeWhile isHex (z ∷ u)))) (dropWhile isHex (z ∷ u))
-      | false ↦ fail b
-    ]
+hex-integer = do
+  start ← position
+  catch (tag2 (byte "0") (byte "x")) λ p. tag2 (byte "0") (byte "X")
+  digits ← take-while1 isHex
+  fitting start (number 16 0 digits)
 
 -- `decimal_integer`, parser.rs line 207: nom's `digit1`
 unfoldable pub decimal-integer : Parser ℕ
-decimal-integer b [] = fail b
-decimal-integer b (x ∷ u) =
-    elim (isDigit x) [
-      | true ↦ fitting b (number 10 0 (takeWhile isDigit (x ∷ u))) (b + length (takeWhile isDigit (x ∷ u))) (dropWhile isDigit (x ∷ u))
-      | false ↦ fail b
-    ]
+decimal-integer = do
+  start ← position
+  digits ← take-while1 isDigit
+  fitting start (number 10 0 digits)
 
 -- `positive_integer`, parser.rs line 232: hexadecimal first, so that `0x12` is not 0 and then `x12`
 unfoldable pub positive-integer : Parser ℕ

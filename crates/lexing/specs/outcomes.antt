@@ -1,8 +1,9 @@
 -- What a call that fills a buffer comes to: document 01's refusals and acceptance.
 use Prim.Native.Nat.{ℕ}
-use mathlib.Core.Bool.{true, false}
-use mathlib.Core.List.{List, _++_}
-use lib.Dec.{leb}
+use mathlib.Core.Path.{_≡_}
+use mathlib.Core.Bool.{Bool, true, false, _||_}
+use mathlib.Core.List.{List, [], _∷_, _++_}
+use lib.Dec.{leb, eqb}
 use lib.ListN.{length, drop}
 
 -- refused by a number with the value that goes with it, or the bytes written
@@ -23,3 +24,20 @@ returned (written l) = (0, length l)
 unfoldable pub afterwards : Outcome → List ℕ → List ℕ
 afterwards (refused number v) buffer = buffer
 afterwards (written l) buffer = l ++ drop (length l) buffer
+
+-- Document 01's numbers of refusals that a text meets: where the Rust panics; in a part of it, 2 not UTF-8 and 3 no item; of the whole, 1 its limit.
+abbrev pub stop-numbers : List ℕ
+stop-numbers = 4 ∷ 5 ∷ 6 ∷ []
+
+abbrev pub part-numbers : List ℕ
+part-numbers = 2 ∷ 3 ∷ stop-numbers
+
+abbrev pub text-numbers : List ℕ
+text-numbers = 1 ∷ part-numbers
+
+abbrev pub among : ℕ → List ℕ → Bool
+among n [] = false
+among n (k ∷ ks) = eqb n k || among n ks
+
+abbrev pub Among : List ℕ → ℕ → Type 0
+Among ks n = among n ks ≡ true

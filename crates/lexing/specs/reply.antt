@@ -37,13 +37,13 @@ opt m = λ b u. elim (m b u) [ ok a c r ↦ ok (some a) c r | fail p ↦ ok none
 
 -- `alt` of two, by GreedyError: the place is the furthest
 infixr 12 _or_
-unfoldable pub further : {A : Type 0} → ℕ → Reply A → Reply A
-further p (ok a c r) = ok a c r
-further p (fail q) = fail (max p q)
-further p (stop n q) = stop n q
+unfoldable pub no-nearer : {A : Type 0} → ℕ → Reply A → Reply A
+no-nearer p (ok a c r) = ok a c r
+no-nearer p (fail q) = fail (max p q)
+no-nearer p (stop n q) = stop n q
 
 unfoldable pub _or_ : {A : Type 0} → Parser A → Parser A → Parser A
-_or_ m k = λ b u. elim (m b u) [ ok a c r ↦ ok a c r | fail p ↦ further p (k b u) | stop n p ↦ stop n p ]
+_or_ m k = λ b u. elim (m b u) [ ok a c r ↦ ok a c r | fail p ↦ no-nearer p (k b u) | stop n p ↦ stop n p ]
 
 -- `many0`: until a try fails, which passes no place on. Each turn of use reads a byte, so one turn more than there are bytes is enough
 unfoldable pub prepend : {A : Type 0} → A → Reply (List A) → Reply (List A)

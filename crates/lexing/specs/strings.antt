@@ -43,7 +43,7 @@ annotation-escape x = elim (eqb x quote || eqb x backslash) [ true ↦ allowed |
 unfoldable pub quoted-string : Parser Span
 quoted-string = string-with annotation-escape
 
--- the string of `default_attribute_value`, parser.rs line 1134: `\"`, `\\`, `\n`, `\t`; at `\r` the Rust panics
+-- the loop of `default_attribute_value`, parser.rs line 1135: `\"`, `\\`, `\n`, `\t`; at `\r` the Rust panics
 unfoldable pub default-escape : ℕ → Escape
 default-escape x =
     elim (eqb x quote || eqb x backslash || eqb x 0x6e || eqb x 0x74) [

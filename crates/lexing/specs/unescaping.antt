@@ -1,4 +1,4 @@
--- Unescaping, a part that document 01 adds: what comes out of the bytes between a default string's quotes (the escapes are those of `default_attribute_value`, parser.rs line 1134).
+-- Unescaping, a part that document 01 adds: what comes out of the bytes between a default string's quotes (the escapes are those in the loop of `default_attribute_value`, parser.rs line 1135).
 use Prim.Native.Nat.{ℕ, _+_}
 use mathlib.Core.Bool.{true, false}
 use mathlib.Core.Option.{Option, none, some}

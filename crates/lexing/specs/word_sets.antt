@@ -3,7 +3,7 @@ use Prim.Native.Nat.{ℕ, _+_, _*_, _^_}
 use mathlib.Core.Bool.{Bool, true, false, _&&_, _||_}
 use mathlib.Core.List.{List, [], _∷_}
 use lib.Dec.{eqb}
-use lib.ListN.{length, getD}
+use lib.ListN.{length}
 use Rattle.lexing.specs.bytes.{ascii}
 use Rattle.lexing.specs.reply.{Parser, ret, _>>=_, _>>_, iter, keep}
 use Rattle.lexing.specs.words.{Word, bytesOf, any-keyword}
@@ -44,21 +44,24 @@ unfoldable pub flags : List (List ℕ) → List Word → ℕ
 flags [] ws = 0
 flags (k ∷ ks) ws = bit (contains ws k) * 2 ^ length ks + flags ks ws
 
--- the sets that the Rust reads, by number: of a struct's field, a struct, an event, a command, an attribute
-unfoldable pub sets : List (List (List ℕ))
-sets =
-    (ascii "optional" ∷ ascii "nullable" ∷ ascii "fabric_sensitive" ∷ []) ∷
-    (ascii "fabric_scoped" ∷ []) ∷
-    (ascii "fabric_sensitive" ∷ []) ∷
-    (ascii "timed" ∷ ascii "fabric" ∷ []) ∷
-    (ascii "readonly" ∷ ascii "writeonly" ∷ ascii "nosubscribe" ∷ ascii "timedwrite" ∷ []) ∷
-    []
-
-unfoldable pub set-of : ℕ → List (List ℕ)
-set-of n = getD sets n []
-
 -- the flags of a set
-unfoldable pub set-flags : ℕ → Parser ℕ
-set-flags n = do
-  ws ← keywords-set (set-of n)
-  ret (flags (set-of n) ws)
+unfoldable pub set-flags : List (List ℕ) → Parser ℕ
+set-flags ks = do
+  ws ← keywords-set ks
+  ret (flags ks ws)
+
+-- the sets that the Rust reads: before a struct's field, a struct, an event, a command, an attribute
+unfoldable pub field-set : List (List ℕ)
+field-set = ascii "optional" ∷ ascii "nullable" ∷ ascii "fabric_sensitive" ∷ []
+
+unfoldable pub struct-set : List (List ℕ)
+struct-set = ascii "fabric_scoped" ∷ []
+
+unfoldable pub event-set : List (List ℕ)
+event-set = ascii "fabric_sensitive" ∷ []
+
+unfoldable pub command-set : List (List ℕ)
+command-set = ascii "timed" ∷ ascii "fabric" ∷ []
+
+unfoldable pub attribute-set : List (List ℕ)
+attribute-set = ascii "readonly" ∷ ascii "writeonly" ∷ ascii "nosubscribe" ∷ ascii "timedwrite" ∷ []

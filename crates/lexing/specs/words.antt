@@ -1,10 +1,10 @@
 -- Words, keywords and tags.
-use Prim.Native.Nat.{ℕ, suc, _+_}
+use Prim.Native.Nat.{ℕ, suc}
 use mathlib.Core.Bool.{Bool, true, false, _&&_, _||_}
-use mathlib.Core.List.{List, [], _∷_}
+use mathlib.Core.List.{List, [], _∷_, _++_}
 use lib.Dec.{leb, eqb}
-use lib.ListN.{length}
-use Rattle.lexing.specs.bytes.{underscore, isLetter, isWord, lower, takeWhile, dropWhile}
+use Rattle.lexing.specs.bytes.{underscore, isLetter, isWord, lower}
+use Rattle.lexing.specs.runs.{take-while, take-while1}
 use Rattle.lexing.specs.reply.{ok, fail, Parser, ret, _>>=_, _or_, position, failAt, pick}
 
 -- its offset and its bytes
@@ -19,12 +19,11 @@ bytesOf (word o w) = w
 
 -- `parse_id`, parser.rs line 403: /[a-zA-Z_][a-zA-Z0-9_]*/
 unfoldable pub parse-id : Parser Word
-parse-id b [] = fail b
-parse-id b (x ∷ u) =
-    elim (isLetter x) [
-      | true ↦ ok (word b (x ∷ takeWhile isWord u)) (b + suc (length (takeWhile isWord u))) (dropWhile isWord u)
-      | false ↦ fail b
-    ]
+parse-id = do
+  start ← position
+  front ← take-while1 isLetter
+  back ← take-while isWord
+  ret (word start (front ++ back))
 
 -- what a keyword is made of: letters from a to z and underscores. It is no `within`, which has to be unfolded, so that it computes where a function is handed a literal
 abbrev pub isKeyLetter : ℕ → Bool

@@ -8,12 +8,12 @@ ghost use Rattle.lexing.specs.bytes.{slash, isSpace, inLine, takeWhile};
 ghost use Rattle.lexing.specs.integers.{u64-max};
 ghost use Rattle.lexing.specs.blanks.{until-close, whitespace-group, one-blank, whitespace1};
 ghost use Rattle.lexing.specs.inner.blanks.{isClose, endUntil, turnReply};
-ghost use Rattle.lexing.specs.answers.{groupReply, docOf, BlankTo, docBy, runOf, RunTo, gapReply, gapLost};
+ghost use Rattle.lexing.specs.answers.{groupReply, docOf, BlankTo, docBy, runOf, RunTo, gapReply};
 use crate::answers::Lost;
 use crate::bytes::is_in_line;
 use crate::bytes::is_space;
 use crate::parts::after;
-use crate::parts::lacks;
+use crate::parts::eight_without;
 use crate::parts::peek;
 use crate::parts::rest_at;
 
@@ -107,7 +107,7 @@ fn comment_end(part: &[u8]) -> End
 {
     let mut i = 0;
     while i < part.len() {
-        if lacks(part, i, b'*') {
+        if eight_without(part, i, b'*') {
             i += 8;
             continue;
         }
@@ -149,7 +149,7 @@ fn comment_group(part: &[u8], base: usize) -> Group
     Group::Plain(n + 4)
 }
 
-// One blank.
+// One blank: `whitespace_group` of the Rust, which nothing here calls, since a run of blanks takes white space and comments apart.
 pub fn whitespace_group(part: &[u8], base: usize) -> Group
     requires { ⌜ base + length (now part) ≤ u64-max ⌝ }
     ensures { λ r. ⌜ groupReply r base (now (part .entry)) ≡ whitespace-group base (now (part .entry)) ⌝ }
@@ -221,8 +221,7 @@ fn doc_by(doc: usize, size: usize) -> DocSpan
     DocSpan::At(doc, size)
 }
 
-// Blanks from behind the white space at the front on: comments with the white space behind each. The run is carried in plain numbers, since
-// an enum in it would be copied at each turn.
+// Blanks from behind the white space at the front on: comments with the white space behind each. The run is carried in plain numbers.
 fn more_blanks(part: &[u8], base: usize, from: usize, doc: &mut [usize; 2]) -> usize
     requires { ⌜ base + length (now part) ≤ u64-max ⌝ }
     requires { ⌜ from ≡ base + length (takeWhile isSpace (now part)) ⌝ }
@@ -249,10 +248,8 @@ fn more_blanks(part: &[u8], base: usize, from: usize, doc: &mut [usize; 2]) -> u
     }
 }
 
-// The offset behind any number of blanks at an offset, without a test for the common cases first. The doc comment's numbers, those of a `Run`, are left in
-// doc, which holds zeros: so the offset comes back in a register, and only a comment costs a store. It is called at several places, so that it stays
-// a function of its own and what is left of its callers, `whitespace0` and the steps behind blanks, is short.
-// The part is taken anew, so that the compiler hands it over in registers (docs/DECISIONS.md, 39).
+// The offset behind any number of blanks at an offset, without a test for the common cases first: `whitespace0` and `steps::blank_at` are its short fronts.
+// The doc comment's numbers, those of a `Run`, are left in doc, which holds zeros.
 pub fn blank_run(part: &[u8], base: usize, c: usize, doc: &mut [usize; 2]) -> usize
     requires { ⌜ ((base ≤ c) × (c ≤ base + length (now part))) × (base + length (now part) ≤ u64-max) ⌝ }
     requires { ⌜ now doc ≡ 0 ∷ 0 ∷ [] ⌝ }
@@ -296,7 +293,7 @@ pub fn whitespace0(part: &[u8], base: usize) -> Blank
     }
 }
 
-// At least one blank.
+// At least one blank, with its doc comment. Only tests call it; the readers call `steps::gap_at`, which drops the doc comment.
 pub fn whitespace1(part: &[u8], base: usize) -> Gap
     requires { ⌜ base + length (now part) ≤ u64-max ⌝ }
     ensures { λ r. ⌜ gapReply r base (now (part .entry)) ≡ whitespace1 base (now (part .entry)) ⌝ }
@@ -310,16 +307,4 @@ pub fn whitespace1(part: &[u8], base: usize) -> Gap
         });
     }
     Gap::Passed(b)
-}
-
-pub fn gap_lost(r: Gap) -> Lost
-    ensures { λ x. ⌜ x ≡ gapLost r ⌝ }
-{
-    match r {
-        Gap::Passed(b) => Lost {
-            cause: 0,
-            place: b.next,
-        },
-        Gap::NoGap(l) => l,
-    }
 }

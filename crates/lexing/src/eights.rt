@@ -4,7 +4,7 @@ ghost use Prim.Native.Nat.{_+_, _≤_};
 ghost use lib.ListN.{length};
 ghost use Rattle.lexing.specs.inner.eights.{pack, bytesFrom, failing, isAlpha, isAscii, isByte, isCapital};
 
-// Four bytes as a number. The compiler makes one load of a sum in this order.
+// Four bytes as a number. Only a sum in this order is one load.
 fn four_at(part: &[u8], i: usize) -> u64
     requires { ⌜ i + 4 ≤ length (now part) ⌝ }
     ensures { λ r. ⌜ r ≡ pack 4 (bytesFrom (now (part .entry)) i) ⌝ }
@@ -15,7 +15,7 @@ fn four_at(part: &[u8], i: usize) -> u64
         + (part[i + 3] as u64) * 0x100_0000
 }
 
-// Eight bytes as a number: two loads of four, which the compiler joins at most places.
+// Eight bytes as a number.
 pub fn eight_at(part: &[u8], i: usize) -> u64
     requires { ⌜ i + 8 ≤ length (now part) ⌝ }
     ensures { λ r. ⌜ r ≡ pack 8 (bytesFrom (now (part .entry)) i) ⌝ }
@@ -40,7 +40,7 @@ pub fn non_letters(w: u64) -> u64
 }
 
 // The highest bit of each byte that is not x; no other bit is set.
-pub fn others(w: u64, x: u8) -> u64
+pub fn bytes_other_than(w: u64, x: u8) -> u64
     ensures { λ r. ⌜ r ≡ failing (isByte x) w ⌝ }
 {
     let other = w ^ ((x as u64) * 0x0101_0101_0101_0101);

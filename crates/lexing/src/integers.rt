@@ -4,9 +4,9 @@ ghost use mathlib.Core.Bool.{true, _||_};
 ghost use Prim.Native.Nat.{_+_, _*_, _/_, _≤_, _<_};
 ghost use lib.Dec.{eqb, leb};
 ghost use lib.ListN.{length, drop};
-ghost use Rattle.lexing.specs.bytes.{isDigit, digit};
+ghost use Rattle.lexing.specs.bytes.{digit};
 ghost use Rattle.lexing.specs.integers.{u64-max, hex-integer, decimal-integer, positive-integer, signed-integer, largest, after-sign};
-ghost use Rattle.lexing.specs.answers.{numberReply, numberLost, signedReply, signedLost};
+ghost use Rattle.lexing.specs.answers.{numberReply, numberLost, signedReply};
 ghost use Rattle.lexing.specs.inner.integers.{digitTest, radix, digitsAre, isHexAhead};
 use crate::answers::Lost;
 use crate::answers::stop_by;
@@ -170,8 +170,7 @@ fn any_integer(part: &[u8], base: usize) -> Number
     decimal_integer(part, base)
 }
 
-// An integer without a sign. Most have one digit, and of the others most are decimal: the second byte tells them. A decimal one is handed on by
-// its parts, which need no copy in memory.
+// An integer without a sign. Most have one digit, and of the others most are decimal: the second byte tells them, a short front.
 pub fn positive_integer(part: &[u8], base: usize) -> Number
     requires { ⌜ base + length (now part) ≤ u64-max ⌝ }
     ensures { λ r. ⌜ numberReply r base (now (part .entry)) ≡ positive-integer base (now (part .entry)) ⌝ }
@@ -260,14 +259,5 @@ pub fn number_lost(r: Number) -> Lost
     match r {
         Number::Value(_, c) => Lost { cause: 0, place: c },
         Number::NoNumber(l) => l,
-    }
-}
-
-pub fn signed_lost(r: SignedNumber) -> Lost
-    ensures { λ x. ⌜ x ≡ signedLost r ⌝ }
-{
-    match r {
-        SignedNumber::Sized(_, _, c) => Lost { cause: 0, place: c },
-        SignedNumber::NoSigned(l) => l,
     }
 }

@@ -6,7 +6,8 @@ ghost use lib.ListN.{length};
 ghost use Rattle.lexing.specs.integers.{u64-max};
 ghost use Rattle.lexing.specs.words.{isKey};
 ghost use Rattle.lexing.specs.answers.{numberReply, NumberAt, behind-blanks};
-ghost use Rattle.lexing.specs.names.{namedLost, NamedTo, NamedAt, blank-word, gap-word, keyword-name, name-behind, named-after, keyword-number, type-behind, equals-code};
+ghost use Rattle.lexing.specs.names.{two-keywords-name, named-after};
+ghost use Rattle.lexing.specs.answers.names.{namedLost, NamedTo, NamedAt, blank-word, gap-word, keyword-name, keyword-number, type-behind, equals-code};
 use crate::answers::Lost;
 use crate::answers::Step;
 use crate::answers::step_lost;
@@ -38,7 +39,7 @@ pub fn named_lost(r: Named) -> Lost
 }
 
 // Blanks and a name, from an offset of a part.
-pub fn word_behind(part: &[u8], base: usize, c: usize) -> Named
+pub fn blank_word(part: &[u8], base: usize, c: usize) -> Named
     requires { ⌜ ((base ≤ c) × (c ≤ base + length (now part))) × (base + length (now part) ≤ u64-max) ⌝ }
     ensures { λ r. ⌜ NamedAt blank-word r base (now (part .entry)) c ⌝ }
 {
@@ -52,7 +53,7 @@ pub fn word_behind(part: &[u8], base: usize, c: usize) -> Named
 }
 
 // At least one blank and a name.
-pub fn word_apart(part: &[u8], base: usize, c: usize) -> Named
+pub fn gap_word(part: &[u8], base: usize, c: usize) -> Named
     requires { ⌜ ((base ≤ c) × (c ≤ base + length (now part))) × (base + length (now part) ≤ u64-max) ⌝ }
     ensures { λ r. ⌜ NamedAt gap-word r base (now (part .entry)) c ⌝ }
 {
@@ -91,10 +92,10 @@ pub fn keyword_name(part: &[u8], base: usize, key: &[u8]) -> Named
 }
 
 // Two keywords and the name behind them.
-pub fn name_behind(part: &[u8], base: usize, first: &[u8], second: &[u8]) -> Named
+pub fn two_keywords_name(part: &[u8], base: usize, first: &[u8], second: &[u8]) -> Named
     requires { ⌜ base + length (now part) ≤ u64-max ⌝ }
     requires { ⌜ (isKey (now first) ≡ true) × (isKey (now second) ≡ true) ⌝ }
-    ensures { λ r. ⌜ NamedTo (name-behind (now (first .entry)) (now (second .entry))) r base (now (part .entry)) ⌝ }
+    ensures { λ r. ⌜ NamedTo (two-keywords-name (now (first .entry)) (now (second .entry))) r base (now (part .entry)) ⌝ }
 {
     let part = &part[..];
     let first = &first[..];
@@ -123,7 +124,7 @@ pub fn named_after(part: &[u8], base: usize, first: &[u8], second: &[u8]) -> Nam
     let part = &part[..];
     let first = &first[..];
     let second = &second[..];
-    let named = name_behind(part, base, first, second);
+    let named = two_keywords_name(part, base, first, second);
     let Named::Name(name, end, c1) = named else {
         return Named::NoName(named_lost(named));
     };
@@ -158,7 +159,7 @@ pub fn keyword_number(part: &[u8], base: usize, key: &[u8]) -> Number
 }
 
 // A colon and the name of a type.
-pub fn type_behind(part: &[u8], base: usize) -> Named
+pub fn colon_type(part: &[u8], base: usize) -> Named
     requires { ⌜ base + length (now part) ≤ u64-max ⌝ }
     ensures { λ r. ⌜ NamedTo type-behind r base (now (part .entry)) ⌝ }
 {
@@ -176,7 +177,7 @@ pub fn type_behind(part: &[u8], base: usize) -> Named
 }
 
 // An equals sign and a code.
-pub fn code_at(part: &[u8], base: usize, c: usize) -> Number
+pub fn equals_code(part: &[u8], base: usize, c: usize) -> Number
     requires { ⌜ ((base ≤ c) × (c ≤ base + length (now part))) × (base + length (now part) ≤ u64-max) ⌝ }
     ensures { λ r. ⌜ NumberAt equals-code r base (now (part .entry)) c ⌝ }
 {
@@ -192,11 +193,11 @@ pub fn code_at(part: &[u8], base: usize, c: usize) -> Number
 }
 
 // The same behind blanks.
-pub fn code_behind(part: &[u8], base: usize, c: usize) -> Number
+pub fn blank_equals_code(part: &[u8], base: usize, c: usize) -> Number
     requires { ⌜ ((base ≤ c) × (c ≤ base + length (now part))) × (base + length (now part) ≤ u64-max) ⌝ }
     ensures { λ r. ⌜ NumberAt (behind-blanks equals-code) r base (now (part .entry)) c ⌝ }
 {
     let part = &part[..];
     let n = blank_at(part, base, c);
-    code_at(part, base, n)
+    equals_code(part, base, n)
 }

@@ -3,8 +3,8 @@ ghost use mathlib.Core.Path.{_≡_};
 ghost use Prim.Native.Nat.{_+_, _≤_};
 ghost use lib.ListN.{length, drop, getD};
 ghost use Rattle.lexing.specs.answers.{Rest, LacksIf};
+use crate::eights::bytes_other_than;
 use crate::eights::eight_at;
-use crate::eights::others;
 
 // The rest of a part, from an offset on.
 pub fn rest_at(part: &[u8], base: usize, c: usize) -> &[u8]
@@ -26,14 +26,14 @@ pub fn peek(part: &[u8], i: usize) -> u8
 }
 
 // Whether eight bytes stand at a place, none of them x.
-pub fn lacks(part: &[u8], i: usize, x: u8) -> bool
+pub fn eight_without(part: &[u8], i: usize, x: u8) -> bool
     requires { ⌜ i ≤ length (now part) ⌝ }
     ensures { λ r. ⌜ LacksIf r x (now (part .entry)) i ⌝ }
 {
     if part.len() - i < 8 {
         return false;
     }
-    others(eight_at(part, i), x) == 0x8080_8080_8080_8080
+    bytes_other_than(eight_at(part, i), x) == 0x8080_8080_8080_8080
 }
 
 // What is left behind n bytes; nothing where there are fewer.

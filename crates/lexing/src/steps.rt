@@ -27,8 +27,7 @@ fn blank_end(part: &[u8], base: usize, c: usize) -> usize
     blank_run(part, base, c, &mut doc)
 }
 
-// The offset behind blanks. It is `whitespace0` without the doc comment, so that no struct is needed; and a slice of the rest is made only
-// where a byte or two do not tell the offset.
+// The offset behind blanks: `whitespace0` without the doc comment, as a plain number and in place.
 pub fn blank_at(part: &[u8], base: usize, c: usize) -> usize
     requires { ⌜ ((base ≤ c) × (c ≤ base + length (now part))) × (base + length (now part) ≤ u64-max) ⌝ }
     ensures { λ r. ⌜ BlankAt r base (now (part .entry)) c ⌝ }
@@ -67,7 +66,7 @@ pub fn tag_behind(part: &[u8], base: usize, c: usize, t: u8) -> Step
     tag(rest_at(part, base, n), n, t)
 }
 
-// Blanks and a keyword, which is handed on by its parts.
+// Blanks and a keyword.
 pub fn keyword_behind(part: &[u8], base: usize, c: usize, key: &[u8]) -> Step
     requires { ⌜ ((base ≤ c) × (c ≤ base + length (now part))) × (base + length (now part) ≤ u64-max) ⌝ }
     requires { ⌜ isKey (now key) ≡ true ⌝ }

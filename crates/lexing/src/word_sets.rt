@@ -6,8 +6,8 @@ ghost use mathlib.Core.List.{[]};
 ghost use lib.ListN.{length, take, getD};
 ghost use Rattle.lexing.specs.integers.{u64-max};
 ghost use Rattle.lexing.specs.words.{isKey, isLower};
-ghost use Rattle.lexing.specs.word_sets.{set-of};
-ghost use Rattle.lexing.specs.answers.{WordSetTo};
+ghost use Rattle.lexing.specs.word_sets.{field-set, command-set, attribute-set};
+ghost use Rattle.lexing.specs.answers.{set-of, WordSetTo};
 ghost use Rattle.lexing.specs.inner.word_sets.{KeywordEnd, set-gap, startReply, with-flag, initial, LowerAt, EightFlag};
 use crate::answers::Step;
 use crate::blanks::whitespace0;
@@ -17,6 +17,17 @@ use crate::eights::non_capitals;
 use crate::parts::peek;
 use crate::parts::rest_at;
 use crate::words::keyword;
+
+// The sets that the Rust reads, by number; any other is empty.
+pub const FIELD_SET: u8 = 0;
+
+pub const STRUCT_SET: u8 = 1;
+
+pub const EVENT_SET: u8 = 2;
+
+pub const COMMAND_SET: u8 = 3;
+
+pub const ATTRIBUTE_SET: u8 = 4;
 
 // The flags of the words that are written in lower case, the first keyword's bit the highest, and the offset behind the last word.
 pub struct WordSet {
@@ -34,25 +45,25 @@ enum Start {
 fn keyword_count(set: u8) -> usize
     ensures { λ r. ⌜ r ≡ length (set-of set) ⌝ }
 {
-    if set == 0 {
+    if set == FIELD_SET {
         return 3;
     }
-    if set == 1 {
+    if set == STRUCT_SET {
         return 1;
     }
-    if set == 2 {
+    if set == EVENT_SET {
         return 1;
     }
-    if set == 3 {
+    if set == COMMAND_SET {
         return 2;
     }
-    if set == 4 {
+    if set == ATTRIBUTE_SET {
         return 4;
     }
     0
 }
 
-// The offset behind a keyword, or base where it does not stand there. It is no Step, since one that several calls can return goes through memory.
+// The offset behind a keyword, or base where it does not stand there: a plain number.
 fn keyword_end(part: &[u8], base: usize, key: &[u8]) -> usize
     requires { ⌜ base + length (now part) ≤ u64-max ⌝ }
     requires { ⌜ isKey (now key) ≡ true ⌝ }
@@ -69,7 +80,7 @@ fn keyword_end(part: &[u8], base: usize, key: &[u8]) -> usize
 fn field_keyword(part: &[u8], base: usize, k: usize) -> usize
     requires { ⌜ base + length (now part) ≤ u64-max ⌝ }
     requires { ⌜ k < 3 ⌝ }
-    ensures { λ r. ⌜ KeywordEnd (getD (set-of 0) k []) base (now (part .entry)) r ⌝ }
+    ensures { λ r. ⌜ KeywordEnd (getD field-set k []) base (now (part .entry)) r ⌝ }
 {
     if k == 0 {
         return keyword_end(part, base, b"optional");
@@ -84,7 +95,7 @@ fn field_keyword(part: &[u8], base: usize, k: usize) -> usize
 fn command_keyword(part: &[u8], base: usize, k: usize) -> usize
     requires { ⌜ base + length (now part) ≤ u64-max ⌝ }
     requires { ⌜ k < 2 ⌝ }
-    ensures { λ r. ⌜ KeywordEnd (getD (set-of 3) k []) base (now (part .entry)) r ⌝ }
+    ensures { λ r. ⌜ KeywordEnd (getD command-set k []) base (now (part .entry)) r ⌝ }
 {
     if k == 0 {
         return keyword_end(part, base, b"timed");
@@ -96,7 +107,7 @@ fn command_keyword(part: &[u8], base: usize, k: usize) -> usize
 fn attribute_keyword(part: &[u8], base: usize, k: usize) -> usize
     requires { ⌜ base + length (now part) ≤ u64-max ⌝ }
     requires { ⌜ k < 4 ⌝ }
-    ensures { λ r. ⌜ KeywordEnd (getD (set-of 4) k []) base (now (part .entry)) r ⌝ }
+    ensures { λ r. ⌜ KeywordEnd (getD attribute-set k []) base (now (part .entry)) r ⌝ }
 {
     if k == 0 {
         return keyword_end(part, base, b"readonly");
@@ -116,16 +127,16 @@ fn set_keyword(part: &[u8], base: usize, set: u8, k: usize) -> usize
     requires { ⌜ k < length (set-of set) ⌝ }
     ensures { λ r. ⌜ KeywordEnd (getD (set-of set) k []) base (now (part .entry)) r ⌝ }
 {
-    if set == 0 {
+    if set == FIELD_SET {
         return field_keyword(part, base, k);
     }
-    if set == 1 {
+    if set == STRUCT_SET {
         return keyword_end(part, base, b"fabric_scoped");
     }
-    if set == 2 {
+    if set == EVENT_SET {
         return keyword_end(part, base, b"fabric_sensitive");
     }
-    if set == 3 {
+    if set == COMMAND_SET {
         return command_keyword(part, base, k);
     }
     attribute_keyword(part, base, k)
@@ -135,7 +146,7 @@ fn set_keyword(part: &[u8], base: usize, set: u8, k: usize) -> usize
 fn is_initial(set: u8, x: u8) -> bool
     ensures { λ r. ⌜ r ≡ initial x (set-of set) ⌝ }
 {
-    if set == 0 {
+    if set == FIELD_SET {
         if x == b'o' {
             return true;
         }
@@ -144,19 +155,19 @@ fn is_initial(set: u8, x: u8) -> bool
         }
         return x == b'f';
     }
-    if set == 1 {
+    if set == STRUCT_SET {
         return x == b'f';
     }
-    if set == 2 {
+    if set == EVENT_SET {
         return x == b'f';
     }
-    if set == 3 {
+    if set == COMMAND_SET {
         if x == b't' {
             return true;
         }
         return x == b'f';
     }
-    if set != 4 {
+    if set != ATTRIBUTE_SET {
         return false;
     }
     if x == b'r' {
@@ -251,7 +262,8 @@ fn word_start(part: &[u8], base: usize, first: bool) -> Start
     Start::Here(next)
 }
 
-// The words of a set. A word that no keyword begins like ends it before the walk over the keywords.
+// The words of a set. It ends at the first word that isn't in it: behind the last keyword of the walk, or before the walk where no keyword begins like
+// the word.
 fn words_of_set(part: &[u8], base: usize, set: u8) -> WordSet
     requires { ⌜ base + length (now part) ≤ u64-max ⌝ }
     ensures { λ r. ⌜ WordSetTo r set base (now (part .entry)) ⌝ }
@@ -264,39 +276,40 @@ fn words_of_set(part: &[u8], base: usize, set: u8) -> WordSet
     'words: loop {
         let s = word_start(rest_at(part, base, next), next, first);
         let Start::Here(start) = s else {
-            break;
+            break 'words WordSet { flags, next };
         };
         let rest = rest_at(part, base, start);
         if !is_initial(set, lower_of(peek(rest, 0))) {
-            break;
+            break 'words WordSet { flags, next };
         }
         let mut k = 0;
-        while k < count {
+        loop {
+            if count <= k {
+                break 'words WordSet { flags, next };
+            }
             let end = set_keyword(rest, start, set, k);
             if start < end {
                 flags = with_flag(flags, count - 1 - k, is_lower(rest, end - start));
                 next = end;
                 first = false;
-                continue 'words;
+                break;
             }
             k += 1;
         }
-        break;
     }
-    WordSet { flags, next }
 }
 
 // The flag of the keyword of eight bytes whose bytes are those of w, 0 where the set has none such.
 fn eight_flag(set: u8, w: u64) -> u8
     ensures { λ r. ⌜ EightFlag r set w ⌝ }
 {
-    if set == 4 {
+    if set == ATTRIBUTE_SET {
         // readonly
         if w == 0x796c_6e6f_6461_6572 {
             return 8;
         }
     }
-    if set == 0 {
+    if set == FIELD_SET {
         // optional
         if w == 0x6c61_6e6f_6974_706f {
             return 4;
@@ -310,8 +323,7 @@ fn eight_flag(set: u8, w: u64) -> u8
 }
 
 // The words of a set, where the first byte may begin one. Most such sets are one keyword of eight bytes in lower case, with a space behind it and
-// then a byte that begins neither a blank nor a keyword: ten bytes tell that without the loop over words. The loop is called at several places,
-// so that it stays a function of its own and what is left here is short.
+// then a byte that begins neither a blank nor a keyword: ten bytes, a short front, tell that without the loop over words.
 fn words_by_front(part: &[u8], base: usize, set: u8) -> WordSet
     requires { ⌜ base + length (now part) ≤ u64-max ⌝ }
     ensures { λ r. ⌜ WordSetTo r set base (now (part .entry)) ⌝ }
@@ -340,8 +352,8 @@ fn words_by_front(part: &[u8], base: usize, set: u8) -> WordSet
     }
 }
 
-// A set by its number: of a struct's field, a struct, an event, a command, an attribute; any other is empty. Most sets have no word, which the
-// first byte tells. The reader of words is called at two places, so that it too stays a function of its own.
+// A set by its number. Most sets have no word, which the
+// first byte tells: a short front.
 pub fn keywords_set(part: &[u8], base: usize, set: u8) -> WordSet
     requires { ⌜ base + length (now part) ≤ u64-max ⌝ }
     ensures { λ r. ⌜ WordSetTo r set base (now (part .entry)) ⌝ }

@@ -71,7 +71,7 @@ fn word_by_end(part: &[u8], base: usize, c: usize, e: usize) -> Step
     Step::Next(base + e)
 }
 
-// A name at an offset of a part. No slice of the rest is made for it.
+// A name at an offset of a part, read in place.
 pub fn id_at(part: &[u8], base: usize, c: usize) -> Step
     requires { ⌜ ((base ≤ c) × (c ≤ base + length (now part))) × (base + length (now part) ≤ u64-max) ⌝ }
     ensures { λ r. ⌜ WordAt parse-id r base (now (part .entry)) c ⌝ }
@@ -79,6 +79,7 @@ pub fn id_at(part: &[u8], base: usize, c: usize) -> Step
     word_by_end(part, base, c, word_end(part, c - base))
 }
 
+// A name at the front. Only tests call it; the readers call `id_at`.
 pub fn parse_id(part: &[u8], base: usize) -> Step
     requires { ⌜ base + length (now part) ≤ u64-max ⌝ }
     ensures { λ r. ⌜ wordReply r base (now (part .entry)) ≡ parse-id base (now (part .entry)) ⌝ }
@@ -96,7 +97,7 @@ fn is_key_letter(x: u8) -> bool
     x == b'_'
 }
 
-// Whether bytes are a keyword that `keyword` takes, for a caller that does not know it.
+// Whether bytes are a keyword that `keyword` takes, for a caller that does not know it: only what the measurements call does not.
 pub fn is_key(key: &[u8]) -> bool
     ensures { λ r. ⌜ r ≡ isKey (now (key .entry)) ⌝ }
 {

@@ -1,9 +1,12 @@
 // Lines of known answers, for the programs that run them.
 ghost use Prim.Native.Nat.{_≤_};
-ghost use lib.ListN.{length};
+ghost use mathlib.Core.Path.{_≡_};
+ghost use lib.ListN.{length, take};
+ghost use Rattle.lines.specs.lines.{line};
 
 // The first n bytes, or all where there are fewer.
 pub fn front(text: &[u8], n: usize) -> &[u8]
+    ensures { λ r. ⌜ now r ≡ take n (now (text .entry)) ⌝ }
     ensures { λ r. ⌜ length (now r) ≤ length (now (text .entry)) ⌝ }
 {
     if n < text.len() {
@@ -14,6 +17,7 @@ pub fn front(text: &[u8], n: usize) -> &[u8]
 
 // How many bytes stand before the next line feed.
 pub fn line_length(part: &[u8]) -> usize
+    ensures { λ r. ⌜ r ≡ length (line (now (part .entry))) ⌝ }
     ensures { λ r. ⌜ r ≤ length (now (part .entry)) ⌝ }
 {
     let mut i = 0;

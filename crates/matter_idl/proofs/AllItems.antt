@@ -4,48 +4,28 @@ use mathlib.Core.List.{List, [], _∷_}
 use Prim.Native.Nat.{ℕ, zero, suc, _-_, _≤_, _<_}
 use native.Mathlib.Omega.{arith}
 use lib.ListN.{length, drop}
-use Rattle.lexing.specs.reply.{Reply, ok, fail, stop, Parser, ret, _>>=_, position, prepend, many0, catch, iterWithin, iter, keep}
-use Rattle.lexing.specs.words.{parse-id, keyword}
-use Rattle.lexing.specs.blanks.{Doc, no-doc, line-comment, block-comment, multispace1, whitespace-group, one-blank, whitespace0, whitespace1}
-use Rattle.lexing.specs.answers.{lostReply, Rest, BlankTo, Fail, Stop}
-use Rattle.lexing.specs.declared.blanks.DocSpan.the-variants.{Absent}
+use Rattle.lexing.specs.reply.{Reply, ok, fail, stop, Parser, _>>=_, prepend, many0}
+use Rattle.lexing.specs.blanks.{Doc, no-doc}
+use Rattle.lexing.specs.answers.{lostReply, Rest, Fail, Stop}
 use Rattle.lexing.specs.declared.answers.Lost.{Lost}
 use Rattle.lexing.proofs.Losses.{by-lost}
-use Rattle.lexing.proofs.Slicing.{rest-self, begin, lose}
-use Rattle.lexing.proofs.blanks.Laws.{gap-none}
-use Rattle.lexing.proofs.FirstWord.{Frees}
-use Rattle.lexing.proofs.Repetition.{ManyAt, many0-more, many0-fail, many0-stop, many0-ends, manyEnd}
+use Rattle.lexing.proofs.Slicing.{rest-self, begin, lose, ret-is}
+use Rattle.lexing.proofs.TextEnd.{no-keyword, no-keywords, no-blank, no-gap}
+use Rattle.lexing.proofs.Repetition.{ManyAt, prepend-ok, prepend-fail, prepend-stop, prepends, many0-more, many0-fail, many0-stop, many0-ends, manyEnd}
 use Rattle.items.specs.entries.{parse-enum-after-doc-maturity, parse-bitmap-after-doc-maturity}
-use Rattle.items.specs.inner.clusters.{struct-words}
-use Rattle.items.specs.inner.items.{cluster-words}
+use Rattle.items.specs.inner.member_kinds.{struct-starts}
+use Rattle.items.specs.inner.items.{cluster-starts}
 use Rattle.items.specs.clusters.{mapped}
-use Rattle.items.specs.items.{Item, item, after-maturity, declaration}
+use Rattle.items.specs.items.{Item, item}
+use Rattle.items.specs.answers.items.{after-maturity, declaration}
 use Rattle.items.proofs.Choice.{or-both}
 use Rattle.items.proofs.Locality.{item-consumes}
-use Rattle.items.proofs.Tries.{maturity-words, bind-ok, then-ok, then-fail, mapped-fail, maturity-elsewhere, endpoint-elsewhere, cluster-elsewhere, choice-elsewhere, struct-elsewhere}
+use Rattle.lexing.proofs.Sequences.{bind-ok, then-ok, then-fail}
+use Rattle.items.proofs.Tries.{maturity-words, mapped-fail, maturity-elsewhere, endpoint-elsewhere, cluster-elsewhere, choice-elsewhere, struct-elsewhere}
 use Rattle.items.proofs.items.Laws.{item-is}
 use Rattle.matter_idl.specs.reading.{unless-ended, itemsWithin, all-items}
 
--- At the end of a text stands no word, no blank, and so no declaration and no item.
-no-keyword : (k : List ℕ) (b : ℕ) → keyword k b [] ≡ fail b
-unfolding keyword position parse-id _>>=_
-no-keyword k b = refl
-
-no-keywords : (ks : List (List ℕ)) (b : ℕ) → Frees b [] ks
-no-keywords [] b = tt
-no-keywords (k ∷ ks) b = (no-keyword k b, no-keywords ks b)
-
-no-blank : (b : ℕ) → whitespace0 b [] ≡ ok no-doc b []
-unfolding whitespace0 iter iterWithin one-blank whitespace-group catch line-comment block-comment multispace1 _>>=_ keep
-no-blank b = refl
-
--- a run of no blanks
-pub clear-blank : {b : ℕ} {u : List ℕ} → whitespace0 b u ≡ ok no-doc b u → BlankTo (record { next = b; doc = Absent }) b u
-clear-blank {b} {u} e = let z : b - b ≡ 0 = omega arith in record { reads = rw z (sym e); up = omega arith; inside = omega arith }
-
-no-gap : (b : ℕ) → whitespace1 b [] ≡ fail b
-no-gap b = sym (gap-none b [] _ (clear-blank (no-blank b)) refl)
-
+-- At the end of a text stands no declaration and no item.
 behind-maturity : {A B : Type 0} (f : ℕ → Parser A) (g : A → B) (b : ℕ) → f 0 b [] ≡ fail b → mapped (after-maturity f) g b [] ≡ fail b
 unfolding after-maturity
 behind-maturity f g b e = mapped-fail _ _ (bind-ok _ _ (maturity-elsewhere b [] (no-keywords maturity-words b)) ∙ (then-ok _ _ (no-blank b) ∙ e))
@@ -53,11 +33,11 @@ behind-maturity f g b e = mapped-fail _ _ (bind-ok _ _ (maturity-elsewhere b [] 
 pub no-declaration : (d : Doc) (b : ℕ) → declaration d b [] ≡ fail b
 unfolding declaration parse-enum-after-doc-maturity parse-bitmap-after-doc-maturity
 no-declaration d b =
-    or-both _ _ (behind-maturity _ _ b (cluster-elsewhere b [] d 0 (no-keywords cluster-words b))) (
+    or-both _ _ (behind-maturity _ _ b (cluster-elsewhere b [] d 0 (no-keywords cluster-starts b))) (
     or-both _ _ (mapped-fail _ _ (endpoint-elsewhere b [] (no-blank b) (no-keyword _ b))) (
     or-both _ _ (behind-maturity _ _ b (choice-elsewhere b [] d 0 _ (no-keyword _ b) (no-keyword _ b))) (
     or-both _ _ (behind-maturity _ _ b (choice-elsewhere b [] d 0 _ (no-keyword _ b) (no-keyword _ b)))
-    (behind-maturity _ _ b (struct-elsewhere b [] d 0 (no-blank b) (no-keyword _ b) (no-keywords struct-words b)))
+    (behind-maturity _ _ b (struct-elsewhere b [] d 0 (no-blank b) (no-keyword _ b) (no-keywords struct-starts b)))
     )))
 
 no-item : (b : ℕ) → item b [] ≡ fail b
@@ -76,35 +56,25 @@ finished (fail p) = fail p
 finished (stop n p) = stop n p
 
 prepend-unread : (i : Item) (x : Reply Item) → prepend i (unread x) ≡ unread x
-unfolding prepend unread
-prepend-unread i (ok j c r) = refl
-prepend-unread i (fail p) = refl
-prepend-unread i (stop n p) = refl
+unfolding unread
+prepend-unread i (ok j c r) = prepend-fail i c
+prepend-unread i (fail p) = prepend-fail i p
+prepend-unread i (stop n p) = prepend-stop i n p
 
 prepend-finished : (i : Item) (x : Reply (List Item)) → prepend i (finished x) ≡ finished (prepend i x)
-unfolding prepend finished
-prepend-finished i (ok l c []) = refl
-prepend-finished i (ok l c (x ∷ v)) = prepend-unread i (item c (x ∷ v))
-prepend-finished i (fail p) = refl
-prepend-finished i (stop n p) = refl
-
--- a turn of the definition's loop
-prepends : (i : Item) (m : Parser (List Item)) (c : ℕ) (r : List ℕ) → (m >>= λ l. ret (i ∷ l)) c r ≡ prepend i (m c r)
-unfolding _>>=_ ret prepend
-prepends i m c r = go (m c r) refl
-  where
-    go : (x : Reply (List Item)) → m c r ≡ x → (m >>= λ l. ret (i ∷ l)) c r ≡ prepend i (m c r)
-    go (ok l e v) z = rw (z, _>>=_) refl
-    go (fail p) z = rw (z, _>>=_) refl
-    go (stop n p) z = rw (z, _>>=_) refl
+unfolding finished
+prepend-finished i (ok l c []) = prepend-ok i l c [] ∙ sym (ap finished (prepend-ok i l c []))
+prepend-finished i (ok l c (x ∷ v)) = prepend-unread i (item c (x ∷ v)) ∙ sym (ap finished (prepend-ok i l c (x ∷ v)))
+prepend-finished i (fail p) = prepend-fail i p ∙ sym (ap finished (prepend-fail i p))
+prepend-finished i (stop n p) = prepend-stop i n p ∙ sym (ap finished (prepend-stop i n p))
 
 bind-lost : (k : Item → Parser (List Item)) (b : ℕ) (u : List ℕ) (l : Lost) → item b u ≡ lostReply l → (item >>= k) b u ≡ lostReply l
 bind-lost k b u l e = sym (begin (item >>= k) b u (lose item k l (rest-self b u) (sym e)))
 
 ended-within : (n b : ℕ) → itemsWithin n b [] ≡ finished (many0 item b [])
-unfolding itemsWithin unless-ended ret finished
-ended-within zero b = rw (many0-fail item item-consumes b [] b (no-item b)) refl
-ended-within (suc n) b = rw (many0-fail item item-consumes b [] b (no-item b)) refl
+unfolding itemsWithin unless-ended finished
+ended-within zero b = ret-is [] b [] ∙ sym (ap finished (many0-fail item item-consumes b [] b (no-item b)))
+ended-within (suc n) b = sym (ap finished (many0-fail item item-consumes b [] b (no-item b)))
 
 module _ (n b x : ℕ) (v : List ℕ) where
   turn : (i : Item) (c : ℕ) (r : List ℕ) → item b (x ∷ v) ≡ ok i c r → itemsWithin (suc n) b (x ∷ v) ≡ prepend i (itemsWithin n c r)

@@ -15,7 +15,8 @@ use Rattle.items.specs.members.{Event, Command, Attribute, Privileges}
 use Rattle.items.specs.clusters.{Member, revision, bitmap, enum, struct, attribute, command, event}
 use Rattle.items.specs.endpoints.{DeviceType, Default, number, signed-number, truth, text, AttributeInstance, Instance, attribute-instance, command-instance, event-instance, Instantiation, Part, device, binding, instantiation}
 use Rattle.items.specs.items.{Item, cluster-item, endpoint-item, enum-item, bitmap-item, struct-item, blank-item}
-use Rattle.items.proofs.Truth.{All, Maybe, WordTrue, DocTrue, EntryTrue, true-entry, ChoiceTrue, true-choice, FieldTrue, true-field, StructFieldTrue, true-struct-field, StructTrue, true-struct, EventTrue, true-event, CommandTrue, true-command, PrivilegesTrue, true-privileges, AttributeTrue, true-attribute, MemberTrue, true-cluster, DeviceTrue, true-device, DefaultTrue, AttributeInstanceTrue, true-attribute-instance, InstanceTrue, InstantiationTrue, true-instantiation, PartTrue, true-endpoint, ItemTrue, word-around}
+use Rattle.lexing.proofs.Truth.{All, Maybe, WordTrue, DocTrue, word-around}
+use Rattle.items.proofs.Truth.{EntryTrue, true-entry, ChoiceTrue, true-choice, FieldTrue, true-field, StructFieldTrue, true-struct-field, StructTrue, true-struct, EventTrue, true-event, CommandTrue, true-command, PrivilegesTrue, true-privileges, AttributeTrue, true-attribute, MemberTrue, true-cluster, DeviceTrue, true-device, DefaultTrue, AttributeInstanceTrue, true-attribute-instance, InstanceTrue, InstantiationTrue, true-instantiation, PartTrue, true-endpoint, ItemTrue}
 use Rattle.matter_idl.specs.inner.reading.{PartOf}
 
 -- where Q holds of every element and implies R

@@ -7,11 +7,11 @@ use borrow.Author.Tests.{le-leb}
 use Rattle.lexing.specs.outcomes.{written, fitted}
 use Rattle.items.specs.records.{moved}
 use Rattle.lexing.specs.buffers.{each}
-use Rattle.items.specs.layout.{Layout, layout-20, catalogue-bytes, text-limit}
+use Rattle.items.specs.layout.{Layout, layout, catalogue-bytes, text-limit}
 use Rattle.matter_idl.specs.hoisting.{no-ids, hoisted}
 use Rattle.matter_idl.specs.reading.{Verdict, accepted, turned-down, verdict, into-catalogue, reading}
 use Rattle.matter_idl.specs.sections.{sections}
-use Rattle.matter_idl.specs.survey.{items-of, accepted-items, entries, ReportLayout, report-20, surveyed, for-catalogue, into-buffers, survey}
+use Rattle.matter_idl.specs.survey.{items-of, accepted-items, report-entries, ReportLayout, report-layout, surveyed, for-catalogue, into-buffers, survey}
 use Rattle.matter_idl.specs.demand_3.{alone, own-records, fed, globals, entries-alone, catalogue-for, report-for, LongEnough, EachAccepted, moved-entry, extent-of, Replacement, Replaced, Demand3Over, Demand3Now}
 use Rattle.matter_idl.proofs.HandedOut.{handed-own, handed-places, handed-hoisted, handed-ids}
 use Rattle.matter_idl.proofs.hoisting.Types.{hoisted-globals}
@@ -44,7 +44,7 @@ unfolding own-records fed each items-of hoisted
 nothing-of s k p e = rw e (refl, refl)
 
 -- the entries of the sections where they stand
-entries-now : (u : List ℕ) → length u ≤ text-limit → entries 0 (sections u) ≡ entries-alone 0 (sections u)
+entries-now : (u : List ℕ) → length u ≤ text-limit → report-entries 0 (sections u) ≡ entries-alone 0 (sections u)
 entries-now u h = entries-as-alone 0 (sections u) (each-short (sections u) (rw (sections-joined u) h))
 
 module _ (L : Layout) (R : ReportLayout) (u : List ℕ) (h : length u ≤ text-limit) where
@@ -97,9 +97,9 @@ demand-3 L R u n m h k =
     }
 
 -- Document 01's layouts: a report has 8 bytes a section.
-rows : (u : List ℕ) → length u ≤ text-limit → length (report-for report-20 u) ≡ 8 * length (sections u)
+rows : (u : List ℕ) → length u ≤ text-limit → length (report-for report-layout u) ≡ 8 * length (sections u)
 unfolding report-for
-rows u h = rw (← entries-now u h) (report-length (entries 0 (sections u)) ∙ ap (λ n. 8 * n) (entries-count 0 (sections u)))
+rows u h = rw (← entries-now u h) (report-length (report-entries 0 (sections u)) ∙ ap (λ n. 8 * n) (entries-count 0 (sections u)))
 
 pub demand-3-now : Demand3Now
-demand-3-now u n m h k j = demand-3 layout-20 report-20 u n m h (record { catalogue = k; report = rw (rows u h) j })
+demand-3-now u n m h k j = demand-3 layout report-layout u n m h (record { catalogue = k; report = rw (rows u h) j })

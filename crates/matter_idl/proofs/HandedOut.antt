@@ -9,7 +9,8 @@ use Rattle.items.specs.records.{Record, moved}
 use Rattle.lexing.specs.buffers.{each}
 use Rattle.items.specs.layout.{text-limit}
 use Rattle.items.proofs.Shift.{shiftItem}
-use Rattle.matter_idl.specs.hoisting.{Tables, no-ids, held, after-items, hoisted, found, with-place}
+use Rattle.matter_idl.specs.hoisting.{Tables, no-ids, held, after-items, hoisted}
+use Rattle.matter_idl.specs.demand_3.{has-global, with-place}
 use Rattle.matter_idl.specs.reading.{verdict}
 use Rattle.matter_idl.specs.sections.{sections}
 use Rattle.matter_idl.specs.survey.{items-of, accepted-items}
@@ -99,9 +100,9 @@ module _ (u : List ℕ) (h : length u ≤ text-limit) where
   handed-hoisted = handed (sections u) ∙ ap (hoisted no-ids) (sym items-moved)
 
   -- the ids of the globals
-  handed-found : (K : Kind) (i : List ℕ) → found u (number-of K) i (handed-out (sections u)) ≡ held i (table-of K (after-items no-ids (fed (sections u))))
+  handed-found : (K : Kind) (i : List ℕ) → has-global u (number-of K) i (handed-out (sections u)) ≡ held i (table-of K (after-items no-ids (fed (sections u))))
   handed-found K i =
-      ap (found u (number-of K) i) handed-hoisted
+      ap (has-global u (number-of K) i) handed-hoisted
       ∙ (sym (by-search u (length u) i K (accepted-items 0 (sections u)) (survey-true u))
       ∙ ap (λ t. held i (table-of K t)) (ap (after-items no-ids) items-moved ∙ tables-fed no-ids 0 (sections u)))
 

@@ -12,7 +12,8 @@ use Rattle.lexing.proofs.Repetition.{before}
 use Rattle.items.specs.items.{Item, item}
 use Rattle.items.proofs.Locality.{item-local, item-consumes}
 use Rattle.lexing.proofs.Composed.{rest-on}
-use Rattle.items.proofs.Truth.{All, ItemTrue, item-true}
+use Rattle.lexing.proofs.Truth.{All}
+use Rattle.items.proofs.Truth.{ItemTrue, item-true}
 use Rattle.items.proofs.items.Laws.{item-walks}
 use Rattle.matter_idl.specs.reading.{all-items}
 use Rattle.matter_idl.proofs.AllItems.{all-more, accepted-many}

@@ -22,8 +22,14 @@ pub mod HandedOut
 pub mod Replacing
 -- demand 3
 pub mod Demand3
+-- demand 3 once more, field by field
+pub mod Demand3Stated
 -- what the survey writes fits its bits
 pub mod ReportFits
+-- what is written splits into its records
+pub mod Splitting
+-- moving changes offsets and no other bit
+pub mod Moving
 -- buffers that are always long enough
 pub mod EnoughRoom
 pub mod Demand3Examples

@@ -10,9 +10,10 @@ use Rattle.items.specs.clusters.{Member, revision, bitmap, enum, struct, attrib
 use Rattle.items.specs.items.{Item, cluster-item, endpoint-item, enum-item, bitmap-item, struct-item, blank-item}
 use Rattle.items.specs.records.{Record, documented, choice-records, struct-records, member-records, cluster-records, item-records}
 use Rattle.lexing.specs.buffers.{each}
-use Rattle.items.specs.layout.{layout-20, record-words, catalogue-words, word-count}
+use Rattle.items.specs.layout.{layout, record-words, catalogue-words, word-count}
 use Rattle.items.specs.answers.items.{unhoisted-item}
-use Rattle.matter_idl.specs.hoisting.{Tables, after-item, hoisted, with-place}
+use Rattle.matter_idl.specs.hoisting.{Tables, after-item, hoisted}
+use Rattle.matter_idl.specs.demand_3.{with-place}
 use Rattle.matter_idl.specs.demand_3.{save-places}
 
 -- records that differ in their places alone
@@ -72,16 +73,16 @@ alike-hoisted t [] = alike []
 alike-hoisted t (i ∷ l) = alike-append (alike-item _ _ 1 1 i) (alike-hoisted (after-item t i) l)
 
 -- they take as many words
-words-saved : (l : List Record) → word-count (save-places l) ≡ word-count l
-unfolding save-places with-place word-count catalogue-words each record-words layout-20
+words-saved : (l : List Record) → word-count layout (save-places l) ≡ word-count layout l
+unfolding save-places with-place word-count catalogue-words each record-words layout
 words-saved [] = refl
-words-saved (r ∷ l) = omega (arith, length-append (record-words layout-20 r) (each (record-words layout-20) l), length-append (record-words layout-20 (with-place 0 r)) (each (record-words layout-20) (map (with-place 0) l)), words-saved l)
+words-saved (r ∷ l) = omega (arith, length-append (record-words layout r) (each (record-words layout) l), length-append (record-words layout (with-place 0 r)) (each (record-words layout) (map (with-place 0) l)), words-saved l)
 
-pub alike-words : {k l : List Record} → Alike k l → word-count k ≡ word-count l
-alike-words {k} {l} e = sym (words-saved k) ∙ (ap word-count (e .same) ∙ words-saved l)
+pub alike-words : {k l : List Record} → Alike k l → word-count layout k ≡ word-count layout l
+alike-words {k} {l} e = sym (words-saved k) ∙ (ap (word-count layout) (e .same) ∙ words-saved l)
 
-pub item-words : (p q : ℕ) (f g : Member → ℕ) (i : Item) → word-count (item-records p f i) ≡ word-count (item-records q g i)
+pub item-words : (p q : ℕ) (f g : Member → ℕ) (i : Item) → word-count layout (item-records p f i) ≡ word-count layout (item-records q g i)
 item-words p q f g i = alike-words (alike-item f g p q i)
 
-pub hoisted-words : (t : Tables) (l : List Item) → word-count (hoisted t l) ≡ word-count (each unhoisted-item l)
+pub hoisted-words : (t : Tables) (l : List Item) → word-count layout (hoisted t l) ≡ word-count layout (each unhoisted-item l)
 hoisted-words t l = alike-words (alike-hoisted t l)

@@ -8,7 +8,7 @@ use Rattle.items.specs.records.{Extent, absent, at, Further, value, spanned, Re
 use Rattle.items.specs.layout.{text-limit}
 use Rattle.matter_idl.specs.reading.{Verdict, accepted, turned-down, verdict}
 use Rattle.matter_idl.specs.sections.{sections, joined}
-use Rattle.matter_idl.specs.survey.{Entry, sound, spoilt}
+use Rattle.matter_idl.specs.survey.{ReportEntry, sound, spoilt}
 use Rattle.matter_idl.specs.demand_3.{own-records, own-moved, save-places, entry-alone, entries-alone, moved-entry, number-of, MovedBy, extent-of, Replacement}
 use Rattle.matter_idl.proofs.HandedOut.{save-moved}
 use Rattle.matter_idl.proofs.Places.{save-append}
@@ -68,7 +68,7 @@ unfolding entries-alone
 entries-moved d b [] = refl
 entries-moved d b (s ∷ ss) = let z : d + b + length s ≡ d + (b + length s) = omega arith in rw (entry-moved d b (length s) (verdict s), z, entries-moved d (b + length s) ss)
 
-numbers-moved : (d : ℕ) (l : List Entry) → map number-of (map (moved-entry d) l) ≡ map number-of l
+numbers-moved : (d : ℕ) (l : List ReportEntry) → map number-of (map (moved-entry d) l) ≡ map number-of l
 unfolding number-of moved-entry
 numbers-moved d [] = refl
 numbers-moved d (sound b n ∷ l) = rw (numbers-moved d l)

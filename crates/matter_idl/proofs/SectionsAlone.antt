@@ -15,7 +15,7 @@ use Rattle.items.specs.layout.{text-limit}
 use Rattle.items.proofs.Shift.{shiftItem, shift-item}
 use Rattle.matter_idl.specs.reading.{unless-ended, itemsWithin, all-items, Verdict, accepted, turned-down, by-reply, by-utf8, verdict-at, verdict}
 use Rattle.matter_idl.specs.sections.{joined}
-use Rattle.matter_idl.specs.survey.{items-of, accepted-items, entry, entries}
+use Rattle.matter_idl.specs.survey.{items-of, accepted-items, report-entry, report-entries}
 use Rattle.matter_idl.specs.demand_3.{entry-alone, entries-alone}
 
 unfoldable pub shiftVerdict : ℕ → Verdict → Verdict
@@ -87,12 +87,12 @@ items-alone b [] h = refl
 items-alone b (s ∷ ss) h = rw (verdict-alone b s (h .0), items-shift b (verdict s), items-alone (b + length s) ss (h .1))
 
 -- the report
-entry-shift : (b n : ℕ) (v : Verdict) → entry b n (shiftVerdict b v) ≡ entry-alone b n v
-unfolding entry entry-alone shiftVerdict
+entry-shift : (b n : ℕ) (v : Verdict) → report-entry b n (shiftVerdict b v) ≡ entry-alone b n v
+unfolding report-entry entry-alone shiftVerdict
 entry-shift b n (accepted l) = refl
 entry-shift b n (turned-down k p) = refl
 
-pub entries-as-alone : (b : ℕ) (ss : List (List ℕ)) → EachShort ss → entries b ss ≡ entries-alone b ss
-unfolding entries entries-alone
+pub entries-as-alone : (b : ℕ) (ss : List (List ℕ)) → EachShort ss → report-entries b ss ≡ entries-alone b ss
+unfolding report-entries entries-alone
 entries-as-alone b [] h = refl
 entries-as-alone b (s ∷ ss) h = rw (verdict-alone b s (h .0), entry-shift b (length s) (verdict s), entries-as-alone (b + length s) ss (h .1))

@@ -1,11 +1,14 @@
 -- A text is read as its sections are: if each is accepted, so is the text, with their items. What the accepted ones hold is true of the text.
 use Prim.Native.Nat.{ℕ, _+_, _≤_}
 use mathlib.Core.Path.{_≡_, refl, _∙_}
+use mathlib.Core.Bool.{Bool, true, false}
 use mathlib.Core.Option.{Option, none, some}
 use mathlib.Core.List.{List, [], _∷_, _++_, append-nil, append-assoc}
 use native.Mathlib.Omega.{arith}
+use lib.Dec.{leb}
 use lib.ListN.{length, length-append}
 use lib.Seq.{drop-at}
+use borrow.Author.Tests.{leb-true}
 use Rattle.lexing.specs.reply.{Reply, ok, fail, stop, ret}
 use Rattle.lexing.specs.answers.{Rest}
 use Rattle.lexing.specs.utf8.{run, fault, utf8-error}
@@ -14,7 +17,8 @@ use Rattle.items.specs.items.{Item}
 use Rattle.items.specs.layout.{text-limit}
 use Rattle.lexing.proofs.Composed.{rest-whole}
 use Rattle.items.proofs.RecordsFit.{all-append}
-use Rattle.items.proofs.Truth.{All, ItemTrue}
+use Rattle.lexing.proofs.Truth.{All}
+use Rattle.items.proofs.Truth.{ItemTrue}
 use Rattle.matter_idl.specs.reading.{itemsWithin, all-items, Verdict, accepted, turned-down, by-reply, by-utf8, verdict-at, verdict}
 use Rattle.matter_idl.specs.sections.{sections, joined}
 use Rattle.matter_idl.specs.survey.{items-of, accepted-items}
@@ -71,6 +75,15 @@ behind-true p (s ∷ ss) c =
 
 pub survey-true : (u : List ℕ) → All (ItemTrue 0 u (length u)) (accepted-items 0 (sections u))
 survey-true u = rw (sections-joined u) at (behind-true [] (sections u) (sections-cut u))
+
+-- what an accepted text holds is true of it
+pub accepted-true : (u : List ℕ) (l : List Item) → verdict u ≡ accepted l → (length u ≤ text-limit) × All (ItemTrue 0 u (length u)) l
+unfolding verdict
+accepted-true u l h = go (leb (length u) text-limit) refl h
+  where
+    go : (b : Bool) → leb (length u) text-limit ≡ b → elim b [ true ↦ verdict-at 0 u | false ↦ turned-down 1 text-limit ] ≡ accepted l → (length u ≤ text-limit) × All (ItemTrue 0 u (length u)) l
+    go true e k = (leb-true (length u) text-limit e, reads-true 0 u (length u) (omega arith) (rest-behind [] u) (accepted-at 0 u l k .reads))
+    go false e k = let z : _≡_ {A = ℕ} 0 1 = cc in absurd (omega arith)
 
 -- If each section is accepted, the text is read to its end.
 abbrev EachAt : ℕ → List (List ℕ) → Type 0

@@ -1,20 +1,49 @@
 -- Demand 3: one claim about the survey, over a text's whole list of sections. proofs/Demand3 proves it.
 use Prim.Native.Nat.{ℕ, _+_, _*_, _≤_}
 use mathlib.Core.Path.{_≡_}
-use mathlib.Core.Bool.{true, false}
+use mathlib.Core.Bool.{Bool, true, false, _&&_, _||_}
 use mathlib.Core.Logic.{_⊎_}
 use mathlib.Core.List.{List, [], _∷_, _++_, map}
 use lib.Dec.{eqb}
-use lib.ListN.{length}
+use lib.ListN.{length, take, drop}
 use Rattle.lexing.specs.outcomes.{Outcome, refused, written}
 use Rattle.items.specs.items.{Item}
-use Rattle.items.specs.records.{Record, moved}
+use Rattle.items.specs.records.{Extent, Record, enum-kind, bitmap-kind, struct-kind, moved}
 use Rattle.lexing.specs.buffers.{each}
-use Rattle.items.specs.layout.{Layout, layout-20, catalogue-bytes, text-limit}
-use Rattle.matter_idl.specs.hoisting.{Tables, no-ids, held, after-items, hoisted, found, with-place}
+use Rattle.lexing.specs.word_sets.{same-bytes}
+use Rattle.items.specs.layout.{offset, size, Layout, layout, catalogue-bytes, text-limit}
+use Rattle.matter_idl.specs.hoisting.{Tables, no-ids, held, after-items, hoisted}
 use Rattle.matter_idl.specs.reading.{Verdict, accepted, turned-down, verdict, reading}
 use Rattle.matter_idl.specs.sections.{sections, joined}
-use Rattle.matter_idl.specs.survey.{items-of, accepted-items, Entry, sound, spoilt, ReportLayout, report-20, report-bytes, surveyed, for-catalogue, survey}
+use Rattle.matter_idl.specs.survey.{items-of, accepted-items, ReportEntry, sound, spoilt, ReportLayout, report-layout, report-bytes, surveyed, for-catalogue, survey}
+
+-- Records, and their place marks.
+
+-- a record with another place
+unfoldable pub with-place : ℕ → Record → Record
+with-place p r = record {
+  kind = r .kind;
+  place = p;
+  maturity = r .maturity;
+  doc-present = r .doc-present;
+  flags = r .flags;
+  name = r .name;
+  first-privilege = r .first-privilege;
+  second-privilege = r .second-privilege;
+  further = r .further;
+}
+
+-- the bytes of a name in the text
+unfoldable pub bytes-at : List ℕ → Extent → List ℕ
+bytes-at t e = take (size e) (drop (offset e) t)
+
+-- whether a record is that of a global type of kind k with the id i
+unfoldable pub is-global : List ℕ → ℕ → List ℕ → Record → Bool
+is-global t k i r = eqb (r .place) 1 && (eqb (r .kind) k && same-bytes i (bytes-at t (r .name)))
+
+unfoldable pub has-global : List ℕ → ℕ → List ℕ → List Record → Bool
+has-global t k i [] = false
+has-global t k i (r ∷ l) = is-global t k i r || has-global t k i l
 
 -- Document 01's words.
 
@@ -58,7 +87,7 @@ save-places l = map (with-place 0) l
 
 -- enum, bitmap, struct
 abbrev pub IsType : Record → Type 0
-IsType r = (r .kind ≡ 2) ⊎ ((r .kind ≡ 3) ⊎ (r .kind ≡ 5))
+IsType r = (r .kind ≡ enum-kind) ⊎ ((r .kind ≡ bitmap-kind) ⊎ (r .kind ≡ struct-kind))
 
 abbrev pub EachType : List Record → Type 0
 EachType [] = Unit {0}
@@ -71,16 +100,16 @@ globals (r ∷ l) = elim (eqb (r .place) 1) [ true ↦ r ∷ globals l | false �
 
 -- the ids of the globals of text u, kind by kind, are those in tables
 pub record GlobalIds (u : List ℕ) (l : List Record) (t : Tables) : Type 0 where
-  pub enums : (i : List ℕ) → found u 2 i l ≡ held i (t .enums)
-  pub bitmaps : (i : List ℕ) → found u 3 i l ≡ held i (t .bitmaps)
-  pub structs : (i : List ℕ) → found u 5 i l ≡ held i (t .structs)
+  pub enums : (i : List ℕ) → has-global u enum-kind i l ≡ held i (t .enums)
+  pub bitmaps : (i : List ℕ) → has-global u bitmap-kind i l ≡ held i (t .bitmaps)
+  pub structs : (i : List ℕ) → has-global u struct-kind i l ≡ held i (t .structs)
 
 -- the report of a section that starts at b and has n bytes: its number and place as alone, the place moved by its start
-unfoldable pub entry-alone : (b n : ℕ) → Verdict → Entry
+unfoldable pub entry-alone : (b n : ℕ) → Verdict → ReportEntry
 entry-alone b n (accepted l) = sound b n
 entry-alone b n (turned-down k p) = spoilt b n k (b + p)
 
-unfoldable pub entries-alone : ℕ → List (List ℕ) → List Entry
+unfoldable pub entries-alone : ℕ → List (List ℕ) → List ReportEntry
 entries-alone b [] = []
 entries-alone b (s ∷ ss) = entry-alone b (length s) (verdict s) ∷ entries-alone (b + length s) ss
 
@@ -104,12 +133,12 @@ EachAccepted [] = Unit {0}
 EachAccepted (s ∷ ss) = Accepted (verdict s) × EachAccepted ss
 
 -- in the report moved are the starts and the places of refusals
-unfoldable pub moved-entry : ℕ → Entry → Entry
+unfoldable pub moved-entry : ℕ → ReportEntry → ReportEntry
 moved-entry d (sound b n) = sound (d + b) n
 moved-entry d (spoilt b n k p) = spoilt (d + b) n k (d + p)
 
 -- 0: accepted
-unfoldable pub number-of : Entry → ℕ
+unfoldable pub number-of : ReportEntry → ℕ
 number-of (sound b n) = 0
 number-of (spoilt b n k p) = k
 
@@ -184,4 +213,4 @@ Demand3Over L R = (u : List ℕ) (n m : ℕ) → length u ≤ text-limit → Lon
 
 -- document 01's layouts: the report is long enough with 8 bytes a section
 abbrev pub Demand3Now : Type 0
-Demand3Now = (u : List ℕ) (n m : ℕ) → length u ≤ text-limit → length (catalogue-for layout-20 u) ≤ n → 8 * length (sections u) ≤ m → Demand3 layout-20 report-20 u n m
+Demand3Now = (u : List ℕ) (n m : ℕ) → length u ≤ text-limit → length (catalogue-for layout u) ≤ n → 8 * length (sections u) ≤ m → Demand3 layout report-layout u n m

@@ -1,17 +1,14 @@
 -- Hoisting: shared types of clusters become global, unless a global type of their kind has their id already.
 use Prim.Native.Nat.{ℕ, zero, suc}
-use mathlib.Core.Bool.{Bool, true, false, _&&_, _||_}
+use mathlib.Core.Bool.{Bool, true, false, _||_}
 use mathlib.Core.List.{List, [], _∷_, _++_}
-use lib.Dec.{eqb}
-use lib.ListN.{take, drop}
 use Rattle.lexing.specs.words.{bytesOf}
 use Rattle.lexing.specs.word_sets.{same-bytes}
 use Rattle.items.specs.entries.{Choice}
 use Rattle.items.specs.structs.{StructType, regular, request, response, shared, Struct}
 use Rattle.items.specs.clusters.{Member, revision, bitmap, enum, struct, attribute, command, event}
 use Rattle.items.specs.items.{Item, cluster-item, endpoint-item, enum-item, bitmap-item, struct-item, blank-item}
-use Rattle.items.specs.records.{Extent, Record, item-records}
-use Rattle.items.specs.layout.{offset, size}
+use Rattle.items.specs.records.{Record, item-records}
 
 -- document 01's tables of ids, which are the names' bytes; all empty at the start of a text
 pub record Tables : Type 0 where
@@ -91,31 +88,3 @@ after-items t (i ∷ l) = after-items (after-item t i) l
 unfoldable pub hoisted : Tables → List Item → List Record
 hoisted t [] = []
 hoisted t (i ∷ l) = item-records 1 (place-by t) i ++ hoisted (after-item t i) l
-
--- Marks in records.
-
--- a record with another place
-unfoldable pub with-place : ℕ → Record → Record
-with-place p r = record {
-  kind = r .kind;
-  place = p;
-  maturity = r .maturity;
-  doc-present = r .doc-present;
-  flags = r .flags;
-  name = r .name;
-  first-privilege = r .first-privilege;
-  second-privilege = r .second-privilege;
-  further = r .further;
-}
-
--- the bytes of a name in the text
-unfoldable pub bytes-at : List ℕ → Extent → List ℕ
-bytes-at t e = take (size e) (drop (offset e) t)
-
--- whether a record is that of a global type of kind k with the id i
-unfoldable pub hits : List ℕ → ℕ → List ℕ → Record → Bool
-hits t k i r = eqb (r .place) 1 && (eqb (r .kind) k && same-bytes i (bytes-at t (r .name)))
-
-unfoldable pub found : List ℕ → ℕ → List ℕ → List Record → Bool
-found t k i [] = false
-found t k i (r ∷ l) = hits t k i r || found t k i l

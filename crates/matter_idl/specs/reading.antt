@@ -16,7 +16,7 @@ use Rattle.matter_idl.specs.hoisting.{no-ids, hoisted}
 unfoldable pub unless-ended : {A : Type 0} → A → Parser A → Parser A
 unless-ended a m = λ b u. elim u [ [] ↦ ok a b [] | x ∷ v ↦ m b (x ∷ v) ]
 
--- `Idl::parse`, line 1426: items until the text ends; each takes a byte or more
+-- `Idl::parse`, parser.rs line 1430: items until the text ends; each takes a byte or more
 unfoldable pub itemsWithin : ℕ → Parser (List Item)
 itemsWithin zero = ret []
 itemsWithin (suc n) = unless-ended [] (do
@@ -32,6 +32,7 @@ pub data Verdict : Type 0 where
   accepted : List Item → Verdict
   turned-down : ℕ → ℕ → Verdict
 
+-- what is accepted is the whole text: the rest r is empty, which `accepted-many` proves
 unfoldable pub by-reply : Reply (List Item) → Verdict
 by-reply (ok l c r) = accepted l
 by-reply (fail p) = turned-down 3 p

@@ -1,5 +1,5 @@
 -- The survey: every section of a text is read alone, with offsets of the whole text.
-use Prim.Native.Nat.{ℕ, _+_}
+use Prim.Native.Nat.{ℕ, _+_, _-_, _*_}
 use mathlib.Core.Bool.{true, false}
 use mathlib.Core.List.{List, [], _∷_, _++_, map}
 use lib.Dec.{leb}
@@ -8,7 +8,7 @@ use Rattle.lexing.specs.outcomes.{Outcome, refused, written}
 use Rattle.items.specs.items.{Item}
 use Rattle.items.specs.records.{Bits, bits}
 use Rattle.lexing.specs.buffers.{each, words-bytes}
-use Rattle.items.specs.layout.{Layout, packed, catalogue-bytes, text-limit}
+use Rattle.items.specs.layout.{Layout, packed, offset-width, catalogue-bytes, text-limit}
 use Rattle.matter_idl.specs.hoisting.{no-ids, hoisted}
 use Rattle.matter_idl.specs.reading.{Verdict, accepted, turned-down, verdict-at}
 use Rattle.matter_idl.specs.sections.{sections}
@@ -24,31 +24,42 @@ accepted-items b [] = []
 accepted-items b (s ∷ ss) = items-of (verdict-at b s) ++ accepted-items (b + length s) ss
 
 -- document 01's report says of a section its start and length, and of a refused one its number and place too
-pub data Entry : Type 0 where
-  sound : (start size : ℕ) → Entry
-  spoilt : (start size number place : ℕ) → Entry
+pub data ReportEntry : Type 0 where
+  sound : (start size : ℕ) → ReportEntry
+  spoilt : (start size number place : ℕ) → ReportEntry
 
-unfoldable pub entry : (start size : ℕ) → Verdict → Entry
-entry b n (accepted l) = sound b n
-entry b n (turned-down k p) = spoilt b n k p
+unfoldable pub report-entry : (start size : ℕ) → Verdict → ReportEntry
+report-entry b n (accepted l) = sound b n
+report-entry b n (turned-down k p) = spoilt b n k p
 
-unfoldable pub entries : ℕ → List (List ℕ) → List Entry
-entries b [] = []
-entries b (s ∷ ss) = entry b (length s) (verdict-at b s) ∷ entries (b + length s) ss
+unfoldable pub report-entries : ℕ → List (List ℕ) → List ReportEntry
+report-entries b [] = []
+report-entries b (s ∷ ss) = report-entry b (length s) (verdict-at b s) ∷ report-entries (b + length s) ss
 
 -- how an entry is laid out in words
 abbrev pub ReportLayout : Type 0
-ReportLayout = Entry → List (List Bits)
+ReportLayout = ReportEntry → List (List Bits)
 
--- document 01's: start 20, length 20, number 4 (0 accepted), place 20 (0 if accepted)
-unfoldable pub report-20 : ReportLayout
-report-20 (sound b n) = (bits 20 b ∷ bits 20 n ∷ bits 4 0 ∷ bits 20 0 ∷ []) ∷ []
-report-20 (spoilt b n k p) = (bits 20 b ∷ bits 20 n ∷ bits 4 k ∷ bits 20 p ∷ []) ∷ []
+-- the bits of a refusal's number: those that a start, a length and a place leave
+abbrev pub number-width : ℕ
+number-width = 64 - 3 * offset-width
 
-unfoldable pub entry-words : ReportLayout → Entry → List ℕ
+-- document 01's word of an entry: start, length, number (0 accepted), place (0 if accepted); w is the width of an offset and of a length
+abbrev pub report-row : (w start size number place : ℕ) → List Bits
+report-row w b n k p = bits w b ∷ bits w n ∷ bits (64 - 3 * w) k ∷ bits w p ∷ []
+
+abbrev pub report-20 : ReportLayout
+report-20 (sound b n) = report-row offset-width b n 0 0 ∷ []
+report-20 (spoilt b n k p) = report-row offset-width b n k p ∷ []
+
+-- the report's layout in force
+unfoldable pub report-layout : ReportLayout
+report-layout = report-20
+
+unfoldable pub entry-words : ReportLayout → ReportEntry → List ℕ
 entry-words R e = map (packed 0) (R e)
 
-unfoldable pub report-bytes : ReportLayout → List Entry → List ℕ
+unfoldable pub report-bytes : ReportLayout → List ReportEntry → List ℕ
 report-bytes R l = words-bytes (each (entry-words R) l)
 
 -- refused by a number with the value that goes with it, or the bytes of both buffers
@@ -72,4 +83,4 @@ into-buffers n m c r = elim (leb (length r) m) [ true ↦ elim (leb (length c) n
 -- 1, then 8, then 7; what sections are refused by goes into the report
 unfoldable pub survey : Layout → ReportLayout → List ℕ → (n m : ℕ) → Surveyed
 survey L R u n m =
-    elim (leb (length u) text-limit) [ true ↦ into-buffers n m (catalogue-bytes L (hoisted no-ids (accepted-items 0 (sections u)))) (report-bytes R (entries 0 (sections u))) | false ↦ not-surveyed 1 text-limit ]
+    elim (leb (length u) text-limit) [ true ↦ into-buffers n m (catalogue-bytes L (hoisted no-ids (accepted-items 0 (sections u)))) (report-bytes R (report-entries 0 (sections u))) | false ↦ not-surveyed 1 text-limit ]

@@ -1,59 +1,26 @@
 // Hoisting over the catalogue: the table of ids is a search of the records before, with a filter in front of it.
 ghost use mathlib.Core.Path.{_≡_};
-ghost use Prim.Native.Nat.{_+_, _/_, _%_, _^_, _≤_, _<_};
+ghost use Prim.Native.Nat.{_+_, _^_, _≤_, _<_};
 ghost use lib.ListN.{length, take, drop};
 ghost use Rattle.lexing.specs.word_sets.{same-bytes};
-ghost use Rattle.lexing.specs.buffers.{from-big-endian};
-ghost use Rattle.items.specs.layout.{words-of-kind, text-limit};
+ghost use Rattle.items.specs.layout.{kind-field, layout, text-limit};
+ghost use Rattle.items.specs.stored.{value-at};
 ghost use Rattle.matter_idl.specs.inner.bits.{bits-size};
-ghost use Rattle.matter_idl.specs.inner.hoisting.{NameIn, word-hits, word-hash, is-unmarked, Catalogue, HeldTo, KnownTo, Marking, MarkedTo, MayMark, Unhoisted, HoistedTo};
+ghost use Rattle.matter_idl.specs.inner.hoisting.{NameInside, hits-at, hash-at, unmarked-at, Catalogue, HeldTo, KnownTo, Marking, MarkedTo, MayBeType, Unhoisted, HoistedTo};
 use crate::filter::add;
 use crate::filter::hash_of;
 use crate::filter::may_hold;
-use lexing::buffers::put_word;
-
-// How many words a record of a kind takes. It is a match and no table, since the next record's offset would wait for a load from it.
-fn words_of(kind: u8) -> usize
-    ensures { λ r. ⌜ r ≡ words-of-kind kind ⌝ }
-{
-    match kind {
-        1 => 4,
-        2 => 3,
-        3 => 3,
-        4 => 2,
-        5 => 3,
-        6 => 4,
-        7 => 2,
-        8 => 5,
-        9 => 3,
-        10 => 2,
-        11 => 3,
-        14 => 2,
-        _ => 1,
-    }
-}
-
-fn wide(x: u8) -> u64
-    ensures { λ r. ⌜ r ≡ x ⌝ }
-    ensures { λ r. ⌜ r < 256 ⌝ }
-{
-    x as u64
-}
-
-// Eight bytes as a word, the most significant first. The compiler makes one load of a sum in this order.
-fn word_at(bytes: &[u8], at: usize) -> u64
-    requires { ⌜ at + 8 ≤ length (now bytes) ⌝ }
-    ensures { λ r. ⌜ r ≡ from-big-endian (take 8 (drop at (now (bytes .entry)))) ⌝ }
-{
-    wide(bytes[at + 7])
-        + wide(bytes[at + 6]) * 0x100
-        + wide(bytes[at + 5]) * 0x1_0000
-        + wide(bytes[at + 4]) * 0x100_0000
-        + wide(bytes[at + 3]) * 0x1_0000_0000
-        + wide(bytes[at + 2]) * 0x100_0000_0000
-        + wide(bytes[at + 1]) * 0x1_0000_0000_0000
-        + wide(bytes[at]) * 0x100_0000_0000_0000
-}
+use items::layout::BITMAP;
+use items::layout::ENUM;
+use items::layout::STRUCT;
+use items::layout::WORD;
+use items::records::flags_at;
+use items::records::kind_at;
+use items::records::name_length_at;
+use items::records::name_offset_at;
+use items::records::place_at;
+use items::records::set_place;
+use items::records::words_of;
 
 // Whether the text has the same bytes at two offsets; the comparison ends at the first difference.
 fn same_bytes(text: &[u8], a: usize, b: usize, size: usize) -> bool
@@ -71,29 +38,33 @@ fn same_bytes(text: &[u8], a: usize, b: usize, size: usize) -> bool
     true
 }
 
+// Places of types: hoisting gives one of them to each shared type of a cluster.
+const GLOBAL: u8 = 1;
+
+const DROPPED: u8 = 2;
+
 // Whether the record at an offset of the catalogue is that of a global type of a kind, with the id at an offset of the text.
 fn is_global(text: &[u8], out: &[u8], at: usize, kind: u8, name: usize, size: usize) -> bool
     requires { ⌜ at + 8 ≤ length (now out) ⌝ }
-    requires { ⌜ NameIn (from-big-endian (take 8 (drop at (now out)))) (length (now text)) ⌝ }
+    requires { ⌜ NameInside (now out) at (length (now text)) ⌝ }
     requires { ⌜ name + size ≤ length (now text) ⌝ }
-    ensures { λ r. ⌜ r ≡ word-hits (now (text .entry)) kind name size (from-big-endian (take 8 (drop at (now (out .entry))))) ⌝ }
+    ensures { λ r. ⌜ r ≡ hits-at (now (text .entry)) kind name size (now (out .entry)) at ⌝ }
 {
-    if out[at] != kind {
+    if kind_at(out, at) != kind {
         return false;
     }
-    let w = word_at(out, at);
-    if w / 0x40_0000_0000_0000 % 4 != 1 {
+    if name_length_at(out, at) != size {
         return false;
     }
-    if w / 16 % 0x10_0000 != size as u64 {
+    if place_at(out, at) != GLOBAL {
         return false;
     }
-    let other = (w / 0x100_0000 % 0x10_0000) as usize;
+    let other = name_offset_at(out, at);
     same_bytes(text, name, other, size)
 }
 
 // Whether a record before an end is that of a global type of a kind, with the id at an offset of the text.
-fn is_held(text: &[u8], out: &[u8], end: usize, kind: u8, name: usize, size: usize) -> bool
+fn search_records(text: &[u8], out: &[u8], end: usize, kind: u8, name: usize, size: usize) -> bool
     requires { ⌜ length (now text) ≤ text-limit ⌝ }
     requires { ⌜ Catalogue (length (now text)) (now out) end ⌝ }
     requires { ⌜ name + size ≤ length (now text) ⌝ }
@@ -104,99 +75,104 @@ fn is_held(text: &[u8], out: &[u8], end: usize, kind: u8, name: usize, size: usi
         if is_global(text, out, at, kind, name, size) {
             return true;
         }
-        at += 8 * words_of(out[at]);
+        at += WORD * words_of(kind_at(out, at));
     }
     false
 }
 
-// Whether a record's first word is that of a shared type in a cluster that has no mark yet.
-fn is_unmarked(w: u64) -> bool
-    ensures { λ r. ⌜ r ≡ is-unmarked (w / 2 ^ 56) (w / 2 ^ 54 % 2 ^ 2) (w / 2 ^ 44 % 2 ^ 7) ⌝ }
+// Whether the record at an offset is that of a shared type in a cluster that has no mark yet.
+fn is_unmarked(out: &[u8], at: usize) -> bool
+    requires { ⌜ at + 8 ≤ length (now out) ⌝ }
+    ensures { λ r. ⌜ r ≡ unmarked-at (now (out .entry)) at ⌝ }
 {
-    if w / 0x40_0000_0000_0000 % 4 != 0 {
+    if place_at(out, at) != 0 {
         return false;
     }
-    let kind = w / 0x100_0000_0000_0000;
-    let flags = w / 0x1000_0000_0000 % 128;
-    if kind == 5 {
-        return flags / 32 == 3;
+    let kind = kind_at(out, at);
+    let flags = flags_at(out, at);
+    match kind {
+        STRUCT => flags / 32 == 3,
+        ENUM => flags / 64 == 1,
+        BITMAP => flags / 64 == 1,
+        _ => false,
     }
-    if kind == 2 {
-        return flags / 64 == 1;
-    }
-    if kind == 3 {
-        return flags / 64 == 1;
-    }
-    false
 }
 
-// The hash of the id in a type's first word.
-fn id_hash(text: &[u8], w: u64) -> u64
-    requires { ⌜ NameIn w (length (now text)) ⌝ }
-    ensures { λ r. ⌜ r ≡ word-hash (now (text .entry)) w ⌝ }
+// The hash of the id of the type whose record stands at an offset.
+fn id_hash(text: &[u8], out: &[u8], at: usize) -> u64
+    requires { ⌜ at + 8 ≤ length (now out) ⌝ }
+    requires { ⌜ NameInside (now out) at (length (now text)) ⌝ }
+    ensures { λ r. ⌜ r ≡ hash-at (now (text .entry)) (now (out .entry)) at ⌝ }
     ensures { λ r. ⌜ r < 2 ^ 32 ⌝ }
 {
-    let kind = (w / 0x100_0000_0000_0000) as u8;
-    let name = (w / 0x100_0000 % 0x10_0000) as usize;
-    let size = (w / 16 % 0x10_0000) as usize;
-    hash_of(text, kind, name, size)
+    hash_of(
+        text,
+        kind_at(out, at),
+        name_offset_at(out, at),
+        name_length_at(out, at),
+    )
 }
 
-// Whether a record before an end holds the id in a type's first word w, which has the hash h. They are searched only if the filter may hold it.
-fn is_known(text: &[u8], out: &[u8], filter: &[u8], end: usize, w: u64, h: u64) -> bool
+// Whether a record before an end holds the id of the type whose record stands at an offset, which has the hash h. They are searched only if the filter may hold it.
+fn is_known(text: &[u8], out: &[u8], filter: &[u8], end: usize, at: usize, h: u64) -> bool
     requires { ⌜ length (now text) ≤ text-limit ⌝ }
     requires { ⌜ Catalogue (length (now text)) (now out) end ⌝ }
     requires { ⌜ length (now filter) ≡ bits-size ⌝ }
-    requires { ⌜ NameIn w (length (now text)) ⌝ }
-    requires { ⌜ h ≡ word-hash (now text) w ⌝ }
+    requires { ⌜ at + 8 ≤ length (now out) ⌝ }
+    requires { ⌜ NameInside (now out) at (length (now text)) ⌝ }
+    requires { ⌜ h ≡ hash-at (now text) (now out) at ⌝ }
     requires { ⌜ h < 2 ^ 32 ⌝ }
-    ensures { λ r. ⌜ KnownTo r (now (text .entry)) (now (out .entry)) (now (filter .entry)) end w ⌝ }
+    ensures { λ r. ⌜ KnownTo r (now (text .entry)) (now (out .entry)) (now (filter .entry)) end at ⌝ }
 {
     if !may_hold(filter, h) {
         return false;
     }
-    let kind = (w / 0x100_0000_0000_0000) as u8;
-    let name = (w / 0x100_0000 % 0x10_0000) as usize;
-    let size = (w / 16 % 0x10_0000) as usize;
-    is_held(text, out, end, kind, name, size)
+    search_records(
+        text,
+        out,
+        end,
+        kind_at(out, at),
+        name_offset_at(out, at),
+        name_length_at(out, at),
+    )
 }
 
-// Marks the record whose first word w stands at an offset: 2 if a record before start holds its id, else 1. The id of a global type joins the filter.
-fn mark_record(text: &[u8], out: &mut [u8], filter: &mut [u8], start: usize, at: usize, w: u64)
+// Marks the record at an offset: dropped if a record before start holds its id, else global. The id of a global type joins the filter.
+fn mark_record(text: &[u8], out: &mut [u8], filter: &mut [u8], start: usize, at: usize)
     requires { ⌜ length (now text) ≤ text-limit ⌝ }
-    requires { ⌜ Marking (now text) (now out) (now filter) start at w ⌝ }
-    ensures { λ _. ⌜ MarkedTo (now (out .exit)) (now (filter .exit)) (now (text .entry)) (now (out .entry)) (now (filter .entry)) start at w ⌝ }
+    requires { ⌜ Marking (now text) (now out) (now filter) start at ⌝ }
+    ensures { λ _. ⌜ MarkedTo (now (out .exit)) (now (filter .exit)) (now (text .entry)) (now (out .entry)) (now (filter .entry)) start at ⌝ }
 {
-    if w / 0x40_0000_0000_0000 % 4 == 1 {
-        add(filter, id_hash(text, w));
+    if place_at(out, at) == GLOBAL {
+        add(filter, id_hash(text, out, at));
         return;
     }
-    if !is_unmarked(w) {
+    if !is_unmarked(out, at) {
         return;
     }
-    let h = id_hash(text, w);
-    if is_known(text, out, filter, start, w, h) {
-        put_word(out, at, w + 0x80_0000_0000_0000);
+    let h = id_hash(text, out, at);
+    if is_known(text, out, filter, start, at, h) {
+        set_place(out, at, DROPPED);
         return;
     }
     add(filter, h);
-    put_word(out, at, w + 0x40_0000_0000_0000);
+    set_place(out, at, GLOBAL);
 }
 
-// Whether a record whose first two bytes are these can be a type's or has a mark: no other record gets a mark or joins the filter.
-fn may_mark(first: u8, second: u8) -> bool
-    ensures { λ r. ⌜ MayMark r first second ⌝ }
+// Whether a record of a kind and a place can be a type's or has a mark: no other record gets a mark or joins the filter.
+fn may_be_type(kind: u8, place: u8) -> bool
+    ensures { λ r. ⌜ MayBeType r kind place ⌝ }
 {
-    if 64 <= second {
+    if place != 0 {
         return true;
     }
-    if first == 5 {
+    if kind == STRUCT {
         return true;
     }
-    if first == 2 {
+    if kind == ENUM {
         return true;
     }
-    if first == 3 {
+    if kind == BITMAP {
         return true;
     }
     false
@@ -205,16 +181,15 @@ fn may_mark(first: u8, second: u8) -> bool
 // Marks the record at an offset, and gives its kind. Most records are none of a type, which their first two bytes tell.
 fn mark_at(text: &[u8], out: &mut [u8], filter: &mut [u8], start: usize, at: usize) -> u8
     requires { ⌜ length (now text) ≤ text-limit ⌝ }
-    requires { ⌜ Marking (now text) (now out) (now filter) start at (from-big-endian (take 8 (drop at (now out)))) ⌝ }
-    ensures { λ _. ⌜ MarkedTo (now (out .exit)) (now (filter .exit)) (now (text .entry)) (now (out .entry)) (now (filter .entry)) start at (from-big-endian (take 8 (drop at (now (out .entry))))) ⌝ }
-    ensures { λ r. ⌜ r ≡ from-big-endian (take 8 (drop at (now (out .entry)))) / 2 ^ 56 ⌝ }
+    requires { ⌜ Marking (now text) (now out) (now filter) start at ⌝ }
+    ensures { λ _. ⌜ MarkedTo (now (out .exit)) (now (filter .exit)) (now (text .entry)) (now (out .entry)) (now (filter .entry)) start at ⌝ }
+    ensures { λ r. ⌜ r ≡ value-at layout kind-field (now (out .entry)) at ⌝ }
 {
-    let kind = out[at];
-    if !may_mark(kind, out[at + 1]) {
+    let kind = kind_at(out, at);
+    if !may_be_type(kind, place_at(out, at)) {
         return kind;
     }
-    let w = word_at(out, at);
-    mark_record(text, out, filter, start, at, w);
+    mark_record(text, out, filter, start, at);
     kind
 }
 
@@ -227,6 +202,6 @@ pub fn mark_item(text: &[u8], out: &mut [u8], filter: &mut [u8], start: usize, e
     let mut at = start;
     while at < end {
         let kind = mark_at(text, out, filter, start, at);
-        at += 8 * words_of(kind);
+        at += WORD * words_of(kind);
     }
 }

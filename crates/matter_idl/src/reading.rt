@@ -12,8 +12,9 @@ ghost use Rattle.matter_idl.specs.inner.reading.{PartOf, HoistedFront, H
 use crate::hoisting::mark_item;
 use items::counts::Count;
 use items::counts::count_lost;
-use items::items::declaration;
+use items::items::count_declaration;
 use items::items::write_declaration;
+use items::layout::TEXT_LIMIT;
 use items::writing::Wrote;
 use lexing::answers::Lost;
 use lexing::blanks::whitespace0;
@@ -41,7 +42,7 @@ pub fn count_items(part: &[u8], base: usize) -> Count
         if start == end {
             return Count::Words(n, start);
         }
-        let r = declaration(rest_at(part, base, start), start);
+        let r = count_declaration(rest_at(part, base, start), start);
         let Count::Words(k, next) = r else {
             return r;
         };
@@ -79,8 +80,8 @@ pub fn verdict_at(part: &[u8], base: usize) -> Verdict
 pub fn verdict_on(text: &[u8]) -> Verdict
     ensures { λ r. ⌜ VerdictTo r (now (text .entry)) ⌝ }
 {
-    if 1048575 < text.len() {
-        return Verdict::Refused(1, 1048575);
+    if TEXT_LIMIT < text.len() {
+        return Verdict::Refused(1, TEXT_LIMIT);
     }
     verdict_at(text, 0)
 }

@@ -3,15 +3,15 @@ ghost use mathlib.Core.Path.{_≡_};
 ghost use mathlib.Core.List.{[], _∷_};
 ghost use Prim.Native.Nat.{_+_, _*_, _^_, _≤_, _<_};
 ghost use lib.ListN.{length};
-ghost use Rattle.items.specs.layout.{layout-20, catalogue-bytes, text-limit, word-count};
+ghost use Rattle.items.specs.layout.{layout, catalogue-bytes, text-limit, word-count};
 ghost use Rattle.lexing.specs.buffers.{put};
 ghost use Rattle.matter_idl.specs.hoisting.{no-ids, hoisted};
 ghost use Rattle.matter_idl.specs.sections.{sections};
 ghost use Rattle.matter_idl.specs.reading.{verdict-at};
-ghost use Rattle.matter_idl.specs.survey.{items-of, accepted-items, entries, report-20, report-bytes};
+ghost use Rattle.matter_idl.specs.survey.{number-width, items-of, accepted-items, report-entries, report-layout, report-bytes};
 ghost use Rattle.matter_idl.specs.inner.bits.{bits-size};
 ghost use Rattle.matter_idl.specs.inner.reading.{PartOf, HoistedFront};
-ghost use Rattle.matter_idl.specs.inner.survey.{entryWord, verdictWord, entryOf, PlaceFits, wordsOf, Marks, Remembered, MarkTrue, Judged, SectionBehindTo};
+ghost use Rattle.matter_idl.specs.inner.survey.{entryWord, verdictWord, entryOf, PlaceFits, wordsOf, AcceptedBits, Remembered, BitTrue, Judged, SectionBehindTo};
 use crate::bits::has_bit;
 use crate::bits::set_bit;
 use crate::reading::Verdict;
@@ -19,19 +19,30 @@ use crate::reading::verdict_at;
 use crate::reading::write_items;
 use crate::sections::first_section;
 use crate::sections::section_at;
+use items::layout::OFFSETS;
+use items::layout::WORD;
 use lexing::buffers::put_word;
 use lexing::parts::rest_at;
+
+// The bytes of an entry of the report: one word. In it stand, from the top, a start, a length, a number and a place.
+pub const ENTRY_SIZE: usize = WORD;
+
+const START_UNIT: u64 = LENGTH_UNIT * OFFSETS as u64;
+
+const LENGTH_UNIT: u64 = NUMBER_UNIT * 16;
+
+const NUMBER_UNIT: u64 = OFFSETS as u64;
 
 fn entry_word(start: usize, size: usize, number: usize, place: usize) -> u64
     requires { ⌜ start ≤ text-limit ⌝ }
     requires { ⌜ size ≤ text-limit ⌝ }
-    requires { ⌜ number < 16 ⌝ }
+    requires { ⌜ number < 2 ^ number-width ⌝ }
     requires { ⌜ place ≤ text-limit ⌝ }
     ensures { λ r. ⌜ r ≡ entryWord start size number place ⌝ }
 {
-    start as u64 * 0x1000_0000_0000
-        + size as u64 * 0x100_0000
-        + number as u64 * 0x10_0000
+    start as u64 * START_UNIT
+        + size as u64 * LENGTH_UNIT
+        + number as u64 * NUMBER_UNIT
         + place as u64
 }
 
@@ -53,7 +64,7 @@ fn put_entry(report: &mut [u8], at: usize, start: usize, size: usize, v: Verdict
     requires { ⌜ start ≤ text-limit ⌝ }
     requires { ⌜ size ≤ text-limit ⌝ }
     requires { ⌜ PlaceFits v ⌝ }
-    ensures { λ _. ⌜ now (report .exit) ≡ put at (report-bytes report-20 (entryOf start size v ∷ [])) (now (report .entry)) ⌝ }
+    ensures { λ _. ⌜ now (report .exit) ≡ put at (report-bytes report-layout (entryOf start size v ∷ [])) (now (report .entry)) ⌝ }
 {
     put_word(report, at, verdict_word(start, size, v));
 }
@@ -68,16 +79,16 @@ fn accepted_words(v: Verdict) -> usize
     }
 }
 
-// Marks section i, if it is accepted.
-fn remember(marks: &mut [u8], i: usize, v: Verdict)
-    requires { ⌜ length (now marks) ≡ bits-size ⌝ }
+// Sets the bit of section i, if it is accepted.
+fn remember(accepted_bits: &mut [u8], i: usize, v: Verdict)
+    requires { ⌜ length (now «accepted_bits») ≡ bits-size ⌝ }
     requires { ⌜ i < 2 ^ 19 ⌝ }
-    ensures { λ _. ⌜ Remembered (now (marks .exit)) (now (marks .entry)) i v ⌝ }
+    ensures { λ _. ⌜ Remembered (now («accepted_bits» .exit)) (now («accepted_bits» .entry)) i v ⌝ }
 {
     let Verdict::Accepted(_) = v else {
         return;
     };
-    set_bit(marks, i);
+    set_bit(accepted_bits, i);
 }
 
 // What the first pass counts: the sections, and the words of the accepted ones.
@@ -86,15 +97,15 @@ pub struct Counted {
     pub words: usize,
 }
 
-// The first pass over the sections of a text, with marks for the accepted ones.
-pub fn count_accepted(text: &[u8], marks: &mut [u8]) -> Counted
+// The first pass over the sections of a text, with a bit for each that is accepted.
+pub fn count_accepted(text: &[u8], accepted_bits: &mut [u8]) -> Counted
     requires { ⌜ length (now text) ≤ text-limit ⌝ }
-    requires { ⌜ Marks (now marks) [] ⌝ }
+    requires { ⌜ AcceptedBits (now «accepted_bits») [] ⌝ }
     ensures { λ r. ⌜ r .sections ≡ length (sections (now (text .entry))) ⌝ }
     ensures { λ r. ⌜ r .sections ≤ 1 + length (now (text .entry)) ⌝ }
-    ensures { λ r. ⌜ r .words ≡ word-count (hoisted no-ids (accepted-items 0 (sections (now (text .entry))))) ⌝ }
+    ensures { λ r. ⌜ r .words ≡ word-count layout (hoisted no-ids (accepted-items 0 (sections (now (text .entry))))) ⌝ }
     ensures { λ r. ⌜ r .words ≤ 8 * length (now (text .entry)) ⌝ }
-    ensures { λ _. ⌜ Marks (now (marks .exit)) (entries 0 (sections (now (text .entry)))) ⌝ }
+    ensures { λ _. ⌜ AcceptedBits (now («accepted_bits» .exit)) (report-entries 0 (sections (now (text .entry)))) ⌝ }
 {
     let mut i = 0;
     let mut start = 0;
@@ -103,7 +114,7 @@ pub fn count_accepted(text: &[u8], marks: &mut [u8]) -> Counted
         let s = first_section(rest_at(text, 0, start), start);
         let end = s.end;
         let v = verdict_at(section_at(text, start, end), start);
-        remember(marks, i, v);
+        remember(accepted_bits, i, v);
         n += accepted_words(v);
         i += 1;
         if s.last {
@@ -117,12 +128,12 @@ pub fn count_accepted(text: &[u8], marks: &mut [u8]) -> Counted
 }
 
 // The verdict on section i: a refused one is judged once more, for its number and place.
-fn verdict_again(part: &[u8], base: usize, marks: &[u8], i: usize) -> Verdict
+fn verdict_again(part: &[u8], base: usize, accepted_bits: &[u8], i: usize) -> Verdict
     requires { ⌜ base + length (now part) ≤ text-limit ⌝ }
-    requires { ⌜ MarkTrue (now marks) i base (now part) ⌝ }
+    requires { ⌜ BitTrue (now «accepted_bits») i base (now part) ⌝ }
     ensures { λ r. ⌜ Judged r base (now (part .entry)) ⌝ }
 {
-    if has_bit(marks, i) {
+    if has_bit(accepted_bits, i) {
         return Verdict::Accepted(0);
     }
     verdict_at(part, base)
@@ -141,7 +152,7 @@ fn write_accepted(
     requires { ⌜ length (now text) ≤ text-limit ⌝ }
     requires { ⌜ PartOf (now text) base (now part) ⌝ }
     requires { ⌜ Judged v base (now part) ⌝ }
-    requires { ⌜ to + 8 * word-count (hoisted no-ids (items-of (verdict-at base (now part)))) ≤ length (now catalogue) ⌝ }
+    requires { ⌜ to + 8 * word-count layout (hoisted no-ids (items-of (verdict-at base (now part)))) ≤ length (now catalogue) ⌝ }
     requires { ⌜ HoistedFront (now text) (now catalogue) (now filter) to ⌝ }
     ensures { λ r. ⌜ SectionBehindTo (now (catalogue .exit)) (now (filter .exit)) (now (text .entry)) (now (catalogue .entry)) (now (filter .entry)) to base (now (part .entry)) r ⌝ }
 {
@@ -156,19 +167,19 @@ fn write_accepted(
 pub fn write_sections(
     text: &[u8],
     m: usize,
-    marks: &[u8],
+    accepted_bits: &[u8],
     catalogue: &mut [u8],
     filter: &mut [u8],
     report: &mut [u8],
 )
     requires { ⌜ length (now text) ≤ text-limit ⌝ }
     requires { ⌜ m ≡ length (sections (now text)) ⌝ }
-    requires { ⌜ Marks (now marks) (entries 0 (sections (now text))) ⌝ }
-    requires { ⌜ 8 * word-count (hoisted no-ids (accepted-items 0 (sections (now text)))) ≤ length (now catalogue) ⌝ }
+    requires { ⌜ AcceptedBits (now «accepted_bits») (report-entries 0 (sections (now text))) ⌝ }
+    requires { ⌜ 8 * word-count layout (hoisted no-ids (accepted-items 0 (sections (now text)))) ≤ length (now catalogue) ⌝ }
     requires { ⌜ 8 * m ≤ length (now report) ⌝ }
     requires { ⌜ length (now filter) ≡ bits-size ⌝ }
-    ensures { λ _. ⌜ now (catalogue .exit) ≡ put 0 (catalogue-bytes layout-20 (hoisted no-ids (accepted-items 0 (sections (now (text .entry)))))) (now (catalogue .entry)) ⌝ }
-    ensures { λ _. ⌜ now (report .exit) ≡ put 0 (report-bytes report-20 (entries 0 (sections (now (text .entry))))) (now (report .entry)) ⌝ }
+    ensures { λ _. ⌜ now (catalogue .exit) ≡ put 0 (catalogue-bytes layout (hoisted no-ids (accepted-items 0 (sections (now (text .entry)))))) (now (catalogue .entry)) ⌝ }
+    ensures { λ _. ⌜ now (report .exit) ≡ put 0 (report-bytes report-layout (report-entries 0 (sections (now (text .entry))))) (now (report .entry)) ⌝ }
 {
     let mut i = 0;
     let mut start = 0;
@@ -177,8 +188,8 @@ pub fn write_sections(
         let s = first_section(rest_at(text, 0, start), start);
         let end = s.end;
         let part = section_at(text, start, end);
-        let v = verdict_again(part, start, marks, i);
-        put_entry(report, 8 * i, start, end - start, v);
+        let v = verdict_again(part, start, accepted_bits, i);
+        put_entry(report, ENTRY_SIZE * i, start, end - start, v);
         to = write_accepted(text, part, start, v, catalogue, filter, to);
         start = end;
         i += 1;

@@ -22,7 +22,7 @@ line-length-requires : tie.Need-line-length-requires Inv-loop μ-loop
 line-length-requires c κs = tt
 
 slice-aggregate-print-line : tie.Need-slice-aggregate-print-line Inv-loop μ-loop
-slice-aggregate-print-line c = sym (length-take-le _ _ (c .before .line-length .ensures))
+slice-aggregate-print-line c = sym (length-take-le _ _ (c .before .line-length .ensures .1))
 
 print-line-requires : tie.Need-print-line-requires Inv-loop μ-loop
 print-line-requires c κs = search needs

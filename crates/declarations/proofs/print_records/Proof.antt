@@ -6,9 +6,8 @@ use mathlib.Core.Path.{subst}
 use native.Mathlib.Omega.{arith}
 use Rattle.lexing.specs.answers.{docOf}
 use Rattle.lexing.proofs.Slicing.{rest-self, blank-took}
-use Rattle.items.specs.items.{declaration}
+use Rattle.items.specs.answers.items.{declaration, unhoisted-item}
 use Rattle.items.specs.answers.{CountTo}
-use Rattle.items.specs.answers.items.{unhoisted-item}
 use Rattle.items.specs.declared.counts.Count.{Count}
 use Rattle.items.proofs.counts.Laws.{count-room}
 use Rattle.items.proofs.writing.Laws.{doc-in-limit}
@@ -20,8 +19,8 @@ whitespace0-requires c κs = search needs
 rest-at-requires : tie.Need-rest-at-requires
 rest-at-requires c κs = omega (arith, (blank-took (rest-self _ _) (c .whitespace0 .ensures)) .up, (blank-took (rest-self _ _) (c .whitespace0 .ensures)) .inside)
 
-declaration-requires : tie.Need-declaration-requires
-declaration-requires c κs = (omega (arith, c .rest-at .ensures .size, c .before .before .before .pre), rest-clear (blank-took (rest-self _ _) (c .before .whitespace0 .ensures)) (c .rest-at .ensures))
+count-declaration-requires : tie.Need-count-declaration-requires
+count-declaration-requires c κs = (omega (arith, c .rest-at .ensures .size, c .before .before .before .pre), rest-clear (blank-took (rest-self _ _) (c .before .whitespace0 .ensures)) (c .rest-at .ensures))
 
 enum-known-r : tie.Need-enum-known-r
 enum-known-r c = c .match .keys1
@@ -45,7 +44,7 @@ slice-aggregate-write-declaration : tie.Need-slice-aggregate-write-declaration
 slice-aggregate-write-declaration c = search needs
 
 write-declaration-requires : tie.Need-write-declaration-requires
-write-declaration-requires c κs = (omega (arith, c .before .before .before .before .before .before .rest-at .ensures .size, c .before .before .before .before .before .before .before .before .before .pre), (rest-clear (blank-took (rest-self _ _) (c .before .before .before .before .before .before .before .whitespace0 .ensures)) (c .before .before .before .before .before .before .rest-at .ensures), (doc-in-limit (c .before .before .before .before .before .before .before .whitespace0 .ensures) (omega (arith, (blank-took (rest-self _ _) (c .before .before .before .before .before .before .before .whitespace0 .ensures)) .inside, c .before .before .before .before .before .before .before .before .before .pre)), count-room (subst (λ (x : Count). CountTo unhoisted-item (declaration (docOf (c .before .before .before .before .before .before .before .whitespace0 .result .doc))) x (c .before .before .before .before .before .before .before .whitespace0 .result .next) (now (c .before .before .before .before .before .before .rest-at .result))) (c .before .before .before .r .given .1) (c .before .before .before .before .before .declaration .ensures .counts (docOf (c .before .before .before .before .before .before .before .whitespace0 .result .doc)))) (omega arith))))
+write-declaration-requires c κs = (omega (arith, c .before .before .before .before .before .before .rest-at .ensures .size, c .before .before .before .before .before .before .before .before .before .pre), (rest-clear (blank-took (rest-self _ _) (c .before .before .before .before .before .before .before .whitespace0 .ensures)) (c .before .before .before .before .before .before .rest-at .ensures), (doc-in-limit (c .before .before .before .before .before .before .before .whitespace0 .ensures) (omega (arith, (blank-took (rest-self _ _) (c .before .before .before .before .before .before .before .whitespace0 .ensures)) .inside, c .before .before .before .before .before .before .before .before .before .pre)), count-room (subst (λ (x : Count). CountTo unhoisted-item (declaration (docOf (c .before .before .before .before .before .before .before .whitespace0 .result .doc))) x (c .before .before .before .before .before .before .before .whitespace0 .result .next) (now (c .before .before .before .before .before .before .rest-at .result))) (c .before .before .before .r .given .1) (c .before .before .before .before .before .count-declaration .ensures .counts (docOf (c .before .before .before .before .before .before .before .whitespace0 .result .doc)))) (omega arith))))
 
 slice-aggregate-front : tie.Need-slice-aggregate-front
 slice-aggregate-front c = search needs
@@ -65,7 +64,7 @@ print-records-spec =
     (tie.spec
     whitespace0-requires
     rest-at-requires
-    declaration-requires
+    count-declaration-requires
     enum-known-r
     enum-told
     returns

@@ -3,7 +3,7 @@ use mathlib.Core.Path.{_≡_, refl, sym, ap, _∙_, subst, fun-ext}
 use mathlib.Core.Logic.{_⊎_, inl, inr}
 use mathlib.Core.Bool.{Bool, true, false}
 use mathlib.Core.Option.{Option, none, some}
-use mathlib.Core.List.{List, [], _∷_, _++_, append-assoc, append-nil}
+use mathlib.Core.List.{List, [], _∷_, _++_, append-nil}
 use Prim.Native.Nat.{ℕ, zero, suc, _+_, _-_, _*_, _≤_, _<_}
 use native.Mathlib.Omega.{arith}
 use lib.ListN.{length, take, drop, getD}
@@ -21,25 +21,24 @@ use Rattle.lexing.proofs.Onward.{Onward}
 use Rattle.lexing.proofs.FirstWord.{blank-clear}
 use Rattle.lexing.proofs.Locality.{OnChain, Consumes, chain-ret, chain-bind, chain-then, chain-inside, chain-opt, consumes-right, consumes-then-left, consumes-then-right}
 use Rattle.lexing.proofs.TokenLocality.{keyword-chain, any-keyword-chain, keyword-consumes, whitespace0-chain, whitespace1-chain, set-flags-chain}
-use Rattle.lexing.proofs.Pairs.{bind-same, bind-assoc, ret-first}
+use Rattle.lexing.proofs.Pairs.{bind-same, bind-assoc, ret-first, pair-on, pair-fall}
 use Rattle.lexing.proofs.Slicing.{Took, took, walks, reads-in, told-next, rest-self, blank-took, begin, go, on, lose, fall, done, or-here, or-next}
-use Rattle.lexing.proofs.Repetition.{before, many0-more, many0-fail}
+use Rattle.lexing.proofs.Repetition.{before, many0-more, many0-fail, before-cons}
 use Rattle.lexing.proofs.blanks.Laws.{blanks-none}
 use Rattle.lexing.proofs.words.Laws.{keyword-says, key-differs}
 use Rattle.items.specs.members.{Access as AccessOf, access-privilege, access-entry, comma, separated-list0, access-list, Privileges as PrivilegesOf, granted-by, default-privileges, listed, attribute-access, Attribute as AttributeOf, parse-attribute-after-doc-maturity}
 use Rattle.lexing.specs.buffers.{each, words-bytes, put}
 use Rattle.items.specs.records.{Record, plain, documented, field-record, attribute-records, absent, bits}
-use Rattle.items.specs.layout.{layout-20, record-words, catalogue-words, word-count, packed, width, from-top, offset, size, catalogue-bytes}
+use Rattle.items.specs.layout.{layout, record-words, catalogue-words, word-count, packed, width, from-top, offset, size, catalogue-bytes}
 use Rattle.items.specs.answers.{Front, frontOf, first-of, docWord, docBit, Room, Written}
-use Rattle.items.specs.answers.attributes.{SmallPrivileges, PrivilegesTo}
-use Rattle.items.specs.inner.attributes.{access-words, operation-of, operationAnswer, operationMeans, OperationTo, grantsWith, with-entry, grants-from, grantsSmall, grants-after, EntryTo, no-grants, EntriesTo, AttributeHeadOf, attribute-head, attributeHeadOf, attributeHeadLost, AttributeHeadTo, attribute-first}
+use Rattle.items.specs.inner.attributes.{SmallPrivileges, PrivilegesTo, access-words, operation-of, operationAnswer, operationMeans, OperationTo, grantsWith, with-entry, grants-from, grantsSmall, grants-after, AccessEntryTo, no-grants, AccessEntriesTo, AttributeHeadOf, attribute-head, attributeHeadOf, attributeHeadLost, AttributeHeadTo, attribute-first}
 use Rattle.items.specs.declared.writing.FrontParts.{FrontParts}
-use Rattle.items.specs.inner.structs.{field-parts}
+use Rattle.items.specs.inner.fields.{field-parts, StructFieldTo}
 use Rattle.items.specs.declared.attributes.Operation.{Operation}
 use Rattle.items.specs.declared.attributes.Operation.the-variants.{Read, Write, Neither}
 use Rattle.items.specs.declared.attributes.OperationRead.{OperationRead}
 use Rattle.items.specs.declared.attributes.OperationRead.the-variants.{Named, NoOperation}
-use Rattle.items.specs.declared.attributes.Entries.{Entries}
+use Rattle.items.specs.declared.attributes.AccessEntries.{AccessEntries}
 use Rattle.items.specs.declared.attributes.Grants.{Grants}
 use Rattle.items.specs.declared.attributes.Grants.the-variants.{Granted, RefusedAt}
 use Rattle.items.specs.declared.attributes.PrivilegesRead.{PrivilegesRead}
@@ -47,25 +46,24 @@ use Rattle.items.specs.declared.attributes.PrivilegesRead.the-variants.{
 use Rattle.items.specs.declared.attributes.AttributeHeadParts.{AttributeHeadParts}
 use Rattle.items.specs.declared.attributes.AttributeHeadRead.{AttributeHeadRead}
 use Rattle.items.specs.declared.attributes.AttributeHeadRead.the-variants.{AttributeHead, NoAttributeHead}
-use Rattle.items.specs.declared.structs.StructFieldParts.{StructFieldParts}
-use Rattle.items.specs.declared.structs.StructFieldRead.{StructFieldRead}
-use Rattle.items.specs.declared.structs.StructFieldRead.the-variants.{StructField}
+use Rattle.items.specs.declared.fields.StructFieldParts.{StructFieldParts}
+use Rattle.items.specs.declared.fields.StructFieldRead.{StructFieldRead}
+use Rattle.items.specs.declared.fields.StructFieldRead.the-variants.{StructField}
 use Rattle.items.specs.structs.{StructField as StructFieldOf, parse-struct-field, closed-field}
-use Rattle.items.specs.answers.structs.{StructFieldTo}
 use Rattle.lexing.proofs.AnswerLaws.{reads-as, read-within, read-took, read-lost}
 use Rattle.items.proofs.Mapped.{TookAs, mapped-ok, read-as}
-use Rattle.lexing.proofs.Pairs.{pair-on, pair-fall}
-use Rattle.items.proofs.Calm.{Calm, calm-absent, calm-ret, calm-catch, calm-or, calm-many0, calm-bind, calm-then, calm-tag, calm-keyword, calm-any, calm-blanks}
+use Rattle.lexing.proofs.Calm.{Calm, calm-absent, calm-ret, calm-catch, calm-or, calm-many0, calm-bind, calm-then, calm-tag, calm-keyword, calm-any, calm-blanks}
 use Rattle.items.proofs.Keywords.{keyword-missing}
-use Rattle.items.proofs.Tries.{bind-ok, then-ok, then-fail, opt-some, opt-none}
+use Rattle.lexing.proofs.Sequences.{bind-ok, then-ok, then-fail}
 use Rattle.items.proofs.Locality.{access-entry-inside, access-entry-consumes, comma-local, separated-list0-inside, access-list-inside, attribute-access-inside, closed-field-consumes}
 use Rattle.items.proofs.Headed.{Headed, further-on}
 use Rattle.items.proofs.counts.Laws.{Counted}
 use Rattle.items.proofs.Choice.{or-both}
 use Rattle.items.proofs.writing.Laws.{documented-bytes, read-room, read-written}
-use Rattle.items.proofs.structs.Laws.{other-case, by-case, struct-field-took, closed-field-on, field-words, field-parts-is}
-use Rattle.items.proofs.members.Laws.{skips-none}
-use Rattle.lexing.proofs.optional.Laws.{opt-ok}
+use Rattle.items.proofs.structs.Laws.{other-case, by-case}
+use Rattle.items.proofs.fields.Laws.{struct-field-took, closed-field-on, field-words, field-parts-is}
+use Rattle.items.proofs.levels.Laws.{skips-none}
+use Rattle.lexing.proofs.answers.Laws.{opt-ok, opt-fail}
 
 -- the word of an entry
 pub read-operation : operation-of (ascii "read") ≡ Read
@@ -160,12 +158,12 @@ entry-calm =
     let privilege = calm-or (number _ 0) (calm-or (number _ 1) (calm-or (number _ 2) (number _ 3))) in
     calm-then calm-blanks (calm-bind (calm-any access-words) λ k. calm-then calm-blanks (calm-then (calm-tag 58) (calm-then calm-blanks (calm-bind privilege λ p. calm-then calm-blanks (calm-ret _)))))
 
-pub entry-none : {g : Grants} (l : Lost) {b : ℕ} {u : List ℕ} → grantsSmall g → lostReply l ≡ access-entry b u → EntryTo g (record { grants = g; next = b }) b u
+pub entry-none : {g : Grants} (l : Lost) {b : ℕ} {u : List ℕ} → grantsSmall g → lostReply l ≡ access-entry b u → AccessEntryTo g (record { grants = g; next = b }) b u
 unfolding grants-after
 entry-none {g} l {b} {u} h e = record { reads = mapped-ok (grants-after g) (opt access-entry) b u none b (drop (b - b) u) refl (calm-absent entry-calm l e); within = h }
 
 pub entry-is : (g : Grants) {x : Grants} {b n c d : ℕ} {u : List ℕ} {k : Operation} {p : ℕ} (t : TookOperation b u n k c) → grantsSmall g → p < 4 → x ≡ grantsWith g k p n
-    → ok (record { operation = t .value; granted = p }) d (drop (d - b) u) ≡ access-entry b u → EntryTo g (record { grants = x; next = d }) b u
+    → ok (record { operation = t .value; granted = p }) d (drop (d - b) u) ≡ access-entry b u → AccessEntryTo g (record { grants = x; next = d }) b u
 unfolding grants-after with-entry
 entry-is g {x} {b} {n} {c} {d} {u} {k} {p} t s l e h =
     let v : AccessOf = record { operation = t .value; granted = p } in
@@ -173,12 +171,12 @@ entry-is g {x} {b} {n} {c} {d} {u} {k} {p} t s l e h =
     record { reads = mapped-ok (grants-after g) (opt access-entry) b u (some v) d (drop (d - b) u) z (opt-ok access-entry b u v d (drop (d - b) u) h); within = rw e (grants-small g k p n s l) }
 
 -- it takes a byte, so that it is there where reading goes on behind its start
-pub record TookEntry (g : Grants) (b : ℕ) (u : List ℕ) (n : ℕ) (e : Entries) : Type 0 where
+pub record TookEntry (g : Grants) (b : ℕ) (u : List ℕ) (n : ℕ) (e : AccessEntries) : Type 0 where
   pub value : AccessOf
   pub is : with-entry g value ≡ e .grants
   pub step : Took access-entry b u n value (e .next)
 
-module _ (g : Grants) {b n : ℕ} {u r : List ℕ} {e : Entries} (q : Rest b u n r) (h : EntryTo g e n r) where
+module _ (g : Grants) {b n : ℕ} {u r : List ℕ} {e : AccessEntries} (q : Rest b u n r) (h : AccessEntryTo g e n r) where
   optional : TookAs (grants-after g) (opt access-entry) b u n (e .grants) (e .next)
   optional = read-as h refl (walks (chain-opt (chain-inside access-entry-inside))) q refl
 
@@ -189,11 +187,11 @@ module _ (g : Grants) {b n : ℕ} {u r : List ℕ} {e : Entries} (q : Rest b u n
       go : (x : Reply AccessOf) → access-entry n (drop (n - b) u) ≡ x → TookEntry g b u n e ⊎ ((e .next ≡ n) × ((p : ℕ) × (fail p ≡ access-entry n (drop (n - b) u))))
       go (ok a d v) z =
           let t = optional in
-          let i = sym (t .step .goes) ∙ opt-some access-entry z in
+          let i = sym (t .step .goes) ∙ sym (opt-ok access-entry _ _ _ _ _ (sym z)) in
           let x : t .value ≡ some a = cc in
           let y : ok a d v ≡ ok a (e .next) (drop (e .next - b) u) = cc in
           inl (record { value = a; is = subst (λ (o : Option AccessOf). grants-after g o ≡ e .grants) x (t .is); step = record { goes = z ∙ y; up = t .step .up; inside = t .step .inside } })
-      go (fail p) z = let t = optional in let i = sym (t .step .goes) ∙ opt-none access-entry z in let y : e .next ≡ n = cc in inr (y, (p, sym z))
+      go (fail p) z = let t = optional in let i = sym (t .step .goes) ∙ sym (opt-fail access-entry _ _ _ (sym z)) in let y : e .next ≡ n = cc in inr (y, (p, sym z))
       go (stop j p) z = absurd (rw z at (entry-calm .runs n (drop (n - b) u)))
 
   entry-there : (e .next ≡ n → ⊥) → TookEntry g b u n e
@@ -330,13 +328,13 @@ entering-at (first z y x) = (omega arith, omega arith)
 entering-at (next i t) = (omega (arith, i .from, t .up), t .inside)
 
 -- the end
-ended : {b n : ℕ} {u : List ℕ} {g : Grants} → Entered b u n g → (p : ℕ) → fail p ≡ separated-entry n (drop (n - b) u) → EntriesTo (record { grants = g; next = n }) b u
+ended : {b n : ℕ} {u : List ℕ} {g : Grants} → Entered b u n g → (p : ℕ) → fail p ≡ separated-entry n (drop (n - b) u) → AccessEntriesTo (record { grants = g; next = n }) b u
 ended {b} {n} {u} {g} i p e =
     let v = drop (n - b) u in
     let z : entries b u ≡ ok (i .seen ++ []) n v = i .left ∙ ap (before (i .seen)) (many0-fail separated-entry separated-consumes n v p (sym e)) in
     record { reads = mapped-ok (grants-from no-grants) entries b u (i .seen) n v (i .so-far) (ap (λ (l : List AccessOf). ok l n v) (sym (append-nil (i .seen))) ∙ sym z); within = i .small }
 
-pub entries-end : {b n c : ℕ} {u r : List ℕ} {g : Grants} {e : Entries} → Entering b u n c g → Rest b u c r → EntryTo g e c r → e .next ≡ c → EntriesTo (record { grants = g; next = n }) b u
+pub entries-end : {b n c : ℕ} {u r : List ℕ} {g : Grants} {e : AccessEntries} → Entering b u n c g → Rest b u c r → AccessEntryTo g e c r → e .next ≡ c → AccessEntriesTo (record { grants = g; next = n }) b u
 unfolding separated-list0 ret grants-from
 entries-end {b} {n} {c} {u} {r} {g} {e} (first z y x) q h d =
     let k = entry-absent g q h d in
@@ -346,30 +344,24 @@ entries-end {b} {n} {c} {u} {r} {g} {e} (first z y x) q h d =
     rw (z, x) (record { reads = mapped-ok (grants-from no-grants) entries b u [] b (drop (b - b) u) refl (rw o j); within = first-small })
 entries-end {b} {n} {c} {u} {r} {g} {e} (next i t) q h d = let k = entry-absent g q h d in ended i (k .0) (pair-on _ _ _ t (k .1) ∙ separated-is n (drop (n - b) u))
 
-pub entries-closed : {b n : ℕ} {u : List ℕ} {g : Grants} {a : Step} {l : Lost} → Entered b u n g → SkipsAt (whitespace0 >> tag 44) a b u n → a ≡ Not l → EntriesTo (record { grants = g; next = n }) b u
+pub entries-closed : {b n : ℕ} {u : List ℕ} {g : Grants} {a : Step} {l : Lost} → Entered b u n g → SkipsAt (whitespace0 >> tag 44) a b u n → a ≡ Not l → AccessEntriesTo (record { grants = g; next = n }) b u
 entries-closed {b} {n} {u} {g} {a} {l} i h d = go l (pair-fall _ _ access-entry l (h .at) (skips-none d h) ∙ separated-is n (drop (n - b) u))
   where
-    go : (l : Lost) → lostReply l ≡ separated-entry n (drop (n - b) u) → EntriesTo (record { grants = g; next = n }) b u
+    go : (l : Lost) → lostReply l ≡ separated-entry n (drop (n - b) u) → AccessEntriesTo (record { grants = g; next = n }) b u
     go =
         by-lost
-        (λ l. lostReply l ≡ separated-entry n (drop (n - b) u) → EntriesTo (record { grants = g; next = n }) b u)
+        (λ l. lostReply l ≡ separated-entry n (drop (n - b) u) → AccessEntriesTo (record { grants = g; next = n }) b u)
         (λ p e. ended i p e)
         (λ j p e. absurd (rw (← e) at (separated-calm .runs n (drop (n - b) u))))
 
 -- one entry more
-before-more : {A : Type 0} (l : List A) (a : A) (x : Reply (List A)) → before l (prepend a x) ≡ before (l ++ (a ∷ [])) x
-unfolding prepend
-before-more l a (ok k c r) = rw (append-assoc l (a ∷ []) k)
-before-more l a (fail p) = refl
-before-more l a (stop n p) = refl
-
 first-left : {b c : ℕ} {u : List ℕ} {a : AccessOf} → Took access-entry b u b a c → (x : Reply (List AccessOf)) → many0 separated-entry c (drop (c - b) u) ≡ x → entries b u ≡ before (a ∷ []) x
 unfolding separated-list0 ret
 first-left {b} {c} {u} {a} t (ok l d r) e = sym (catch-ok some-entries (λ p. ret []) b u (a ∷ l) d r (begin some-entries b u (go _ t (sym (bind-ok (many0 separated-entry) (λ l. ret (a ∷ l)) e)))))
 first-left {b} {c} {u} {a} t (fail p) e = absurd (many0-ends separated-entry c (drop (c - b) u) p (sym e))
 first-left {b} {c} {u} {a} t (stop i p) e = absurd (rw e at (calm-many0 separated-calm .runs c (drop (c - b) u)))
 
-pub entered : {b n c : ℕ} {u r : List ℕ} {g : Grants} {e : Entries} → Entering b u n c g → Rest b u c r → EntryTo g e c r → (e .next ≡ c → ⊥) → Entered b u (e .next) (e .grants)
+pub entered : {b n c : ℕ} {u r : List ℕ} {g : Grants} {e : AccessEntries} → Entering b u n c g → Rest b u c r → AccessEntryTo g e c r → (e .next ≡ c → ⊥) → Entered b u (e .next) (e .grants)
 unfolding grants-from
 entered {b} {n} {c} {u} {r} {g} {e} (first z y x) q h f =
     let t = entry-there g q h f in
@@ -386,7 +378,7 @@ entered {b} {n} {c} {u} {r} {g} {e} (next i t) q h f =
       small = h .within;
       from = omega (arith, i .from, t .up, s .step .up);
       inside = s .step .inside;
-      left = i .left ∙ (ap (before (i .seen)) (many0-more separated-entry separated-consumes n v (s .value) (e .next) (drop (e .next - b) u) (sym k)) ∙ before-more (i .seen) (s .value) (many0 separated-entry (e .next) (drop (e .next - b) u)));
+      left = i .left ∙ (ap (before (i .seen)) (many0-more separated-entry separated-consumes n v (s .value) (e .next) (drop (e .next - b) u) (sym k)) ∙ before-cons (i .seen) (s .value) (many0 separated-entry (e .next) (drop (e .next - b) u)));
     }
 
 -- the list, which may be absent
@@ -454,18 +446,18 @@ pub privileges-small : {a : PrivilegesRead} {n : ℕ} {r : List ℕ} {x w c : �
 privileges-small h e = read-within h e
 
 -- two words an attribute, and four its field
-pub attribute-words : (a : AttributeOf) → word-count (attribute-records a) ≡ 6
-unfolding word-count catalogue-words each record-words layout-20 attribute-records field-record plain documented
+pub attribute-words : (a : AttributeOf) → word-count layout (attribute-records a) ≡ 6
+unfolding word-count catalogue-words each record-words layout attribute-records field-record plain documented
 attribute-words a = refl
 
 -- an attribute up to its field
 head-chain : OnChain attribute-head
 unfolding attribute-head
-head-chain = chain-bind (set-flags-chain 4) λ q. chain-then whitespace0-chain (chain-then (keyword-chain _) (chain-then whitespace1-chain (chain-bind (chain-inside attribute-access-inside) λ p. chain-ret _)))
+head-chain = chain-bind (set-flags-chain _) λ q. chain-then whitespace0-chain (chain-then (keyword-chain _) (chain-then whitespace1-chain (chain-bind (chain-inside attribute-access-inside) λ p. chain-ret _)))
 
 pub attribute-head-consumes : Consumes attribute-head
 unfolding attribute-head
-attribute-head-consumes = consumes-right (set-flags-chain 4) λ q. consumes-then-right whitespace0-chain (consumes-then-left (keyword-consumes _) (chain-then whitespace1-chain (chain-bind (chain-inside attribute-access-inside) λ p. chain-ret _)))
+attribute-head-consumes = consumes-right (set-flags-chain _) λ q. consumes-then-right whitespace0-chain (consumes-then-left (keyword-consumes _) (chain-then whitespace1-chain (chain-bind (chain-inside attribute-access-inside) λ p. chain-ret _)))
 
 module _ {a : AttributeHeadRead} {b : ℕ} {u : List ℕ} (h : AttributeHeadTo a b u) where
   pub attribute-head-took : {p : AttributeHeadParts} {c : ℕ} → a ≡ AttributeHead p c → Took attribute-head b u b (attributeHeadOf p) c
@@ -496,7 +488,7 @@ attribute-steps d m =
 
 -- two words an attribute, and those of its field
 pub attribute-headed : Headed {I = Front} (λ i. parse-attribute-after-doc-maturity (i .doc) (i .maturity)) (λ i. attribute-records) attribute-head closed-field (λ f. field-record f ∷ []) 2
-unfolding word-count catalogue-words each record-words layout-20 attribute-records documented
+unfolding word-count catalogue-words each record-words layout attribute-records documented
 attribute-headed = record {
   make = λ i h f. attribute-of (i .doc) (i .maturity) h f;
   first = λ i h f. documented 7 0 (i .maturity) (i .doc) (bits 4 (h .flags) ∷ []) absent (h .privileges .read) (h .privileges .write) [];
@@ -515,7 +507,7 @@ module _ {n : ℕ} {r : List ℕ} {a : StructFieldRead} (h : StructFieldTo close
   pub field-room : {p k : ℕ} → Room (λ f. field-record f ∷ []) closed-field n r p k → p + 32 ≤ k
   field-room room = read-room (reads-as h e) (field-words _) room
 
-  pub field-written : {p : ℕ} (to : ℕ) → to ≡ p + 32 → {old new : List ℕ} → new ≡ put p (catalogue-bytes layout-20 (field-parts s ∷ [])) old → Written (λ f. field-record f ∷ []) closed-field n r p (record { next = c; to = to }) old new
+  pub field-written : {p : ℕ} (to : ℕ) → to ≡ p + 32 → {old new : List ℕ} → new ≡ put p (catalogue-bytes layout (field-parts s ∷ [])) old → Written (λ f. field-record f ∷ []) closed-field n r p (record { next = c; to = to }) old new
   field-written to z g =
       let i = reads-in closed-field-on n c r _ (reads-as h e) in
       rw z (read-written (reads-as h e) (field-words _) (ap (λ (x : Record). x ∷ []) (field-parts-is n r s c (read-within h e) (i .1))) g)
@@ -524,8 +516,8 @@ module _ {n : ℕ} {r : List ℕ} {a : StructFieldRead} (h : StructFieldTo close
 
 -- the two words of an attribute's first record
 pub attribute-first-put : (f : FrontParts) (h : AttributeHeadParts) (p v : ℕ) (l l₁ : List ℕ) → v ≡ docBit (f .doc)
-    → l₁ ≡ put p (words-bytes (first-of (record { kind = 7; place = 0; maturity = f .maturity; documented = v; flags = h .flags * 8; name = 0; size = 0; privilege = h .read; further = h .write }) ∷ docWord (f .doc) ∷ [])) l
-    → l₁ ≡ put p (catalogue-bytes layout-20 (attribute-first f h ∷ [])) l
+    → l₁ ≡ put p (words-bytes (first-of (record { kind = 7; place = 0; maturity = f .maturity; «doc_present» = v; flags = h .flags * 8; name = 0; «name_length» = 0; «first_privilege» = h .read; «second_privilege» = h .write }) ∷ docWord (f .doc) ∷ [])) l
+    → l₁ ≡ put p (catalogue-bytes layout (attribute-first f h ∷ [])) l
 unfolding from-top packed width offset size
 attribute-first-put f h p v l l₁ d e =
     let y : h .flags * 8 ≡ from-top 7 (bits 4 (h .flags) ∷ []) = omega arith in

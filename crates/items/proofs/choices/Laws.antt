@@ -17,12 +17,11 @@ use Rattle.lexing.proofs.Slicing.{Took, walks, rest-self}
 use Rattle.items.specs.entries.{present, Entry, shared-before, choice-head, constant-entries-list, choice-after-doc-maturity}
 use Rattle.items.specs.records.{at, spanned, flag, word-extent, documented, entry-record, choice-records}
 use Rattle.lexing.specs.buffers.{each, words-bytes, put}
-use Rattle.items.specs.layout.{packed, width, from-top, offset, size, layout-20, further-word, record-words, catalogue-words, catalogue-bytes, word-count, text-limit}
+use Rattle.items.specs.layout.{packed, width, from-top, offset, size, layout, further-word, record-words, catalogue-words, catalogue-bytes, word-count, text-limit}
 use Rattle.lexing.specs.answers.{wordBetween}
 use Rattle.items.specs.answers.{Front, first-of, spanWord, docWord, docBit, frontOf}
-use Rattle.items.specs.inner.choices.{choice-first}
+use Rattle.items.specs.inner.choices.{choice-first, ChoiceFrom, choiceHeadAt, ChoiceHeadBetween, ChoiceHeadTo}
 use Rattle.items.specs.declared.writing.FrontParts.{FrontParts}
-use Rattle.items.specs.answers.choices.{ChoiceFrom, choiceHeadAt, ChoiceHeadBetween, ChoiceHeadTo}
 use Rattle.items.specs.declared.choices.ChoiceHeadParts.{ChoiceHeadParts}
 use Rattle.items.specs.declared.choices.ChoiceHeadRead.the-variants.{ChoiceHead}
 use Rattle.lexing.proofs.AnswerLaws.{read-is, read-on}
@@ -30,7 +29,7 @@ use Rattle.items.proofs.Headed.{Headed}
 use Rattle.items.proofs.WordBetween.{extent-between}
 use Rattle.items.proofs.writing.Laws.{documented-put}
 use Rattle.items.proofs.Locality.{shared-before-local, shared-before-consumes, choice-head-local, constant-entries-list-local}
-use Rattle.lexing.proofs.optional.Laws.{skip-took, opt-ok, opt-fail, opt-stop}
+use Rattle.lexing.proofs.answers.Laws.{skip-took, opt-ok, opt-fail, opt-stop}
 
 -- a part that takes a byte is there where reading goes on behind its start
 pub opt-present : {A : Type 0} {m : Parser A} → Onward m → Consumes m → (b : ℕ) (u : List ℕ) {a : Option A} {c : ℕ} → ok a c (drop (c - b) u) ≡ opt m b u → present a ≡ ltb b c
@@ -77,7 +76,7 @@ entries-list-onward = walks (constant-entries-list-local .on-chain)
 
 -- three words, and those of the entries
 pub choice-headed : (k : List ℕ) → Headed {I = Front} (λ i. choice-after-doc-maturity k (i .doc) (i .maturity)) (λ i. choice-records (i .kind) (i .place)) (choice-head k) constant-entries-list (map entry-record) 3
-unfolding choice-after-doc-maturity word-count catalogue-words each record-words layout-20 choice-records documented
+unfolding choice-after-doc-maturity word-count catalogue-words each record-words layout choice-records documented
 choice-headed k = record {
   make = λ i h l. record { shared = h .head-shared; doc = i .doc; maturity = i .maturity; name = h .head-name; base = h .head-base; entries = l };
   first = λ i h l. documented (i .kind) (i .place) (i .maturity) (i .doc) (flag (h .head-shared) ∷ []) (word-extent (h .head-name)) 0 0 (spanned (word-extent (h .head-base)) ∷ []);
@@ -90,9 +89,9 @@ choice-headed k = record {
 
 -- the three words of the first record
 pub choice-first-put : (f : FrontParts) (h : ChoiceHeadParts) (p v i a o s : ℕ) (l l₁ : List ℕ) → v ≡ docBit (f .doc) → i ≡ bit (h .shared)
-    → a ≡ first-of (record { kind = f .kind; place = f .place; maturity = f .maturity; documented = v; flags = i * 64; name = h .name; size = h .end - h .name; privilege = 0; further = 0 }) → o ≡ docWord (f .doc)
-    → s ≡ spanWord (h .«base_at») (h .«base_end» - h .«base_at») → l₁ ≡ put p (words-bytes (a ∷ o ∷ s ∷ [])) l → l₁ ≡ put p (catalogue-bytes layout-20 (choice-first f h ∷ [])) l
-unfolding from-top packed width flag offset size layout-20 further-word
+    → a ≡ first-of (record { kind = f .kind; place = f .place; maturity = f .maturity; «doc_present» = v; flags = i * 64; name = h .name; «name_length» = h .end - h .name; «first_privilege» = 0; «second_privilege» = 0 }) → o ≡ docWord (f .doc)
+    → s ≡ spanWord (h .«base_at») (h .«base_end» - h .«base_at») → l₁ ≡ put p (words-bytes (a ∷ o ∷ s ∷ [])) l → l₁ ≡ put p (catalogue-bytes layout (choice-first f h ∷ [])) l
+unfolding from-top packed width flag offset size layout further-word
 choice-first-put f h p v i a o s l l₁ d e w b z e₁ =
     documented-put (f .kind) (f .place) (f .maturity) (f .doc) (flag (h .shared) ∷ []) (at (h .name) (h .end - h .name)) 0 0 (spanned (at (h .«base_at») (h .«base_end» - h .«base_at»))) p (i * 64) v a o s l l₁ (omega (arith, e)) d w b z e₁
 

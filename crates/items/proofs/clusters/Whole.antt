@@ -6,7 +6,7 @@ use Prim.Native.Nat.{ℕ, _+_, _-_, _≤_, _<_, max}
 use native.Mathlib.Omega.{arith}
 use lib.ListN.{length, drop}
 use Rattle.lexing.specs.bytes.{ascii}
-use Rattle.lexing.specs.reply.{Reply, ok, fail, stop, Parser, ret, _>>_, catch, failAt, _or_, further, opt, many0}
+use Rattle.lexing.specs.reply.{Reply, ok, fail, stop, Parser, ret, _>>_, catch, failAt, _or_, no-nearer, opt, many0}
 use Rattle.lexing.specs.words.{Word, keyword, any-keyword, tag}
 use Rattle.lexing.specs.blanks.{Doc, whitespace0, whitespace1}
 use Rattle.lexing.specs.answers.{Rest, wordAt, wordReply, lostReply, NameIn, Skips, SkipsAt, Fail, Stop}
@@ -30,32 +30,37 @@ use Rattle.items.specs.members.{parse-event-after-doc-maturity, parse-co
 use Rattle.items.specs.clusters.{Member, revision, bitmap, enum, struct, attribute, command, event, parse-revision, member-tries, parse-cluster-member, cluster-members, side, cluster-head, cluster-after-doc-maturity}
 use Rattle.items.specs.records.{Record, at, value, word-extent, documented, choice-records, struct-records, attribute-records, event-records, member-records, last-revision, cluster-records}
 use Rattle.lexing.specs.buffers.{each, words-bytes, put}
-use Rattle.items.specs.layout.{packed, width, from-top, offset, size, layout-20, record-words, further-word, catalogue-words, catalogue-bytes, word-count}
+use Rattle.items.specs.layout.{packed, width, from-top, offset, size, layout, record-words, further-word, catalogue-words, catalogue-bytes, word-count}
 use Rattle.items.specs.answers.{Front, frontOf, Room, Written, first-of, docWord, docBit}
-use Rattle.items.specs.answers.members.{command-records}
-use Rattle.items.specs.answers.clusters.{RevisionTo, clusterHeadAt, unhoisted-records}
-use Rattle.items.specs.inner.clusters.{found, member-try, KindTo, member-behind, members-rest, unhoisted, MemberWritten, MembersWritten, revisionWrote, cluster-first}
+use Rattle.items.specs.inner.commands.{command-records}
+use Rattle.items.specs.inner.members.{RevisionTo, member-behind, unhoisted, MemberWritten, revisionWrote}
+use Rattle.items.specs.inner.clusters.{clusterHeadAt, unhoisted-records, members-rest, MembersWritten, cluster-first}
+use Rattle.items.specs.inner.member_kinds.{is-ok, member-try, KindTo}
 use Rattle.items.specs.declared.writing.FrontParts.{FrontParts}
 use Rattle.items.specs.declared.writing.Wrote.{Wrote}
-use Rattle.items.specs.declared.clusters.MemberKind.{MemberKind}
-use Rattle.items.specs.declared.clusters.MemberKind.the-variants.{Revision, Bitmap, Enum, Struct, Attribute, Command, Event, Unknown}
-use Rattle.items.specs.declared.clusters.Candidate.{Candidate}
+use Rattle.items.specs.declared.member_kinds.MemberKind.{MemberKind}
+use Rattle.items.specs.declared.member_kinds.MemberKind.the-variants.{Revision, Bitmap, Enum, Struct, Attribute, Command, Event, Unknown}
+use Rattle.items.specs.declared.member_kinds.MemberStart.{MemberStart}
 use Rattle.items.specs.declared.clusters.ClusterHeadParts.{ClusterHeadParts}
-use Rattle.items.specs.declared.clusters.MembersWrote.{MembersWrote}
+use Rattle.items.specs.declared.members.MembersWrote.{MembersWrote}
 use Rattle.lexing.proofs.AnswerLaws.{reads-as, read-took}
 use Rattle.items.proofs.Keywords.{keyword-missing}
 use Rattle.lexing.proofs.Composed.{onward-bind}
 use Rattle.items.proofs.Headed.{Headed}
 use Rattle.items.proofs.Choice.{further-ok, ok-further}
-use Rattle.items.proofs.Tries.{maturity-words, bind-ok, then-ok, maturity-elsewhere}
-use Rattle.items.proofs.Braces.{Step as Taken, lost-not, brace-first, brace-keyword, brace-blank, rest-is, taken, then-value, follows, follows-with, close-took, close-lost, close-on, opened-room, opened-is}
+use Rattle.lexing.proofs.Sequences.{bind-ok, then-ok}
+use Rattle.items.proofs.Tries.{maturity-words, maturity-elsewhere}
+use Rattle.lexing.proofs.TextEnd.{brace-first, brace-keyword, brace-blank}
+use Rattle.items.proofs.Braces.{Step as Taken, lost-not, rest-is, taken, then-value, follows, follows-with, close-took, close-lost, close-on, opened-room, opened-is}
 use Rattle.items.proofs.RecordWords.{Elementwise, each-elementwise, word-count-none, catalogue-bytes-none}
 use Rattle.items.proofs.Locality.{braces-chain, api-maturity-local, parse-revision-local, member-tries-inside, parse-cluster-member-inside, parse-cluster-member-consumes, side-local, cluster-head-local}
 use Rattle.items.proofs.WordBetween.{extent-between}
 use Rattle.lexing.proofs.buffers.Laws.{put-nothing}
 use Rattle.items.proofs.writing.Laws.{documented-bytes, no-room, Writing, writing-start, writing-start-seen, writing-same, writing-fits, writing-more, writing-more-seen}
 use Rattle.items.proofs.Recorded.{Recorded, recorded-at, recorded-room, recorded-written}
-use Rattle.items.proofs.clusters.Laws.{OtherWord, at-other, member-left, member-tries-on, members-on}
+use Rattle.items.proofs.member_kinds.Laws.{OtherWord, at-other, member-left}
+use Rattle.items.proofs.members.Laws.{member-tries-on}
+use Rattle.items.proofs.clusters.Laws.{members-on}
 
 -- one of two keywords
 module _ (k j : List ℕ) (b : ℕ) (u : List ℕ) where
@@ -67,7 +72,7 @@ module _ (k j : List ℕ) (b : ℕ) (u : List ℕ) where
 
   -- the first is not there: it failed at b, so that the second decides
   pub either-second : {a : Step} (a' : Step) (l : Lost) → wordReply a b u ≡ keyword k b u → a ≡ Not l → wordReply a' b u ≡ keyword j b u → wordReply a' b u ≡ any-keyword (k ∷ j ∷ []) b u
-  unfolding any-keyword _or_ further
+  unfolding any-keyword _or_ no-nearer
   either-second {a} a' l h e h' = go (keyword j b u) refl
     where
       f : keyword k b u ≡ fail b
@@ -110,7 +115,7 @@ braced-members-on = walks (braces-chain (chain-many0 (parse-cluster-member-insid
 
 -- four words a cluster, and those of its members
 pub cluster-headed : Headed {I = Front} (λ i. cluster-after-doc-maturity (i .doc) (i .maturity)) (λ i. unhoisted-records) cluster-head (braces cluster-members) (each (member-records (λ x. 0))) 4
-unfolding cluster-after-doc-maturity word-count catalogue-words each record-words layout-20 cluster-records documented
+unfolding cluster-after-doc-maturity word-count catalogue-words each record-words layout cluster-records documented
 cluster-headed = record {
   make = λ i h l. record { doc = i .doc; maturity = i .maturity; name = h .id; code = h .number; members = l };
   first = λ i h l. documented 1 0 (i .maturity) (i .doc) [] (word-extent (h .id)) 0 0 (value (h .number) ∷ value (last-revision 0 l) ∷ []);
@@ -175,7 +180,7 @@ module _ (d : Doc) (m : ℕ) {x : MemberKind} (e : x ≡ Revision) (b : ℕ) (u 
   revision-written z {a} {n} {c} {at} {old} h y =
       let t = read-took h y revision-on (rest-self b u) refl in
       record {
-        written = record { value = revision n; is = begin parse-revision b u (sym (t .goes)) ∙ sym revision-is; place = omega (arith, word-count-none); bytes = sym (rw (catalogue-bytes-none layout-20) (put-nothing at old)) };
+        written = record { value = revision n; is = begin parse-revision b u (sym (t .goes)) ∙ sym revision-is; place = omega (arith, word-count-none); bytes = sym (rw (catalogue-bytes-none layout) (put-nothing at old)) };
         latest = refl;
       }
 
@@ -192,12 +197,12 @@ unfolding member-try
 unknown-found d m {x} e b u room = no-room room (Fail b) (sym (ap (λ (y : MemberKind). member-try y d m b u) e))
 
 -- the tries of a member by that of its kind
-module _ {k : Candidate} {b : ℕ} {u : List ℕ} (h : KindTo k b u) (d : Doc) (m : ℕ) where
+module _ {k : MemberStart} {b : ℕ} {u : List ℕ} (h : KindTo k b u) (d : Doc) (m : ℕ) where
   pub left-room : {at n : ℕ} → Room unhoisted (member-tries d m) b u at n → Room unhoisted (member-try (k .kind) d m) b u at n
-  left-room room = record { value = room .value; next = room .next; is = further-ok (k .floor) (member-try (k .kind) d m b u) (room .is ∙ member-left h d m); fits = room .fits }
+  left-room room = record { value = room .value; next = room .next; is = further-ok (k .«others_fail_at») (member-try (k .kind) d m b u) (room .is ∙ member-left h d m); fits = room .fits }
 
   left-is : {v : Member} {c : ℕ} {r : List ℕ} → ok v c r ≡ member-try (k .kind) d m b u → ok v c r ≡ member-tries d m b u
-  left-is e = ok-further (k .floor) e ∙ sym (member-left h d m)
+  left-is e = ok-further (k .«others_fail_at») e ∙ sym (member-left h d m)
 
 -- a member behind the blanks before it
 module _ (d : Doc) {b : ℕ} {u : List ℕ} {m c₁ : ℕ} (t₁ : Took api-maturity b u b m c₁) {e : Doc} {c₂ : ℕ} (t₂ : Took whitespace0 b u c₁ e c₂) {r : List ℕ} (q : Rest b u c₂ r) where
@@ -209,7 +214,7 @@ module _ (d : Doc) {b : ℕ} {u : List ℕ} {m c₁ : ℕ} (t₁ : Took api-matu
       let s = rest-is (member-tries-on d m) c₂ (room .next) (drop (c₂ - b) u) (drop (room .next - b) u) (room .value) (sym x) in
       record { value = room .value; next = room .next; is = rw (q .same) (rw (← s) x); fits = room .fits }
 
-  pub behind-written : {k : Candidate} → KindTo k c₂ r → {z at : ℕ} {w : MembersWrote} {old new : List ℕ} → MemberWritten z (member-try (k .kind) d m) c₂ r at w old new → MemberWritten z (member-behind d) b u at w old new
+  pub behind-written : {k : MemberStart} → KindTo k c₂ r → {z at : ℕ} {w : MembersWrote} {old new : List ℕ} → MemberWritten z (member-try (k .kind) d m) c₂ r at w old new → MemberWritten z (member-behind d) b u at w old new
   unfolding member-behind
   behind-written {k} h {z} {at} {w} g =
       let o = g .written in
@@ -226,11 +231,11 @@ module _ (b : ℕ) (u : List ℕ) where
   brace-frees [] = tt
   brace-frees (j ∷ js) = (brace-keyword b u j, brace-frees js)
 
-  brace-starts : (js : List (List ℕ)) → found (any-keyword js b (125 ∷ u)) ≡ false
-  brace-starts js = ap found (free-keywords b (125 ∷ u) js (brace-frees js))
+  brace-starts : (js : List (List ℕ)) → is-ok (any-keyword js b (125 ∷ u)) ≡ false
+  brace-starts js = ap is-ok (free-keywords b (125 ∷ u) js (brace-frees js))
 
   brace-tries : (d : Doc) (m : ℕ) → member-tries d m b (125 ∷ u) ≡ fail b
-  unfolding member-try further
+  unfolding member-try no-nearer
   brace-tries d m =
       let other : OtherWord b (125 ∷ u) = record { revision = brace-starts _; bitmap = brace-starts _; enum = brace-starts _; struct = brace-starts _; attribute = brace-starts _; command = brace-starts _; event = brace-starts _ } in
       let z : max b b ≡ b = omega arith in
@@ -308,7 +313,7 @@ module _ (b : ℕ) (u : List ℕ) (at : ℕ) (old : List ℕ) (room : Room (each
             find (ok a n r'') y =
                 let k = rest-is (member-behind-on d) s n r r'' a y in
                 let g : ok a n (drop (n - s) r) ≡ member-behind d s r = rw (← k) (sym y) in
-                record { value = a; next = n; is = g; fits = writing-fits one parse-cluster-member b u at old all (i .writing) parse-cluster-member-consumes (member-took g) (word-count (unhoisted a)) refl .0 }
+                record { value = a; next = n; is = g; fits = writing-fits one parse-cluster-member b u at old all (i .writing) parse-cluster-member-consumes (member-took g) (word-count layout (unhoisted a)) refl .0 }
             find (fail p) y =
                 let k = whole .is ∙ many0-ends parse-cluster-member-consumes (Fail p) (i .writing .run) here (member-lost (Fail p) (sym y)) in
                 let n : whole .next ≡ c = cc in
@@ -321,7 +326,7 @@ module _ (b : ℕ) (u : List ℕ) (at : ℕ) (old : List ℕ) (room : Room (each
         placing-more {w} {new'} g =
             let o = g .written in
             let h = member-took (o .is) in
-            let n = word-count (unhoisted (o .value)) in
+            let n = word-count layout (unhoisted (o .value)) in
             let x = writing-more one parse-cluster-member b u at old all (i .writing) parse-cluster-member-consumes h n refl new' (o .bytes) in
             let v = writing-more-seen one parse-cluster-member b u at old all (i .writing) parse-cluster-member-consumes h n refl new' (o .bytes) in
             let y : w .revision ≡ last-revision 0 (i .writing .seen ++ (o .value ∷ [])) = g .latest ∙ (ap (λ (n : ℕ). last-revision n (o .value ∷ [])) (i .latest) ∙ sym (latest-more 0 (i .writing .seen) (o .value))) in
@@ -356,8 +361,8 @@ module _ {b : ℕ} {u : List ℕ} {c : ℕ} (t : Took (tag 123) b u b tt c) {r :
 
 -- the first record
 pub cluster-first-put : (f : FrontParts) (h : ClusterHeadParts) (n p v a o : ℕ) (l l₁ : List ℕ) → v ≡ docBit (f .doc)
-    → a ≡ first-of (record { kind = 1; place = 0; maturity = f .maturity; documented = v; flags = 0; name = h .name; size = h .end - h .name; privilege = 0; further = 0 }) → o ≡ docWord (f .doc)
-    → l₁ ≡ put p (words-bytes (a ∷ o ∷ h .code ∷ n ∷ [])) l → l₁ ≡ put p (catalogue-bytes layout-20 (cluster-first f h n ∷ [])) l
+    → a ≡ first-of (record { kind = 1; place = 0; maturity = f .maturity; «doc_present» = v; flags = 0; name = h .name; «name_length» = h .end - h .name; «first_privilege» = 0; «second_privilege» = 0 }) → o ≡ docWord (f .doc)
+    → l₁ ≡ put p (words-bytes (a ∷ o ∷ h .code ∷ n ∷ [])) l → l₁ ≡ put p (catalogue-bytes layout (cluster-first f h n ∷ [])) l
 unfolding further-word offset size from-top packed width
 cluster-first-put f h n p v a o l l₁ d w b e₁ =
     rw (documented-bytes 1 0 (f .maturity) (f .doc) [] (at (h .name) (h .end - h .name)) 0 0 (value (h .code) ∷ value n ∷ []) 0 refl, ← d) (rw (w, b) at e₁)

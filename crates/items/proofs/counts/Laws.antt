@@ -1,13 +1,13 @@
 -- The first pass: counts in a sequence, between braces and over a repetition. They hold for any records.
 use mathlib.Core.Path.{_≡_, refl, sym, ap, _∙_, subst}
-use mathlib.Core.List.{List, [], _∷_, _++_}
-use Prim.Native.Nat.{ℕ, _+_, _-_, _*_, _≤_, _<_}
+use mathlib.Core.List.{List, [], _∷_, _++_, map}
+use Prim.Native.Nat.{ℕ, _+_, _-_, _*_, _≤_, _<_, max}
 use native.Mathlib.Omega.{arith}
 use lib.ListN.{length, drop, length-drop}
-use Rattle.lexing.specs.reply.{ok, Parser, _>>_, many0}
+use Rattle.lexing.specs.reply.{ok, Parser, _>>_, many0, fail, no-nearer}
 use Rattle.lexing.specs.words.{tag}
 use Rattle.lexing.specs.blanks.{whitespace0}
-use Rattle.lexing.specs.answers.{Answer, got, Rest, lostReply, lostOf, reply, ReadTo, SkipsAt, Stop}
+use Rattle.lexing.specs.answers.{Answer, got, Rest, lostReply, lostOf, reply, ReadTo, SkipsAt, Stop, Fail}
 use Rattle.lexing.specs.declared.answers.Lost.{Lost}
 use Rattle.lexing.specs.declared.answers.Step.{Step}
 use Rattle.lexing.specs.declared.answers.Step.the-variants.{Next, Not}
@@ -18,19 +18,19 @@ use Rattle.lexing.proofs.Slicing.{Took, took}
 use Rattle.lexing.proofs.Repetition.{ManyAt, manyEnd, many0-start, many0-step, many0-ends}
 use Rattle.items.specs.clusters.{mapped}
 use Rattle.items.specs.records.{Record}
-use Rattle.items.specs.layout.{word-count}
+use Rattle.items.specs.layout.{layout, word-count}
 use Rattle.items.specs.answers.{counted, countLost, countEnd, CountTo, Room}
-use Rattle.items.specs.inner.counts.{EndsIn, closedCount, ClosedTo}
+use Rattle.items.specs.inner.counts.{EndsIn, closedCount, ClosedTo, lostNoEarlier, failNoEarlier}
 use Rattle.items.specs.declared.counts.Count.{Count}
 use Rattle.items.specs.declared.counts.Count.the-variants.{Words, NoCount}
 use Rattle.lexing.proofs.AnswerLaws.{reads-as}
 use Rattle.items.proofs.Mapped.{mapped-twice, value-as, TookAs, took-as, lost-as, mapped-ok, mapped-not}
-use Rattle.items.proofs.RecordWords.{Elementwise, word-count-none, word-count-more}
+use Rattle.items.proofs.RecordWords.{Elementwise, Elements, map-elementwise, word-count-none, word-count-more}
 
 -- a count as a step of a sequence: the value, its words, the step, and how few they are
 pub record Counted {A : Type 0} (f : A → List Record) (m : Parser A) (b : ℕ) (u : List ℕ) (n k c : ℕ) : Type 0 where
   pub value : A
-  pub words : word-count (f value) ≡ k
+  pub words : word-count layout (f value) ≡ k
   pub step : Took m b u n value c
   pub few : k ≤ 8 * (c - n)
 
@@ -41,12 +41,12 @@ module _ {A : Type 0} {f : A → List Record} {m : Parser A} where
   pub count-took : (w : Onward m) {b n : ℕ} {u r : List ℕ} {a : Count} {k c : ℕ} → Rest b u n r → a ≡ Words k c → CountTo f m a n r → Counted f m b u n k c
   unfolding counted
   count-took w {b} {n} {u} {r} {a} {k} {c} q e h =
-      let s : TookAs (λ x. word-count (f x)) m b u n k c = took-as w q (told e h .reads) in
+      let s : TookAs (λ x. word-count layout (f x)) m b u n k c = took-as w q (told e h .reads) in
       record { value = s .value; words = s .is; step = s .step; few = told e h .few }
 
   pub count-lost : {a : Count} (l : Lost) → a ≡ NoCount l → (n : ℕ) (r : List ℕ) → CountTo f m a n r → lostReply l ≡ m n r
   unfolding counted
-  count-lost {a} l e n r h = lost-as (λ x. word-count (f x)) m n r l (told e h .reads)
+  count-lost {a} l e n r h = lost-as (λ x. word-count layout (f x)) m n r l (told e h .reads)
 
   -- as `count_lost` answers it
   pub count-none : {a : Count} {l l' : Lost} → l' ≡ countLost a → a ≡ NoCount l → (n : ℕ) (r : List ℕ) → CountTo f m a n r → lostReply l' ≡ m n r
@@ -54,13 +54,13 @@ module _ {A : Type 0} {f : A → List Record} {m : Parser A} where
 
 -- the ends of a sequence that counts
 module _ {A : Type 0} (f : A → List Record) (m : Parser A) (b : ℕ) (u : List ℕ) where
-  pub count-is : (a : A) (k c : ℕ) → word-count (f a) ≡ k → k ≤ 8 * (c - b) → ok a c (drop (c - b) u) ≡ m b u → CountTo f m (Words k c) b u
+  pub count-is : (a : A) (k c : ℕ) → word-count layout (f a) ≡ k → k ≤ 8 * (c - b) → ok a c (drop (c - b) u) ≡ m b u → CountTo f m (Words k c) b u
   unfolding counted
-  count-is a k c s q e = record { reads = mapped-ok (λ x. word-count (f x)) m b u a c (drop (c - b) u) s e; few = q }
+  count-is a k c s q e = record { reads = mapped-ok (λ x. word-count layout (f x)) m b u a c (drop (c - b) u) s e; few = q }
 
   pub count-not : (l : Lost) → lostReply l ≡ m b u → CountTo f m (NoCount l) b u
   unfolding counted
-  count-not l e = record { reads = mapped-not (λ x. word-count (f x)) m b u l e; few = tt }
+  count-not l e = record { reads = mapped-not (λ x. word-count layout (f x)) m b u l e; few = tt }
 
   -- an answer that is passed on
   pub count-pass : (a : Count) (l : Lost) → a ≡ NoCount l → lostReply l ≡ m b u → CountTo f m a b u
@@ -68,7 +68,7 @@ module _ {A : Type 0} (f : A → List Record) (m : Parser A) (b : ℕ) (u : List
 
 -- an answer of a reader that takes a byte, once its variant x is known, counted by the words of its value
 pub read-counted : {T A : Type 0} {f : ℕ → List ℕ → T → Answer A} {W : ℕ → T → Type 0} {m : Parser A} (records : A → List Record) (w : Consumes m) {a x : T} {b : ℕ} {u : List ℕ} → ReadTo f W m a b u → a ≡ x
-    → {v : A} {k c : ℕ} → f b u x ≡ got v c → word-count (records v) ≡ k → k ≤ 8 → CountTo records m (Words k c) b u
+    → {v : A} {k c : ℕ} → f b u x ≡ got v c → word-count layout (records v) ≡ k → k ≤ 8 → CountTo records m (Words k c) b u
 read-counted {A = A} {m = m} records w {b = b} {u = u} h d {v} {k} {c} z e s =
     let g : ok v c (drop (c - b) u) ≡ m b u = sym (ap (λ (y : Answer A). reply y b u) z) ∙ reads-as h d in
     let l = rw (← g) at (w .consumes b u) in
@@ -78,15 +78,15 @@ read-counted {A = A} {m = m} records w {b = b} {u = u} h d {v} {k} {c} z e s =
 pub record Counting {A : Type 0} (f : List A → List Record) (m : Parser A) (b : ℕ) (u : List ℕ) (c n : ℕ) : Type 0 where
   pub seen : List A
   pub run : ManyAt m b u c seen
-  pub words : word-count (f seen) ≡ n
+  pub words : word-count layout (f seen) ≡ n
   pub few : n ≤ 8 * (c - b)
 
 module _ {A : Type 0} {f : List A → List Record} {one : A → List Record} (w : Elementwise f one) (m : Parser A) where
   pub counting-start : (b : ℕ) (u : List ℕ) → Counting f m b u b 0
-  counting-start b u = record { seen = []; run = many0-start m b u; words = ap word-count (w .nothing) ∙ word-count-none; few = omega arith }
+  counting-start b u = record { seen = []; run = many0-start m b u; words = ap (word-count layout) (w .nothing) ∙ word-count-none; few = omega arith }
 
   -- a turn that reads an element of k words
-  pub counting-more : Consumes m → {b c n d k : ℕ} {u : List ℕ} (a : A) → Counting f m b u c n → Took m b u c a d → word-count (one a) ≡ k → (c < d → k ≤ 8 * (d - c)) → Counting f m b u d (n + k) × (c < d)
+  pub counting-more : Consumes m → {b c n d k : ℕ} {u : List ℕ} (a : A) → Counting f m b u c n → Took m b u c a d → word-count layout (one a) ≡ k → (c < d → k ≤ 8 * (d - c)) → Counting f m b u d (n + k) × (c < d)
   counting-more v {b} {c} {n} {d} {k} {u} a i t e q =
       let s = many0-step v (i .run) t in (
         record {
@@ -98,11 +98,15 @@ module _ {A : Type 0} {f : List A → List Record} {one : A → List Record} (w 
         s .1,
       )
 
-ended : {A : Type 0} (f : List A → List Record) (m : Parser A) (b c : ℕ) (u : List ℕ) (l : List A) (x : Lost) → word-count (f l) ≤ 8 * (c - b) → many0 m b u ≡ manyEnd x l c (drop (c - b) u) → CountTo f (many0 m) (countEnd x (word-count (f l)) c) b u
+-- the same over elements of one record
+pub count-element : {A : Type 0} {one : A → Record} {m : Parser A} {k : ℕ} (w : Elements one m k) {b c n d : ℕ} {u : List ℕ} {a : A} → Counting (map one) m b u c n → Took m b u c a d → Counting (map one) m b u d (n + k) × (c < d)
+count-element {one = one} {m = m} w {a = a} i t = counting-more (map-elementwise one) m (w .takes) a i t (w .words a) (λ h. omega (arith, w .few, h))
+
+ended : {A : Type 0} (f : List A → List Record) (m : Parser A) (b c : ℕ) (u : List ℕ) (l : List A) (x : Lost) → word-count layout (f l) ≤ 8 * (c - b) → many0 m b u ≡ manyEnd x l c (drop (c - b) u) → CountTo f (many0 m) (countEnd x (word-count layout (f l)) c) b u
 ended f m b c u l x q =
     by-lost
-    (λ x. many0 m b u ≡ manyEnd x l c (drop (c - b) u) → CountTo f (many0 m) (countEnd x (word-count (f l)) c) b u)
-    (λ p e. count-is f (many0 m) b u l (word-count (f l)) c refl q (sym e))
+    (λ x. many0 m b u ≡ manyEnd x l c (drop (c - b) u) → CountTo f (many0 m) (countEnd x (word-count layout (f l)) c) b u)
+    (λ p e. count-is f (many0 m) b u l (word-count layout (f l)) c refl q (sym e))
     (λ k p e. count-not f (many0 m) b u (Stop k p) (sym e))
     x
 
@@ -113,17 +117,17 @@ counting-ends {A} {f} {m} w {b} {c} {n} {u} {r} {t} x i q e d =
 -- the count of what a function makes of a value
 pub count-mapped : {A B : Type 0} (records : B → List Record) (g : A → B) {m : Parser A} {r : Count} {b : ℕ} {u : List ℕ} → CountTo (λ a. records (g a)) m r b u → CountTo records (mapped m g) r b u
 unfolding counted
-count-mapped records g {m} {b = b} {u = u} h = record { reads = h .reads ∙ mapped-twice m g (λ x. word-count (records x)) b u; few = h .few }
+count-mapped records g {m} {b = b} {u = u} h = record { reads = h .reads ∙ mapped-twice m g (λ x. word-count layout (records x)) b u; few = h .few }
 
 -- the value behind a count on the part itself
 pub record Behind {A : Type 0} (f : A → List Record) (m : Parser A) (b : ℕ) (u : List ℕ) (n c : ℕ) : Type 0 where
   pub value : A
-  pub words : word-count (f value) ≡ n
+  pub words : word-count layout (f value) ≡ n
   pub is : ok value c (drop (c - b) u) ≡ m b u
 
 pub count-value : {A : Type 0} (f : A → List Record) (m : Parser A) (b : ℕ) (u : List ℕ) (n c : ℕ) → CountTo f m (Words n c) b u → Behind f m b u n c
 unfolding counted
-count-value f m b u n c h = let s = value-as (λ x. word-count (f x)) m b u n c (drop (c - b) u) (h .reads) in record { value = s .0; words = s .1 .0; is = s .1 .1 }
+count-value f m b u n c h = let s = value-as (λ x. word-count layout (f x)) m b u n c (drop (c - b) u) (h .reads) in record { value = s .0; words = s .1 .0; is = s .1 .1 }
 
 -- what is counted has room where its words fit, and ends behind its start
 pub count-room : {A : Type 0} {f : A → List Record} {m : Parser A} {b n c at k : ℕ} {u : List ℕ} → CountTo f m (Words n c) b u → at + 8 * n ≤ k → Room f m b u at k
@@ -153,3 +157,24 @@ module _ {a : Count} {n c b : ℕ} {u : List ℕ} {s : Step} (e : a ≡ Words n 
 
   pub closed-is : {d : ℕ} → s ≡ Next d → ClosedTo a (Words n d) b u
   closed-is z = closed-by (sym (ap (closedCount n) z))
+
+-- a count that is raised
+pub count-no-earlier : {A : Type 0} (f : A → List Record) (m k : Parser A) (q : ℕ) (r : Count) (b : ℕ) (u : List ℕ) → CountTo f m r b u → k b u ≡ no-nearer q (m b u) → CountTo f k (failNoEarlier r q) b u
+unfolding no-nearer
+count-no-earlier f m k q (Words n c) b u h e =
+    let s = count-value f m b u n c h in
+    count-is f k b u (s .value) n c (s .words) (h .few) (sym (e ∙ ap (no-nearer q) (sym (s .is))))
+count-no-earlier f m k q (NoCount l) b u h e =
+    by-lost
+    (λ l. lostReply l ≡ m b u → CountTo f k (failNoEarlier (NoCount l) q) b u)
+    (λ p h. let z : max p q ≡ max q p = omega arith in count-not f k b u (Fail (max p q)) (ap fail z ∙ sym (e ∙ ap (no-nearer q) (sym h))))
+    (λ n p h. count-not f k b u (Stop n p) (sym (e ∙ ap (no-nearer q) (sym h))))
+    l
+    (count-lost l refl b u h)
+
+-- the answers of the raised count
+pub no-earlier-words : (r : Count) (q n c : ℕ) → r ≡ Words n c → r ≡ failNoEarlier r q
+no-earlier-words r q n c e = subst (λ (x : Count). x ≡ failNoEarlier x q) (sym e) refl
+
+pub no-earlier-lost : (r : Count) (q : ℕ) (l x : Lost) → r ≡ NoCount l → x ≡ lostNoEarlier l q → NoCount x ≡ failNoEarlier r q
+no-earlier-lost r q l x e f = ap NoCount f ∙ sym (ap (λ (y : Count). failNoEarlier y q) e)

@@ -1,7 +1,7 @@
 -- Annotations and entries.
-use mathlib.Core.Path.{_≡_, refl, sym, ap, _∙_}
-use mathlib.Core.List.{List, [], _∷_, map}
-use Prim.Native.Nat.{ℕ, _+_, _-_, _≤_, _<_}
+use mathlib.Core.Path.{_≡_, refl, sym, ap}
+use mathlib.Core.List.{List, [], _∷_}
+use Prim.Native.Nat.{ℕ, _+_, _-_, _≤_}
 use native.Mathlib.Omega.{arith}
 use lib.ListN.{length, drop}
 use Rattle.lexing.specs.reply.{Parser, ret, _>>_, opt, many0}
@@ -17,15 +17,14 @@ use Rattle.lexing.proofs.Locality.{Consumes, chain-ret, chain-many0, chain-opt,
 use Rattle.lexing.proofs.TokenLocality.{whitespace0-chain}
 use Rattle.lexing.proofs.Slicing.{Took, took, walks, rest-self, told-next, step-lost, string-took, on, fall, done}
 use Rattle.lexing.proofs.Pairs.{pair-on, pair-fall}
-use Rattle.lexing.proofs.optional.Laws.{skip-took}
+use Rattle.lexing.proofs.answers.Laws.{skip-took}
 use Rattle.lexing.proofs.steps.Laws.{tag-behind-took}
 use Rattle.items.specs.entries.{Annotation, constant-annotation, blank-annotation, constant-annotations-list, Entry, constant-entry, blank-entry, constant-entries}
-use Rattle.items.specs.records.{Record, value, entry-record, plain}
+use Rattle.items.specs.records.{value, entry-record, plain}
 use Rattle.lexing.specs.buffers.{each, words-bytes, put}
-use Rattle.items.specs.layout.{packed, width, from-top, offset, size, further-word, word-count, catalogue-words, catalogue-bytes, record-words, layout-20}
-use Rattle.items.specs.answers.{first-of, Room, Written}
-use Rattle.items.specs.answers.entries.{entryAt, entryLost, EntryBounds, EntryTo}
-use Rattle.items.specs.inner.entries.{entry-end, EndTo, parts-record}
+use Rattle.items.specs.layout.{packed, width, from-top, offset, size, further-word, word-count, catalogue-words, catalogue-bytes, record-words, layout}
+use Rattle.items.specs.answers.{first-of}
+use Rattle.items.specs.inner.entries.{entryAt, entryLost, EntryBounds, EntryTo, entry-end, EndTo, parts-record}
 use Rattle.items.specs.declared.entries.EntryParts.{EntryParts}
 use Rattle.items.specs.declared.entries.EntryRead.{EntryRead}
 use Rattle.items.specs.declared.entries.EntryRead.the-variants.{Read, NoEntry}
@@ -34,9 +33,7 @@ use Rattle.lexing.proofs.AnswerLaws.{read-within, read-took, read-lost}
 use Rattle.lexing.proofs.WordBetween.{word-moved}
 use Rattle.items.proofs.Blanks.{read-behind, skips-behind}
 use Rattle.items.proofs.WordBetween.{extent-between}
-use Rattle.items.proofs.RecordWords.{map-elementwise}
-use Rattle.items.proofs.counts.Laws.{Counting, counting-more}
-use Rattle.items.proofs.writing.Laws.{Writing, writing-fits, writing-more, writing-ends}
+use Rattle.items.proofs.RecordWords.{Elements}
 
 -- the last step of a sequence, whose answer is the sequence's
 pub record Last {B : Type 0} (k : Parser B) (v : B) (a : Step) (b : ℕ) (u : List ℕ) (n : ℕ) : Type 0 where
@@ -113,13 +110,9 @@ end-up {n} {r} {a} {c} d h =
 entry-moved : (b n : ℕ) (u r : List ℕ) (e : EntryParts) → Rest b u n r → n ≤ e .name → entryAt n r e ≡ entryAt b u e
 entry-moved b n u r e q h = ap (λ (w : Word). record { maturity = e .maturity; name = w; code = e .code }) (word-moved b n u r (e .name) (e .end) q h)
 
-pub bounds-of : {m : Parser Entry} {n : ℕ} {r : List ℕ} {a : EntryRead} (e : EntryParts) (c : ℕ) → EntryTo m a n r → a ≡ Read e c → EntryBounds n e c
-bounds-of e c h d = read-within h d
-
 module _ {m : Parser Entry} (w : Onward m) {b n : ℕ} {u r : List ℕ} {a : EntryRead} (q : Rest b u n r) (h : EntryTo m a n r) where
   pub entry-took : (e : EntryParts) (c : ℕ) → a ≡ Read e c → Took m b u n (entryAt b u e) c
-  entry-took e c d =
-      rw (← entry-moved b n u r e q (bounds-of e c h d .from)) (read-took h d w q refl)
+  entry-took e c d = rw (← entry-moved b n u r e q (read-within h d .from)) (read-took h d w q refl)
 
   pub entry-lost : (l l' : Lost) → l' ≡ entryLost a → a ≡ NoEntry l → lostReply l' ≡ m n r
   entry-lost l l' e d = read-lost h d entryLost e refl
@@ -132,47 +125,29 @@ pub entry-behind : {b : ℕ} {u : List ℕ} {a : EntryRead} → EntryTo constant
 unfolding blank-entry constant-entry
 entry-behind h = read-behind _ _ _ h
 
--- the record of an entry takes two words
-pub entry-words : (e : Entry) → word-count (entry-record e ∷ []) ≡ 2
-unfolding word-count catalogue-words each record-words layout-20 entry-record plain
+-- the elements of both passes: two words an entry
+pub entry-words : (e : Entry) → word-count layout (entry-record e ∷ []) ≡ 2
+unfolding word-count catalogue-words each record-words layout entry-record plain
 entry-words e = refl
 
--- a turn of the first pass
-pub count-entry : {b c n d : ℕ} {u : List ℕ} (a : Entry) → Counting (map entry-record) blank-entry b u c n → Took blank-entry b u c a d → Counting (map entry-record) blank-entry b u d (n + 2) × (c < d)
-count-entry a i t = counting-more (map-elementwise entry-record) blank-entry blank-entry-consumes a i t (entry-words a) (λ h. omega arith)
+pub entry-elements : Elements entry-record blank-entry 2
+entry-elements = record { takes = blank-entry-consumes; words = entry-words; few = omega arith }
 
 -- the two words of an entry's record, one behind the other
-parts-words : (e : EntryParts) → catalogue-bytes layout-20 (parts-record e ∷ [])
-    ≡ words-bytes (first-of (record { kind = 4; place = 0; maturity = e .maturity; documented = 0; flags = 0; name = e .name; size = e .end - e .name; privilege = 0; further = 0 }) ∷ e .code ∷ [])
-unfolding catalogue-bytes catalogue-words each record-words layout-20 further-word plain from-top width packed offset size
+parts-words : (e : EntryParts) → catalogue-bytes layout (parts-record e ∷ [])
+    ≡ words-bytes (first-of (record { kind = 4; place = 0; maturity = e .maturity; «doc_present» = 0; flags = 0; name = e .name; «name_length» = e .end - e .name; «first_privilege» = 0; «second_privilege» = 0 }) ∷ e .code ∷ [])
+unfolding catalogue-bytes catalogue-words each record-words layout further-word plain from-top width packed offset size
 parts-words e = refl
 
 pub put-entry : (e : EntryParts) (p w : ℕ) (l l₁ : List ℕ)
-    → w ≡ first-of (record { kind = 4; place = 0; maturity = e .maturity; documented = 0; flags = 0; name = e .name; size = e .end - e .name; privilege = 0; further = 0 })
-    → l₁ ≡ put p (words-bytes (w ∷ e .code ∷ [])) l → l₁ ≡ put p (catalogue-bytes layout-20 (parts-record e ∷ [])) l
+    → w ≡ first-of (record { kind = 4; place = 0; maturity = e .maturity; «doc_present» = 0; flags = 0; name = e .name; «name_length» = e .end - e .name; «first_privilege» = 0; «second_privilege» = 0 })
+    → l₁ ≡ put p (words-bytes (w ∷ e .code ∷ [])) l → l₁ ≡ put p (catalogue-bytes layout (parts-record e ∷ [])) l
 put-entry e p w l l₁ z e₁ = rw (parts-words e) (rw z at e₁)
 
 -- the record of an entry that was read
-pub entry-parts : (b : ℕ) (u : List ℕ) (e : EntryParts) → b ≤ e .name → e .name ≤ e .end → e .end ≤ b + length u → parts-record e ≡ entry-record (entryAt b u e)
+pub entry-parts : {b c d : ℕ} {u r : List ℕ} (e : EntryParts) → Rest b u c r → EntryBounds c e d → d ≤ b + length u → parts-record e ≡ entry-record (entryAt b u e)
 unfolding entry-record
-entry-parts b u e h k l = rw (extent-between b u (e .name) (e .end) h k l)
-
--- a turn of the second pass
-module _ (b : ℕ) (u : List ℕ) (p : ℕ) (old : List ℕ) (room : Room (map entry-record) (many0 blank-entry) b u p (length old)) {c to : ℕ} {new : List ℕ} (i : Writing (map entry-record) blank-entry b u c p old new to)
-    {r : List ℕ} {a : EntryRead} (q : Rest b u c r) (h : EntryTo blank-entry a c r) where
-  module _ (e : EntryParts) (d : ℕ) (z : a ≡ Read e d) where
-    pub entry-fits : (to + 16 ≤ length new) × ((c < d) × (d ≤ b + length u))
-    entry-fits = writing-fits (map-elementwise entry-record) blank-entry b u p old room i blank-entry-consumes (entry-took blank-entry-onward q h e d z) 2 (entry-words (entryAt b u e))
-
-    pub write-entry : (new' : List ℕ) → new' ≡ put to (catalogue-bytes layout-20 (parts-record e ∷ [])) new → Writing (map entry-record) blank-entry b u d p old new' (to + 16)
-    write-entry new' g =
-        let v = bounds-of e d h z in
-        let f = entry-fits in
-        let y = entry-parts b u e (omega (arith, v .from, q .from)) (v .up) (omega (arith, v .inside, f .1 .1)) in
-        writing-more (map-elementwise entry-record) blank-entry b u p old room i blank-entry-consumes (entry-took blank-entry-onward q h e d z) 2 (entry-words (entryAt b u e)) new' (g ∙ ap (λ (x : Record). put to (catalogue-bytes layout-20 (x ∷ [])) new) y)
-
-  pub write-ends : (l : Lost) → a ≡ NoEntry l → Written (map entry-record) (many0 blank-entry) b u p (record { next = c; to = to }) old new
-  write-ends l z = writing-ends (map-elementwise entry-record) blank-entry b u p old room i blank-entry-consumes (entryLost a) q (entry-lost blank-entry-onward q h l (entryLost a) refl z)
+entry-parts {b} {u = u} e q v i = rw (extent-between b u (e .name) (e .end) (omega (arith, v .from, q .from)) (v .up) (omega (arith, v .inside, i)))
 
 pub entries-onward : Onward constant-entries
 unfolding constant-entries

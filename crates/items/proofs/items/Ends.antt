@@ -4,7 +4,7 @@ use mathlib.Core.Logic.{_⊎_, inl, inr}
 use mathlib.Core.List.{List}
 use Prim.Native.Nat.{ℕ, _-_, max}
 use native.Mathlib.Omega.{arith}
-use Rattle.lexing.specs.reply.{Reply, ok, fail, stop, Parser, ret, _>>=_, _>>_, _or_, further}
+use Rattle.lexing.specs.reply.{Reply, ok, fail, stop, Parser, ret, _>>=_, _>>_, _or_, no-nearer}
 use Rattle.lexing.specs.blanks.{Doc, no-doc, whitespace0, whitespace1}
 use Rattle.lexing.specs.declared.blanks.DocSpan.the-variants.{Absent}
 use Rattle.lexing.proofs.blanks.Laws.{gap-none}
@@ -12,9 +12,10 @@ use Rattle.lexing.proofs.FirstWord.{blank-clear}
 use Rattle.items.specs.entries.{choice-after-doc-maturity, parse-enum-after-doc-maturity, parse-bitmap-after-doc-maturity}
 use Rattle.items.specs.structs.{parse-struct-after-doc-maturity}
 use Rattle.items.specs.clusters.{mapped, cluster-after-doc-maturity}
-use Rattle.items.specs.items.{Item, blank-item, item, after-maturity, declaration}
+use Rattle.items.specs.items.{Item, blank-item, item}
+use Rattle.items.specs.answers.items.{after-maturity, declaration}
 use Rattle.items.proofs.Choice.{joined, or-is, or-lost, further-ok}
-use Rattle.items.proofs.Tries.{then-fail}
+use Rattle.lexing.proofs.Sequences.{then-fail}
 use Rattle.items.proofs.items.Laws.{item-is}
 
 -- a reply but for its value
@@ -30,7 +31,7 @@ shape-fail (fail q) {p} e = let z : q ≡ p = cc in ap fail z
 shape-fail (stop n q) e = let z : _≡_ {A = ℕ} 0 1 = cc in absurd (omega arith)
 
 shape-joined : {A : Type 0} (x y : Reply A) → shape (joined x y) ≡ joined (shape x) (shape y)
-unfolding shape further
+unfolding shape no-nearer
 shape-joined (ok a c r) y = refl
 shape-joined (fail p) (ok a c r) = refl
 shape-joined (fail p) (fail q) = refl

@@ -7,7 +7,7 @@ use Prim.Native.Nat.{ℕ, _-_, _≤_, _<_, max}
 use native.Mathlib.Omega.{arith}
 use lib.ListN.{drop}
 use Rattle.lexing.specs.bytes.{ascii}
-use Rattle.lexing.specs.reply.{Reply, ok, fail, stop, Parser, ret, _>>=_, _>>_, _or_, further}
+use Rattle.lexing.specs.reply.{Reply, ok, fail, stop, Parser, ret, _>>=_, _>>_, _or_, no-nearer}
 use Rattle.lexing.specs.words.{any-keyword}
 use Rattle.lexing.specs.blanks.{Doc, no-doc, whitespace0, whitespace1}
 use Rattle.lexing.specs.word_sets.{same-bytes}
@@ -23,20 +23,22 @@ use Rattle.items.specs.entries.{api-maturity, choice-after-doc-maturity,
 use Rattle.items.specs.structs.{parse-struct-after-doc-maturity}
 use Rattle.items.specs.clusters.{mapped, cluster-after-doc-maturity, parse-cluster}
 use Rattle.items.specs.endpoints.{endpoint-head, endpoint}
-use Rattle.items.specs.items.{Item, cluster-item, endpoint-item, enum-item, bitmap-item, struct-item, blank-item, with-doc-maturity, item, after-maturity, declaration}
+use Rattle.items.specs.items.{Item, cluster-item, endpoint-item, enum-item, bitmap-item, struct-item, blank-item, with-doc-maturity, item}
+use Rattle.items.specs.answers.items.{after-maturity, declaration}
 use Rattle.items.specs.records.{Record, choice-records, struct-records, endpoint-records, item-records}
 use Rattle.items.specs.answers.{Front, CountTo, countEnd, Room, Written}
 use Rattle.items.specs.declared.writing.Wrote.{Wrote}
-use Rattle.items.specs.answers.clusters.{unhoisted-records}
+use Rattle.items.specs.inner.clusters.{unhoisted-records}
 use Rattle.items.specs.answers.items.{unhoisted-item, DeclarationCountTo}
 use Rattle.items.specs.declared.counts.Count.{Count}
 use Rattle.items.specs.declared.counts.Count.the-variants.{Words, NoCount}
-use Rattle.items.specs.layout.{word-count}
-use Rattle.items.specs.inner.clusters.{found, member-try, fails-at, MemberFrom, KindTo, countRaised}
-use Rattle.items.specs.inner.items.{cluster-words, typeKind, declaration-try, DeclarationFrom, KindCountTo, StartTo}
-use Rattle.items.specs.declared.clusters.Candidate.{Candidate}
-use Rattle.items.specs.declared.clusters.MemberKind.{MemberKind}
-use Rattle.items.specs.declared.clusters.MemberKind.the-variants.{Revision, Bitmap, Enum, Struct, Attribute, Command, Event, Unknown}
+use Rattle.items.specs.layout.{layout, word-count}
+use Rattle.items.specs.inner.member_kinds.{is-ok, member-try, fails-at, MemberFrom, KindTo}
+use Rattle.items.specs.inner.counts.{failNoEarlier}
+use Rattle.items.specs.inner.items.{cluster-starts, typeKind, declaration-try, DeclarationFrom, KindCountTo, StartTo}
+use Rattle.items.specs.declared.member_kinds.MemberStart.{MemberStart}
+use Rattle.items.specs.declared.member_kinds.MemberKind.{MemberKind}
+use Rattle.items.specs.declared.member_kinds.MemberKind.the-variants.{Revision, Bitmap, Enum, Struct, Attribute, Command, Event, Unknown}
 use Rattle.items.specs.declared.items.DeclarationKind.{DeclarationKind}
 use Rattle.items.specs.declared.items.DeclarationKind.the-variants.{Cluster, Endpoint, Enum as EnumType, Bitmap as BitmapType, Struct as StructType, Unknown as NoDeclaration}
 use Rattle.items.specs.declared.items.DeclarationStart.{DeclarationStart}
@@ -44,13 +46,14 @@ use Rattle.items.proofs.Choice.{End, kept, lost, ends, Tries, more, las
 use Rattle.items.proofs.Mapped.{mapped-same, lost-as}
 use Rattle.items.proofs.Recorded.{Recorded, recorded-at, recorded-counts}
 use Rattle.items.proofs.Locality.{declaration-local, item-local, mapped-local, cluster-after-doc-maturity-local, endpoint-local, parse-enum-local, parse-bitmap-local, parse-struct-local}
-use Rattle.items.proofs.counts.Laws.{count-took, count-lost, count-is, count-not, count-behind}
+use Rattle.items.proofs.counts.Laws.{count-took, count-lost, count-is, count-not, count-behind, count-no-earlier}
 use Rattle.items.proofs.Braces.{rest-is}
 use Rattle.items.proofs.writing.Laws.{no-room}
 use Rattle.items.proofs.RecordWords.{word-count-none}
 use Rattle.items.proofs.Shift.{shiftItem, shift-mapped, shift-endpoint}
-use Rattle.items.proofs.Tries.{maturity-words, bind-ok, then-ok, then-fail, mapped-fail, maturity-elsewhere, cluster-elsewhere, endpoint-elsewhere}
-use Rattle.items.proofs.clusters.Laws.{starts-any, frees-all, at-word, kind-ends, kind-tried, kind-within, count-raised}
+use Rattle.lexing.proofs.Sequences.{bind-ok, then-ok, then-fail}
+use Rattle.items.proofs.Tries.{maturity-words, mapped-fail, maturity-elsewhere, cluster-elsewhere, endpoint-elsewhere}
+use Rattle.items.proofs.member_kinds.Laws.{starts-any, frees-all, at-word, kind-ends, kind-tried, kind-within}
 
 -- A type that fails as a member fails at the top too.
 remapped : {A B C : Type 0} (m : Parser A) (f : A → B) (g : A → C) (b : ℕ) (u : List ℕ) {p : ℕ} → mapped m f b u ≡ fail p → mapped m g b u ≡ fail p
@@ -81,11 +84,11 @@ type-reaches Command q c b = inr (inr (inl refl))
 type-reaches Event q c b = inr (inr (inl refl))
 type-reaches Unknown q c b = inr (inr (inl refl))
 
-further-at : (q c : ℕ) → c ≤ q → _≡_ {A = Reply Item} (fail q) (further q (fail c))
-unfolding further
+further-at : (q c : ℕ) → c ≤ q → _≡_ {A = Reply Item} (fail q) (no-nearer q (fail c))
+unfolding no-nearer
 further-at q c h = let z : q ≡ max q c = omega arith in ap fail z
 
-type-keeps : (k : MemberKind) (q c b : ℕ) → c ≤ q → (d : Doc) (m : ℕ) (r : List ℕ) → left (keeps (type-ends k q c b)) q (declaration-try (typeKind k) d m c r) ≡ further q (declaration-try (typeKind k) d m c r)
+type-keeps : (k : MemberKind) (q c b : ℕ) → c ≤ q → (d : Doc) (m : ℕ) (r : List ℕ) → left (keeps (type-ends k q c b)) q (declaration-try (typeKind k) d m c r) ≡ no-nearer q (declaration-try (typeKind k) d m c r)
 unfolding declaration-try
 type-keeps Revision q c b h d m r = further-at q c h
 type-keeps Bitmap q c b h d m r = refl
@@ -108,17 +111,17 @@ module _ (b : ℕ) (u : List ℕ) (d : Doc) {m c₁ c : ℕ} {r₁ r : List ℕ}
   tries X i j k l n x y z w v =
       more _ (mapped-same _ _ _ (after _) ∙ x) (more _ y (more _ (mapped-same _ _ _ (after _) ∙ z) (more _ (mapped-same _ _ _ (after _) ∙ w) (last (mapped-same _ _ _ (after _) ∙ v)))))
 
-  module _ {k : Candidate} (h : KindTo k c r) where
-    type-tried : (j : MemberKind) → declaration-try (typeKind j) d m c r ≡ ends (declaration-try (typeKind (k .kind)) d m c r) (kind-ends (k .kind) (k .floor) c j)
-    type-tried = kind-tried (λ j. declaration-try (typeKind j) d m c r) (k .kind) (k .floor) c (λ j e. at-top j d m (k .floor) c r (h .others j e d m))
+  module _ {k : MemberStart} (h : KindTo k c r) where
+    type-tried : (j : MemberKind) → declaration-try (typeKind j) d m c r ≡ ends (declaration-try (typeKind (k .kind)) d m c r) (kind-ends (k .kind) (k .«others_fail_at») c j)
+    type-tried = kind-tried (λ j. declaration-try (typeKind j) d m c r) (k .kind) (k .«others_fail_at») c (λ j e. at-top j d m (k .«others_fail_at») c r (h .others j e d m))
 
     -- no cluster and no endpoint: the types' tries
-    types-left : b ≤ c → declaration-try Cluster d m c r ≡ fail c → declaration-try Endpoint d m b u ≡ fail b → declaration d b u ≡ further (k .floor) (declaration-try (typeKind (k .kind)) d m c r)
+    types-left : b ≤ c → declaration-try Cluster d m c r ≡ fail c → declaration-try Endpoint d m b u ≡ fail b → declaration d b u ≡ no-nearer (k .«others_fail_at») (declaration-try (typeKind (k .kind)) d m c r)
     types-left low x y =
-        choice (k .floor) (tries (declaration-try (typeKind (k .kind)) d m c r) (lost c) (lost b) (kind-ends (k .kind) (k .floor) c Enum) (kind-ends (k .kind) (k .floor) c Bitmap) (kind-ends (k .kind) (k .floor) c Struct) x y (type-tried Enum) (type-tried Bitmap) (type-tried Struct)) (h .up, (omega (arith, h .up, low), (kind-within h Enum, (kind-within h Bitmap, (kind-within h Struct, tt))))) (type-reaches (k .kind) (k .floor) c b)
-        ∙ type-keeps (k .kind) (k .floor) c b (h .up) d m r
+        choice (k .«others_fail_at») (tries (declaration-try (typeKind (k .kind)) d m c r) (lost c) (lost b) (kind-ends (k .kind) (k .«others_fail_at») c Enum) (kind-ends (k .kind) (k .«others_fail_at») c Bitmap) (kind-ends (k .kind) (k .«others_fail_at») c Struct) x y (type-tried Enum) (type-tried Bitmap) (type-tried Struct)) (h .up, (omega (arith, h .up, low), (kind-within h Enum, (kind-within h Bitmap, (kind-within h Struct, tt))))) (type-reaches (k .kind) (k .«others_fail_at») c b)
+        ∙ type-keeps (k .kind) (k .«others_fail_at») c b (h .up) d m r
 
-no-cluster : (d : Doc) (m b : ℕ) (u : List ℕ) → Frees b u cluster-words → declaration-try Cluster d m b u ≡ fail b
+no-cluster : (d : Doc) (m b : ℕ) (u : List ℕ) → Frees b u cluster-starts → declaration-try Cluster d m b u ≡ fail b
 unfolding declaration-try
 no-cluster d m b u f = mapped-fail _ _ (cluster-elsewhere b u d m f)
 
@@ -140,7 +143,7 @@ pub start-from : {s : DeclarationStart} {b : ℕ} {u v : List ℕ} → StartTo s
 start-from h q = rw (q .same) (h .goes)
 
 -- How a declaration starts: with `endpoint`, which leaves no maturity,
-pub start-endpoint : (b : ℕ) (u : List ℕ) → whitespace0 b u ≡ ok no-doc b u → found (any-keyword (ascii "endpoint" ∷ []) b u) ≡ true → StartTo (record { kind = Endpoint; floor = b; maturity = 0; next = b; from = b }) b u
+pub start-endpoint : (b : ℕ) (u : List ℕ) → whitespace0 b u ≡ ok no-doc b u → is-ok (any-keyword (ascii "endpoint" ∷ []) b u) ≡ true → StartTo (record { kind = Endpoint; «others_fail_at» = b; maturity = 0; next = b; from = b }) b u
 unfolding same-bytes
 start-endpoint b u clear x = record {
   from = omega arith;
@@ -151,13 +154,13 @@ start-endpoint b u clear x = record {
       let h = maturity-elsewhere b u (starts-free s b maturity-words refl) in
       let t = type-tried b u d h clear (at-word b u clear Unknown (ascii "endpoint" ∷ []) refl s (starts-free s b (ascii "shared" ∷ []) refl .0)) in
       let low : b ≤ b = omega arith in
-      choice b (tries b u d h clear (declaration-try Endpoint d 0 b u) (lost b) kept (lost b) (lost b) (lost b) (no-cluster d 0 b u (starts-free s b cluster-words refl)) refl (t Enum) (t Bitmap) (t Struct)) (low, (tt, (low, (low, (low, tt))))) (inl refl)
-      ∙ ap (λ (v : List ℕ). further b (declaration-try Endpoint d 0 b v)) (rest-self b u .same);
+      choice b (tries b u d h clear (declaration-try Endpoint d 0 b u) (lost b) kept (lost b) (lost b) (lost b) (no-cluster d 0 b u (starts-free s b cluster-starts refl)) refl (t Enum) (t Bitmap) (t Struct)) (low, (tt, (low, (low, (low, tt))))) (inl refl)
+      ∙ ap (λ (v : List ℕ). no-nearer b (declaration-try Endpoint d 0 b v)) (rest-self b u .same);
   goes = tt;
 }
 
 -- or with a maturity that may be absent, and blanks up to c,
-module _ (b : ℕ) (u : List ℕ) (clear : whitespace0 b u ≡ ok no-doc b u) (x : found (any-keyword (ascii "endpoint" ∷ []) b u) ≡ false) {m c₁ c : ℕ} {e : Doc} (t₁ : Took api-maturity b u b m c₁) (small : m < 4) (t₂ : Took whitespace0 b u c₁ e c) where
+module _ (b : ℕ) (u : List ℕ) (clear : whitespace0 b u ≡ ok no-doc b u) (x : is-ok (any-keyword (ascii "endpoint" ∷ []) b u) ≡ false) {m c₁ c : ℕ} {e : Doc} (t₁ : Took api-maturity b u b m c₁) (small : m < 4) (t₂ : Took whitespace0 b u c₁ e c) where
   h₁ : api-maturity b u ≡ ok m c₁ (drop (c₁ - b) u)
   h₁ = sym (begin api-maturity b u (sym (t₁ .goes)))
 
@@ -171,28 +174,28 @@ module _ (b : ℕ) (u : List ℕ) (clear : whitespace0 b u ≡ ok no-doc b u) (x
   unfolding declaration-try
   no-endpoint d = mapped-fail _ _ (endpoint-elsewhere b u clear (frees-all (ascii "endpoint" ∷ []) b u x .0))
 
-  start-of : (k : DeclarationKind) (q : ℕ) {f : ℕ} → DeclarationFrom k f c (drop (c - b) u) → ((d : Doc) → declaration d b u ≡ further q (declaration-try k d m c (drop (c - b) u))) → StartTo (record { kind = k; floor = q; maturity = m; next = c; from = f }) b u
+  start-of : (k : DeclarationKind) (q : ℕ) {f : ℕ} → DeclarationFrom k f c (drop (c - b) u) → ((d : Doc) → declaration d b u ≡ no-nearer q (declaration-try k d m c (drop (c - b) u))) → StartTo (record { kind = k; «others_fail_at» = q; maturity = m; next = c; from = f }) b u
   start-of k q g h = record { from = low; inside = t₂ .inside; small = small; leaves = h; goes = g }
 
-  module _ {r : List ℕ} (q : Rest b u c r) {y : Bool} (f : y ≡ found (any-keyword cluster-words c r)) where
-    seen : y ≡ found (any-keyword cluster-words c (drop (c - b) u))
-    seen = f ∙ ap (λ (v : List ℕ). found (any-keyword cluster-words c v)) (q .same)
+  module _ {r : List ℕ} (q : Rest b u c r) {y : Bool} (f : y ≡ is-ok (any-keyword cluster-starts c r)) where
+    seen : y ≡ is-ok (any-keyword cluster-starts c (drop (c - b) u))
+    seen = f ∙ ap (λ (v : List ℕ). is-ok (any-keyword cluster-starts c v)) (q .same)
 
     -- then one of a cluster's words
-    pub start-cluster : y ≡ true → StartTo (record { kind = Cluster; floor = c; maturity = m; next = c; from = c }) b u
+    pub start-cluster : y ≡ true → StartTo (record { kind = Cluster; «others_fail_at» = c; maturity = m; next = c; from = c }) b u
     unfolding same-bytes
     start-cluster z = start-of Cluster c tt λ d.
-        let s = starts-any cluster-words c (drop (c - b) u) (sym seen ∙ z) in
-        let t = type-tried b u d h₁ (t₂ .goes) (at-word c (drop (c - b) u) clear₂ Unknown cluster-words refl s (starts-free s c (ascii "shared" ∷ []) refl .0)) in
+        let s = starts-any cluster-starts c (drop (c - b) u) (sym seen ∙ z) in
+        let t = type-tried b u d h₁ (t₂ .goes) (at-word c (drop (c - b) u) clear₂ Unknown cluster-starts refl s (starts-free s c (ascii "shared" ∷ []) refl .0)) in
         let same : c ≤ c = omega arith in
         choice c (tries b u d h₁ (t₂ .goes) (declaration-try Cluster d m c (drop (c - b) u)) kept (lost b) (lost c) (lost c) (lost c) refl (no-endpoint d) (t Enum) (t Bitmap) (t Struct)) (tt, (low, (same, (same, (same, tt))))) (inr (inl refl))
 
     -- or another word, by the kind that a member would be
-    pub start-type : y ≡ false → {v : List ℕ} → Rest b u c v → {k : Candidate} → KindTo k c v → {j : DeclarationKind} → j ≡ typeKind (k .kind) → StartTo (record { kind = j; floor = k .floor; maturity = m; next = c; from = k .from }) b u
+    pub start-type : y ≡ false → {v : List ℕ} → Rest b u c v → {k : MemberStart} → KindTo k c v → {j : DeclarationKind} → j ≡ typeKind (k .kind) → StartTo (record { kind = j; «others_fail_at» = k .«others_fail_at»; maturity = m; next = c; from = k .from }) b u
     start-type z {v} q' {k} h {j} w =
         let g : KindTo k c (drop (c - b) u) = subst (λ (r : List ℕ). KindTo k c r) (q' .same) h in
-        rw w (start-of (typeKind (k .kind)) (k .floor) (top-from (k .kind) (k .from) c (drop (c - b) u) (g .goes)) λ d.
-        types-left b u d h₁ (t₂ .goes) g low (no-cluster d m c (drop (c - b) u) (frees-all cluster-words c (drop (c - b) u) (sym seen ∙ z))) (no-endpoint d))
+        rw w (start-of (typeKind (k .kind)) (k .«others_fail_at») (top-from (k .kind) (k .from) c (drop (c - b) u) (g .goes)) λ d.
+        types-left b u d h₁ (t₂ .goes) g low (no-cluster d m c (drop (c - b) u) (frees-all cluster-starts c (drop (c - b) u) (sym seen ∙ z))) (no-endpoint d))
 
 -- The tries of each kind by their readers.
 module _ (d : Doc) (m : ℕ) where
@@ -242,22 +245,22 @@ declaration-on BitmapType d m = walks (mapped-local _ (parse-bitmap-local d m) .
 declaration-on StructType d m = walks (mapped-local _ (parse-struct-local d m) .on-chain)
 declaration-on NoDeclaration d m = record { onward = λ b u. tt }
 
-raised-on : {A : Type 0} {m : Parser A} (q : ℕ) → Onward m → Onward (λ b u. further q (m b u))
-unfolding further
+raised-on : {A : Type 0} {m : Parser A} (q : ℕ) → Onward m → Onward (λ b u. no-nearer q (m b u))
+unfolding no-nearer
 raised-on {A} {m} q w = record { onward = λ b u. go b u (m b u) (w .onward b u) }
   where
-    go : (b : ℕ) (u : List ℕ) (x : Reply A) → Ends b u x → Ends b u (further q x)
+    go : (b : ℕ) (u : List ℕ) (x : Reply A) → Ends b u x → Ends b u (no-nearer q x)
     go b u (ok a c r) h = h
     go b u (fail p) h = tt
     go b u (stop n p) h = tt
 
-pub started : {s : DeclarationStart} {b : ℕ} {u v : List ℕ} {r x : Count} → StartTo s b u → Rest b u (s .next) v → KindCountTo (s .kind) r (s .next) v → x ≡ countRaised r (s .floor) → DeclarationCountTo x b u
+pub started : {s : DeclarationStart} {b : ℕ} {u v : List ℕ} {r x : Count} → StartTo s b u → Rest b u (s .next) v → KindCountTo (s .kind) r (s .next) v → x ≡ failNoEarlier r (s .«others_fail_at») → DeclarationCountTo x b u
 started {s} {b} {u} {v} {r} {x} h q g e = rw e (record {
   counts = λ d.
       let t = declaration-try (s .kind) d (s .maturity) in
-      let f : Parser Item = λ b u. further (s .floor) (t b u) in
-      count-behind unhoisted-item (declaration d) f (raised-on (s .floor) (declaration-on (s .kind) d (s .maturity))) (countRaised r (s .floor)) q (sym (h .leaves d))
-      (count-raised unhoisted-item t f (s .floor) r (s .next) v (g .counts (record { kind = 0; place = 0; doc = d; maturity = s .maturity })) refl);
+      let f : Parser Item = λ b u. no-nearer (s .«others_fail_at») (t b u) in
+      count-behind unhoisted-item (declaration d) f (raised-on (s .«others_fail_at») (declaration-on (s .kind) d (s .maturity))) (failNoEarlier r (s .«others_fail_at»)) q (sym (h .leaves d))
+      (count-no-earlier unhoisted-item t f (s .«others_fail_at») r (s .next) v (g .counts (record { kind = 0; place = 0; doc = d; maturity = s .maturity })) refl);
 })
 
 -- An item is a declaration behind its blanks, or else the blanks.
@@ -303,7 +306,7 @@ pub item-walks : Onward item
 item-walks = walks (item-local .on-chain)
 
 -- blanks as an item: no words
-blank-words : word-count (unhoisted-item blank-item) ≡ 0
+blank-words : word-count layout (unhoisted-item blank-item) ≡ 0
 unfolding item-records
 blank-words = word-count-none
 
@@ -312,8 +315,8 @@ unfolding ret
 blank-read b u e = then-ok _ _ e
 
 or-blank : (b : ℕ) (u : List ℕ) {c p : ℕ} {r : List ℕ} {X : Reply Item} → X ≡ fail p → (whitespace1 >> ret blank-item) b u ≡ ok blank-item c r → ((λ i j. X) or (whitespace1 >> ret blank-item)) b u ≡ ok blank-item c r
-unfolding further
-or-blank b u {p = p} e f = or-fail _ _ e ∙ ap (further p) f
+unfolding no-nearer
+or-blank b u {p = p} e f = or-fail _ _ e ∙ ap (no-nearer p) f
 
 -- The first pass over an item, whose blanks are t and whose declaration was counted as x.
 module _ {b : ℕ} {u : List ℕ} {t : Blank} (w : BlankTo t b u) {v : List ℕ} (q : Rest b u (t .next) v) {x : Count} (h : DeclarationCountTo x (t .next) v) where
@@ -366,11 +369,11 @@ nothing-found d m {k} e b u room = no-room room (Fail b) (sym (ap (λ (y : Decla
 module _ (d : Doc) {s : DeclarationStart} {b : ℕ} {u v : List ℕ} (h : StartTo s b u) (q : Rest b u (s .next) v) {at : ℕ} where
   pub start-room : {n : ℕ} → Room unhoisted-item (declaration d) b u at n → Room unhoisted-item (declaration-try (s .kind) d (s .maturity)) (s .next) v at n
   start-room room =
-      let x = further-ok (s .floor) (declaration-try (s .kind) d (s .maturity) (s .next) (drop (s .next - b) u)) (room .is ∙ h .leaves d) in
+      let x = further-ok (s .«others_fail_at») (declaration-try (s .kind) d (s .maturity) (s .next) (drop (s .next - b) u)) (room .is ∙ h .leaves d) in
       let y = rest-is (declaration-on (s .kind) d (s .maturity)) (s .next) (room .next) (drop (s .next - b) u) (drop (room .next - b) u) (room .value) (sym x) in
       record { value = room .value; next = room .next; is = rw (q .same) (rw (← y) x); fits = room .fits }
 
   pub start-written : {w : Wrote} {old new : List ℕ} → Written unhoisted-item (declaration-try (s .kind) d (s .maturity)) (s .next) v at w old new → Written unhoisted-item (declaration d) b u at w old new
   start-written g =
       let t = took (declaration-on (s .kind) d (s .maturity)) q (g .is) in
-      record { value = g .value; is = ok-further (s .floor) (sym (t .goes)) ∙ sym (h .leaves d); place = g .place; bytes = g .bytes }
+      record { value = g .value; is = ok-further (s .«others_fail_at») (sym (t .goes)) ∙ sym (h .leaves d); place = g .place; bytes = g .bytes }

@@ -24,13 +24,14 @@ use Rattle.lexing.proofs.Composed.{onward-ret, onward-bind, onward-then, rest-o
 use Rattle.lexing.proofs.Slicing.{Took, took, walks, reads-in, rest-from, rest-self, begin, go, on, done, or-here, or-next}
 use Rattle.items.specs.entries.{api-maturity}
 use Rattle.items.specs.answers.{MaturityTo, maturity-blank, maturity-between}
-use Rattle.items.specs.answers.members.{numbered}
+use Rattle.items.specs.inner.levels.{numbered}
 use Rattle.items.specs.inner.maturity.{MaturityBy, isInitial}
 use Rattle.items.specs.declared.maturity.Maturity.{Maturity}
 use Rattle.items.proofs.Keywords.{keyword-value, keyword-not}
 use Rattle.items.proofs.Letters.{NoneOf, all-begin, initials-free}
 use Rattle.items.proofs.Alternatives.{leaves, one-left}
-use Rattle.items.proofs.Tries.{then-ok, maturity-words, maturity-elsewhere}
+use Rattle.lexing.proofs.Sequences.{then-ok}
+use Rattle.items.proofs.Tries.{maturity-words, maturity-elsewhere}
 use Rattle.items.proofs.Braces.{taken}
 use Rattle.items.proofs.Locality.{api-maturity-local}
 

@@ -1,20 +1,23 @@
--- What the private functions of the readers of attributes promise: the list of privileges is read without being kept.
+-- What the readers and writers of attributes promise.
 use Prim.Native.Nat.{ℕ, _<_}
+use mathlib.Core.List.{List, [], _∷_}
+use Rattle.lexing.specs.answers.{Answer, got, lost, ReadTo, Fail, wordAt, reply, docOf}
+use Rattle.lexing.specs.declared.answers.Lost.{Lost}
+use Rattle.items.specs.members.{Privileges as PrivilegesOf, attribute-access, parse-attribute-after-doc-maturity, Access as AccessOf, access-entry, comma, separated-list0}
+use Rattle.items.specs.records.{attribute-records, Record, absent, bits, documented}
+use Rattle.items.specs.answers.{Front, CountsTo}
+use Rattle.items.specs.declared.counts.Count.{Count}
+use Rattle.items.specs.declared.attributes.PrivilegesRead.{PrivilegesRead}
+use Rattle.items.specs.declared.attributes.PrivilegesRead.the-variants.{Privileges, NoPrivileges}
 use mathlib.Core.Path.{_≡_}
 use mathlib.Core.Bool.{Bool, true, false}
 use mathlib.Core.Option.{Option, none, some}
-use mathlib.Core.List.{List, [], _∷_}
 use Rattle.lexing.specs.bytes.{ascii}
 use Rattle.lexing.specs.reply.{Parser, ret, _>>=_, _>>_, opt}
 use Rattle.lexing.specs.words.{Word, offsetOf, bytesOf, keyword}
 use Rattle.lexing.specs.blanks.{whitespace0, whitespace1}
-use Rattle.lexing.specs.word_sets.{same-bytes, set-flags}
-use Rattle.lexing.specs.answers.{Answer, got, lost, wordAt, reply, docOf, ReadTo, Fail}
-use Rattle.lexing.specs.declared.answers.Lost.{Lost}
+use Rattle.lexing.specs.word_sets.{same-bytes, set-flags, attribute-set}
 use Rattle.items.specs.clusters.{mapped}
-use Rattle.items.specs.records.{Record, absent, bits, documented}
-use Rattle.items.specs.members.{Access as AccessOf, access-entry, comma, separated-list0, Privileges as PrivilegesOf, attribute-access}
-use Rattle.items.specs.answers.attributes.{SmallPrivileges}
 use Rattle.items.specs.declared.writing.FrontParts.{FrontParts}
 use Rattle.items.specs.declared.attributes.AttributeHeadParts.{AttributeHeadParts}
 use Rattle.items.specs.declared.attributes.AttributeHeadRead.{AttributeHeadRead}
@@ -23,9 +26,33 @@ use Rattle.items.specs.declared.attributes.Operation.{Operation}
 use Rattle.items.specs.declared.attributes.Operation.the-variants.{Read, Write, Neither}
 use Rattle.items.specs.declared.attributes.OperationRead.{OperationRead}
 use Rattle.items.specs.declared.attributes.OperationRead.the-variants.{Named, NoOperation}
-use Rattle.items.specs.declared.attributes.Entries.{Entries}
+use Rattle.items.specs.declared.attributes.AccessEntries.{AccessEntries}
 use Rattle.items.specs.declared.attributes.Grants.{Grants}
 use Rattle.items.specs.declared.attributes.Grants.the-variants.{Granted, RefusedAt}
+
+-- the privileges to read and to write
+pub record SmallPrivileges (r w : ℕ) : Type 0 where
+  pub read : r < 4
+  pub write : w < 4
+
+abbrev pub privilegesAnswer : ℕ → List ℕ → PrivilegesRead → Answer PrivilegesOf
+privilegesAnswer b u (Privileges r w c) = got (record { read = r; write = w }) c
+privilegesAnswer b u (NoPrivileges l) = lost l
+
+abbrev pub privilegesLost : PrivilegesRead → Lost
+privilegesLost (Privileges r w c) = Fail c
+privilegesLost (NoPrivileges l) = l
+
+abbrev pub privilegesSmall : ℕ → PrivilegesRead → Type 0
+privilegesSmall b (Privileges r w c) = SmallPrivileges r w
+privilegesSmall b (NoPrivileges l) = Unit {0}
+
+abbrev pub PrivilegesTo : PrivilegesRead → ℕ → List ℕ → Type 0
+PrivilegesTo r b u = ReadTo privilegesAnswer privilegesSmall attribute-access r b u
+
+-- an attribute, whatever stands before it
+abbrev pub AttributeCountTo : Count → ℕ → List ℕ → Type 0
+AttributeCountTo r b u = CountsTo {I = Front} (λ i. attribute-records) (λ i. parse-attribute-after-doc-maturity (i .doc) (i .maturity)) r b u
 
 -- the words of a list of privileges
 abbrev pub access-words : List (List ℕ)
@@ -71,10 +98,10 @@ abbrev pub grantsSmall : Grants → Type 0
 grantsSmall (Granted r w) = SmallPrivileges r w
 grantsSmall (RefusedAt o) = Unit {0}
 
-abbrev pub entriesAnswer : ℕ → List ℕ → Entries → Answer Grants
+abbrev pub entriesAnswer : ℕ → List ℕ → AccessEntries → Answer Grants
 entriesAnswer b u r = got (r .grants) (r .next)
 
-abbrev pub entriesSmall : ℕ → Entries → Type 0
+abbrev pub entriesSmall : ℕ → AccessEntries → Type 0
 entriesSmall b r = grantsSmall (r .grants)
 
 -- an entry that may be absent
@@ -82,15 +109,15 @@ unfoldable pub grants-after : Grants → Option AccessOf → Grants
 grants-after g none = g
 grants-after g (some a) = with-entry g a
 
-abbrev pub EntryTo : Grants → Entries → ℕ → List ℕ → Type 0
-EntryTo g r b u = ReadTo entriesAnswer entriesSmall (mapped (opt access-entry) (grants-after g)) r b u
+abbrev pub AccessEntryTo : Grants → AccessEntries → ℕ → List ℕ → Type 0
+AccessEntryTo g r b u = ReadTo entriesAnswer entriesSmall (mapped (opt access-entry) (grants-after g)) r b u
 
 -- all entries; before any: view to read, operate to write
 abbrev pub no-grants : Grants
 no-grants = Granted 0 1
 
-abbrev pub EntriesTo : Entries → ℕ → List ℕ → Type 0
-EntriesTo r b u = ReadTo entriesAnswer entriesSmall (mapped (separated-list0 comma access-entry) (grants-from no-grants)) r b u
+abbrev pub AccessEntriesTo : AccessEntries → ℕ → List ℕ → Type 0
+AccessEntriesTo r b u = ReadTo entriesAnswer entriesSmall (mapped (separated-list0 comma access-entry) (grants-from no-grants)) r b u
 
 -- An attribute up to its field, cut out of `parse-attribute-after-doc-maturity`.
 pub record AttributeHeadOf : Type 0 where
@@ -99,7 +126,7 @@ pub record AttributeHeadOf : Type 0 where
 
 unfoldable pub attribute-head : Parser AttributeHeadOf
 attribute-head = do
-  q ← set-flags 4
+  q ← set-flags attribute-set
   whitespace0
   keyword (ascii "attribute")
   whitespace1

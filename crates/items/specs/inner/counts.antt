@@ -1,15 +1,25 @@
--- What the count of a list between braces promises.
-use Prim.Native.Nat.{ℕ, _+_, _≤_}
+-- What the ends of a count promise.
+use Prim.Native.Nat.{ℕ, _-_, max, _≤_, _+_}
 use mathlib.Core.Path.{_≡_}
 use mathlib.Core.List.{List}
-use lib.ListN.{length}
 use Rattle.lexing.specs.bytes.{byte}
 use Rattle.lexing.specs.words.{tag}
-use Rattle.lexing.specs.declared.answers.Step.{Step}
-use Rattle.lexing.specs.declared.answers.Step.the-variants.{Next, Not}
-use Rattle.lexing.specs.answers.{SkipsAt, behind-blanks}
+use Rattle.lexing.specs.declared.answers.Lost.{Lost}
+use Rattle.lexing.specs.answers.{Fail, Stop, onLost, SkipsAt, behind-blanks}
 use Rattle.items.specs.declared.counts.Count.{Count}
 use Rattle.items.specs.declared.counts.Count.the-variants.{Words, NoCount}
+use lib.ListN.{length}
+use Rattle.lexing.specs.declared.answers.Step.{Step}
+use Rattle.lexing.specs.declared.answers.Step.the-variants.{Next, Not}
+
+-- what is lost, its place no nearer than the furthest so far
+abbrev pub lostNoEarlier : Lost → ℕ → Lost
+lostNoEarlier l q = onLost (λ p. Fail (max p q)) (λ n p. Stop n p) l
+
+-- a count that fails no earlier than at q
+abbrev pub failNoEarlier : Count → ℕ → Count
+failNoEarlier (Words n c) q = Words n c
+failNoEarlier (NoCount l) q = NoCount (lostNoEarlier l q)
 
 -- what was counted ends inside the part
 abbrev pub EndsIn : Count → ℕ → List ℕ → Type 0

@@ -4,27 +4,28 @@ use mathlib.Core.Path.{_≡_}
 use mathlib.Core.List.{List, [], _∷_}
 use lib.ListN.{length, drop}
 use Rattle.lexing.specs.bytes.{ascii}
-use Rattle.lexing.specs.reply.{Parser, fail, further}
+use Rattle.lexing.specs.reply.{Parser, fail, no-nearer}
 use Rattle.lexing.specs.blanks.{Doc}
 use Rattle.items.specs.entries.{parse-bitmap-after-doc-maturity, parse-enum-after-doc-maturity}
 use Rattle.items.specs.structs.{parse-struct-after-doc-maturity}
 use Rattle.items.specs.clusters.{mapped, cluster-after-doc-maturity}
 use Rattle.items.specs.endpoints.{endpoint}
-use Rattle.items.specs.items.{Item, cluster-item, endpoint-item, enum-item, bitmap-item, struct-item, declaration}
+use Rattle.items.specs.items.{Item, cluster-item, endpoint-item, enum-item, bitmap-item, struct-item}
+use Rattle.items.specs.answers.items.{declaration}
 use Rattle.items.specs.answers.{Front, CountsTo}
-use Rattle.items.specs.answers.choices.{ChoiceFrom}
-use Rattle.items.specs.answers.structs.{StructFrom}
+use Rattle.items.specs.inner.choices.{ChoiceFrom}
+use Rattle.items.specs.inner.structs.{StructFrom}
 use Rattle.items.specs.answers.items.{unhoisted-item}
 use Rattle.items.specs.declared.counts.Count.{Count}
-use Rattle.items.specs.declared.clusters.MemberKind.{MemberKind}
-use Rattle.items.specs.declared.clusters.MemberKind.the-variants.{Revision, Bitmap, Enum, Struct, Attribute, Command, Event, Unknown}
+use Rattle.items.specs.declared.member_kinds.MemberKind.{MemberKind}
+use Rattle.items.specs.declared.member_kinds.MemberKind.the-variants.{Revision, Bitmap, Enum, Struct, Attribute, Command, Event, Unknown}
 use Rattle.items.specs.declared.items.DeclarationKind.{DeclarationKind}
 use Rattle.items.specs.declared.items.DeclarationKind.the-variants.{Cluster, Endpoint, Enum as EnumType, Bitmap as BitmapType, Struct as StructType, Unknown as NoDeclaration}
 use Rattle.items.specs.declared.items.DeclarationStart.{DeclarationStart}
 
 -- the words that a cluster can start with
-abbrev pub cluster-words : List (List ℕ)
-cluster-words = ascii "client" ∷ ascii "server" ∷ ascii "cluster" ∷ []
+abbrev pub cluster-starts : List (List ℕ)
+cluster-starts = ascii "client" ∷ ascii "server" ∷ ascii "cluster" ∷ []
 
 -- the kind of a declaration by that of a member: types stand at the top too
 abbrev pub typeKind : MemberKind → DeclarationKind
@@ -64,5 +65,5 @@ pub record StartTo (r : DeclarationStart) (b : ℕ) (u : List ℕ) : Type 0 wher
   pub from : b ≤ r .next
   pub inside : r .next ≤ b + length u
   pub small : r .maturity < 4
-  pub leaves : (d : Doc) → declaration d b u ≡ further (r .floor) (declaration-try (r .kind) d (r .maturity) (r .next) (drop (r .next - b) u))
+  pub leaves : (d : Doc) → declaration d b u ≡ no-nearer (r .«others_fail_at») (declaration-try (r .kind) d (r .maturity) (r .next) (drop (r .next - b) u))
   pub goes : DeclarationFrom (r .kind) (r .from) (r .next) (drop (r .next - b) u)

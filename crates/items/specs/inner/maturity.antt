@@ -7,7 +7,7 @@ use lib.Dec.{eqb}
 use Rattle.lexing.specs.bytes.{byte}
 use Rattle.lexing.specs.reply.{ret, _or_}
 use Rattle.lexing.specs.answers.{got, reply}
-use Rattle.items.specs.answers.members.{numbered}
+use Rattle.items.specs.inner.levels.{numbered}
 use Rattle.items.specs.declared.maturity.Maturity.{Maturity}
 
 -- whether a maturity begins with a letter

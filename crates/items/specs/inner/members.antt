@@ -1,52 +1,54 @@
--- What the private functions of the readers and writers of events and commands promise.
+-- What the readers and writers of members promise.
 use Prim.Native.Nat.{ℕ, _-_}
-use mathlib.Core.Bool.{Bool, true, false}
-use mathlib.Core.Path.{_≡_}
 use mathlib.Core.List.{List, [], _∷_}
-use lib.Dec.{ltb}
-use lib.ListN.{drop}
-use Rattle.lexing.specs.bytes.{ascii}
-use Rattle.lexing.specs.reply.{Parser, _>>_, opt}
-use Rattle.lexing.specs.words.{parse-id, keyword}
-use Rattle.lexing.specs.blanks.{Doc, whitespace1}
-use Rattle.lexing.specs.answers.{Rest, got, reply, docOf}
-use Rattle.items.specs.records.{Extent, absent, at, Record, bits, value, spanned, flag, documented}
-use Rattle.items.specs.answers.members.{optionalBetween}
-use Rattle.items.specs.declared.members.EventHeadParts.{EventHeadParts}
-use Rattle.items.specs.declared.members.CommandHeadParts.{CommandHeadParts}
-use Rattle.items.specs.declared.members.CommandTypesParts.{CommandTypesParts}
-use Rattle.items.specs.declared.members.CommandParts.{CommandParts}
-use Rattle.items.specs.declared.writing.FrontParts.{FrontParts}
+use Rattle.lexing.specs.reply.{Parser, _>>=_, _>>_}
+use Rattle.lexing.specs.answers.{Answer, got, lost, ReadTo}
+use Rattle.lexing.specs.declared.integers.Number.{Number}
+use Rattle.lexing.specs.declared.integers.Number.the-variants.{Value, NoNumber}
+use Rattle.items.specs.clusters.{Member, revision, parse-revision, member-tries}
+use Rattle.items.specs.records.{Record, member-records, at, last-revision}
+use Rattle.items.specs.answers.{CountsTo, Written}
+use Rattle.items.specs.declared.counts.Count.{Count}
+use mathlib.Core.Path.{_≡_}
+use Rattle.lexing.specs.blanks.{Doc, whitespace0}
+use Rattle.items.specs.entries.{api-maturity}
+use Rattle.items.specs.declared.writing.Wrote.{Wrote}
+use Rattle.items.specs.declared.members.MembersWrote.{MembersWrote}
 
--- the word between an event's priority and its privilege
-abbrev pub event-word : Parser Doc
-event-word = do
-  whitespace1
-  keyword (ascii "event")
-  whitespace1
+-- a revision
+abbrev pub revisionAnswer : ℕ → List ℕ → Number → Answer Member
+revisionAnswer b u (Value n c) = got (revision n) c
+revisionAnswer b u (NoNumber l) = lost l
 
--- a name that may be absent ends at r
-abbrev pub OptionalIdTo : ℕ → ℕ → List ℕ → Type 0
-OptionalIdTo r b u = reply (got (optionalBetween b u b r) r) b u ≡ opt parse-id b u
+abbrev pub RevisionTo : Number → ℕ → List ℕ → Type 0
+RevisionTo r b u = ReadTo revisionAnswer (λ b r. Unit {0}) parse-revision r b u
 
--- the same from an offset c of a part
-pub record OptionalIdAt (r b : ℕ) (u : List ℕ) (c : ℕ) : Type 0 where
-  pub at : Rest b u c (drop (c - b) u)
-  pub reads : OptionalIdTo r c (drop (c - b) u)
+-- the count of a member, whatever the place of types
+abbrev pub MemberCountTo : Parser Member → Count → ℕ → List ℕ → Type 0
+MemberCountTo m r b u = CountsTo {I = ℕ} (λ p. member-records (λ x. p)) (λ p. m) r b u
 
--- the first record of an event, by offsets
-abbrev pub event-first : FrontParts → EventHeadParts → Record
-event-first f h = documented 9 0 (f .maturity) (docOf (f .doc)) (bits 2 (h .rank) ∷ bits 1 (h .sensitive) ∷ []) (at (h .name) (h .end - h .name)) (h .privilege) 0 (value (h .code) ∷ [])
+-- The second pass.
 
--- an extent that may be absent
-abbrev pub extentIf : Bool → ℕ → ℕ → Extent
-extentIf true o n = at o n
-extentIf false o n = absent
+-- a member behind the blanks before it, which hold its doc comment
+unfoldable pub member-behind : Doc → Parser Member
+member-behind d = do
+  m ← api-maturity
+  whitespace0
+  member-tries d m
 
--- the record of a command, by offsets
-abbrev pub command-parts : FrontParts → CommandParts → Record
-command-parts f p =
-    let h : CommandHeadParts = p .head in
-    let t : CommandTypesParts = p .types in
-    documented 8 0 (f .maturity) (docOf (f .doc)) (bits 2 (h .qualities) ∷ flag (ltb (t .input) (t .«input_end»)) ∷ []) (at (h .name) (h .end - h .name)) (h .privilege) 0
-    (spanned (extentIf (ltb (t .input) (t .«input_end»)) (t .input) (t .«input_end» - t .input)) ∷ spanned (at (t .output) (t .«output_end» - t .output)) ∷ value (p .code) ∷ [])
+-- records of members before hoisting
+abbrev pub unhoisted : Member → List Record
+unhoisted = member-records (λ x. 0)
+
+abbrev pub wroteTo : MembersWrote → Wrote
+wroteTo w = record { next = w .next; to = w .to }
+
+-- a member is written, and z was the last revision before it
+pub record MemberWritten (z : ℕ) (m : Parser Member) (b : ℕ) (u : List ℕ) (at : ℕ) (w : MembersWrote) (old new : List ℕ) : Type 0 where
+  pub written : Written unhoisted m b u at (wroteTo w) old new
+  pub latest : w .revision ≡ last-revision z (written .value ∷ [])
+
+-- what a revision at b leaves, with the place p of its records and z the last one before it: no records, and it is the last one now
+abbrev pub revisionWrote : Number → (b p z : ℕ) → MembersWrote
+revisionWrote (Value n c) b p z = record { next = c; to = p; revision = n }
+revisionWrote (NoNumber l) b p z = record { next = b; to = p; revision = z }

@@ -1,54 +1,69 @@
--- What the private functions of the readers of fields and structs promise.
-use Prim.Native.Nat.{ℕ, _+_, _-_, _≤_}
+-- What the readers and writers of structs promise.
+use Prim.Native.Nat.{ℕ, _≤_, _<_, _-_}
 use mathlib.Core.Path.{_≡_}
-use mathlib.Core.Bool.{Bool, true, false}
-use mathlib.Core.Option.{Option}
 use mathlib.Core.List.{List, [], _∷_}
-use lib.ListN.{length}
 use Rattle.lexing.specs.bytes.{ascii}
-use Rattle.lexing.specs.reply.{Reply, Parser, ret, opt}
-use Rattle.lexing.specs.words.{Word}
-use Rattle.lexing.specs.answers.{Answer, got, lost, reply, docOf, BlankAt, Fail, Stop, onLost}
+use Rattle.lexing.specs.reply.{fail, Parser, Reply, ret, opt}
+use Rattle.lexing.specs.words.{keyword, Word}
+use Rattle.lexing.specs.answers.{Answer, got, lost, wordReply, ReadTo, BlankAt, wordBetween, Fail, reply, docOf}
 use Rattle.lexing.specs.declared.answers.Lost.{Lost}
-use Rattle.lexing.specs.declared.integers.Number.{Number}
-use Rattle.lexing.specs.declared.integers.Number.the-variants.{Value, NoNumber}
-use Rattle.items.specs.structs.{list-marker, StructType, regular, request, shared, response-code, struct-type-of}
-use Rattle.items.specs.members.{or-else}
-use Rattle.items.specs.records.{Record, at, bits, value, spanned, flag, plain, documented}
-use Rattle.items.specs.answers.{optionOf}
-use Rattle.items.specs.answers.structs.{typeOf}
-use Rattle.items.specs.declared.structs.MaxLength.{MaxLength}
-use Rattle.items.specs.declared.structs.MaxLength.the-variants.{Length, NoLength}
-use Rattle.items.specs.declared.structs.Marker.{Marker}
+use Rattle.lexing.specs.declared.answers.Step.the-variants.{Next}
+use Rattle.items.specs.structs.{StructType, regular, request, response, shared, StructHead, struct-head, parse-struct-after-doc-maturity, response-code, struct-type-of}
+use Rattle.items.specs.records.{struct-records, Record, at, bits, value, documented}
+use Rattle.items.specs.answers.{Front, CountsTo}
+use Rattle.items.specs.declared.counts.Count.{Count}
 use Rattle.items.specs.declared.structs.StructKind.{StructKind}
 use Rattle.items.specs.declared.structs.StructKind.the-variants.{Regular, Request, Response, Shared}
-use Rattle.items.specs.declared.structs.StructWord.{StructWord}
-use Rattle.items.specs.declared.structs.StructFieldParts.{StructFieldParts}
 use Rattle.items.specs.declared.structs.StructHeadParts.{StructHeadParts}
+use Rattle.items.specs.declared.structs.StructHeadRead.{StructHeadRead}
+use Rattle.items.specs.declared.structs.StructHeadRead.the-variants.{Head, NoHead}
+use mathlib.Core.Bool.{Bool, true, false}
+use mathlib.Core.Option.{Option}
+use Rattle.lexing.specs.declared.integers.Number.{Number}
+use Rattle.lexing.specs.declared.integers.Number.the-variants.{Value, NoNumber}
+use Rattle.items.specs.declared.structs.StructWord.{StructWord}
 use Rattle.items.specs.declared.writing.FrontParts.{FrontParts}
 
--- a length that may be absent
-abbrev pub lengthAnswer : MaxLength → Answer (Option ℕ)
-lengthAnswer (Length h v c) = got (optionOf h v) c
-lengthAnswer (NoLength l) = lost l
+-- where a struct goes on: behind `shared` and the blanks that may follow it, or at its start where it is not there
+pub data StructFrom (f b : ℕ) (u : List ℕ) : Type 0 where
+  behind-shared : (c : ℕ) → wordReply (Next c) b u ≡ keyword (ascii "shared") b u → BlankAt f b u c → StructFrom f b u
+  not-shared : f ≡ b → keyword (ascii "shared") b u ≡ fail b → StructFrom f b u
 
-abbrev pub lengthReply : MaxLength → ℕ → List ℕ → Reply (Option ℕ)
-lengthReply r b u = reply (lengthAnswer r) b u
+-- the type of a struct by its kind and the code of a response
+abbrev pub typeOf : StructKind → ℕ → StructType
+typeOf Regular v = regular
+typeOf Request v = request
+typeOf Response v = response v
+typeOf Shared v = shared
 
-abbrev pub lengthLost : MaxLength → Lost
-lengthLost (Length h v c) = Fail c
-lengthLost (NoLength l) = l
+-- a struct up to its fields
+-- free: `code`, where `kind` is not `Response`
+abbrev pub headAt : ℕ → List ℕ → StructHeadParts → StructHead
+headAt b u h = record { head-type = typeOf (h .kind) (h .code); head-scoped = h .scoped; head-name = wordBetween b u (h .name) (h .end) }
 
--- of a number that may be absent at b
-abbrev pub optionalLength : Number → ℕ → MaxLength
-optionalLength (Value v c) b = Length true v c
-optionalLength (NoNumber l) b = onLost (λ p. Length false 0 b) (λ n p. NoLength (Stop n p)) l
+abbrev pub headAnswer : ℕ → List ℕ → StructHeadRead → Answer StructHead
+headAnswer b u (Head h c) = got (headAt b u h) c
+headAnswer b u (NoHead l) = lost l
 
--- the marker of a list and where it ends
-pub record MarkerTo (r : Marker) (b : ℕ) (u : List ℕ) : Type 0 where
-  pub reads : reply (got (optionOf (r .list) tt) (r .next)) b u ≡ opt list-marker b u
-  pub up : b ≤ r .next
-  pub inside : r .next ≤ b + length u
+abbrev pub headLost : StructHeadRead → Lost
+headLost (Head h c) = Fail c
+headLost (NoHead l) = l
+
+pub record HeadBetween (b : ℕ) (h : StructHeadParts) (c : ℕ) : Type 0 where
+  pub name-from : b ≤ h .name
+  pub name-to : h .name ≤ h .end
+  pub before : h .end ≤ c
+  pub few-flags : h .scoped < 2
+
+abbrev pub headWithin : ℕ → StructHeadRead → Type 0
+headWithin b (Head h c) = HeadBetween b h c
+headWithin b (NoHead l) = Unit {0}
+
+abbrev pub StructHeadTo : StructHeadRead → ℕ → List ℕ → Type 0
+StructHeadTo r b u = ReadTo headAnswer headWithin struct-head r b u
+
+abbrev pub StructCountTo : Count → ℕ → List ℕ → Type 0
+StructCountTo r b u = CountsTo {I = Front} (λ i. struct-records (i .place)) (λ i. parse-struct-after-doc-maturity (i .doc) (i .maturity)) r b u
 
 -- the kind that a word says
 abbrev pub kindBy : Bool → StructKind → StructKind
@@ -84,14 +99,6 @@ codeReply k r b u = reply (codeAnswer k r) b u
 
 abbrev pub responseReply : Number → ℕ → List ℕ → Reply StructType
 responseReply r b u = codeReply Response r b u
-
--- The second pass.
-
--- the record of a field, by offsets
-abbrev pub field-parts : StructFieldParts → Record
-field-parts s =
-    plain 6 (s .maturity) (flag (s .field .list) ∷ flag (s .field .«has_maximum») ∷ bits 3 (s .flags) ∷ []) (at (s .field .name) (s .field .end - s .field .name))
-    (spanned (at (s .field .«type_at») (s .field .«type_end» - s .field .«type_at»)) ∷ value (s .field .code) ∷ value (or-else 0 (optionOf (s .field .«has_maximum») (s .field .maximum))) ∷ [])
 
 abbrev pub kindNumber : StructKind → ℕ
 kindNumber Regular = 0

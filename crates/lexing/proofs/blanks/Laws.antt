@@ -9,9 +9,9 @@ use lib.Dec.{eqb}
 use lib.ListN.{length, drop, getD, drop-of-length-le, length-drop}
 use lib.Seq.{drop-cons, drop-drop, getD-drop}
 use borrow.Author.Tests.{eq-eqb, ne-eqb, eqb-true}
-use Rattle.lexing.specs.bytes.{slash, star, isSpace, inLine, takeWhile, dropWhile}
+use Rattle.lexing.specs.bytes.{slash, star, isSpace, inLine, takeWhile}
 use Rattle.lexing.specs.reply.{ok, fail, ret, _>>=_, catch, keep, position, failAt, pick}
-use Rattle.lexing.specs.blanks.{Whitespace, white, plain, doc-comment, line-comment, Until, found, never, one-more, until-close, comment-kind, closed, block-comment, multispace1, whitespace-group, Doc, no-doc, doc-at, after, one-blank, whitespace0, whitespace1}
+use Rattle.lexing.specs.blanks.{Whitespace, white, plain, doc-comment, line-comment, Until, found, never, one-more, until-close, comment-kind, closed, block-comment, whitespace-group, Doc, no-doc, doc-at, doc-after, one-blank, whitespace0, whitespace1}
 use Rattle.lexing.specs.answers.{Rest, LacksIf, groupReply, blankReply, BlankTo, docOf, docBy, RunTo}
 use Rattle.lexing.specs.inner.blanks.{isClose, endUntil, turnReply}
 use Rattle.lexing.specs.declared.blanks.End.{End}
@@ -24,7 +24,8 @@ use Rattle.lexing.specs.declared.blanks.Run.{Run}
 use Rattle.lexing.specs.declared.blanks.Turn.{Turn}
 use Rattle.lexing.specs.declared.blanks.Turn.the-variants.{Again, Done}
 use Rattle.lexing.proofs.Onward.{group-advances}
-use Rattle.lexing.proofs.TokenLocality.{no-line, no-block, open-line, no-group, one-blank-chain, one-blank-consumes}
+use Rattle.lexing.proofs.TokenLocality.{no-block, no-group, one-blank-chain, one-blank-consumes}
+use Rattle.lexing.proofs.TokenRuns.{line-text, line-nil, line-one, line-first, line-is, line-no, text-nil, text-yes, text-no, space-nil, space-yes, space-no}
 use Rattle.lexing.proofs.Scans.{first-of, turns, drop-run, run-cons, run-none, run-le, run-stops}
 use Rattle.lexing.proofs.Slicing.{took, walks, rest-from}
 use Rattle.lexing.proofs.Repetition.{IterAt, iter-start, iter-step, iter-ends}
@@ -97,10 +98,8 @@ pub until-eight : (u : List ℕ) (i : ℕ) → UntilAt u i → (t : Bool) → La
 until-eight u i h t p e = let q : LacksIf true star u i = rw e at p in until-plain u i 8 h (q .0) (q .1)
 
 -- line comments
-line-at : (b z : ℕ) (u : List ℕ) (t : Bool) → inLine z ≡ t → line-comment b (slash ∷ slash ∷ z ∷ u) ≡ elim t [ true ↦ ok plain (b + (3 + length (takeWhile inLine u))) (dropWhile inLine u) | false ↦ fail b ]
-unfolding line-comment
-line-at b z u true e = rw (e, line-comment)
-line-at b z u false e = rw (e, line-comment)
+slashes : (b : ℕ) (u : List ℕ) → line-comment b (slash ∷ slash ∷ u) ≡ line-text (b + 2) u
+slashes b u = line-is b slash slash u refl
 
 line-some : (b n : ℕ) (u : List ℕ) → n ≡ length (takeWhile inLine u) → 0 < n → whitespace-group b (slash ∷ slash ∷ u) ≡ ok plain (b + (2 + n)) (drop n u)
 unfolding whitespace-group catch takeWhile
@@ -109,19 +108,18 @@ line-some b n (z ∷ u) e h = go (inLine z) refl
   where
     go : (t : Bool) → inLine z ≡ t → whitespace-group b (slash ∷ slash ∷ z ∷ u) ≡ ok plain (b + (2 + n)) (drop n (z ∷ u))
     go true q =
-        let y : n ≡ suc (length (takeWhile inLine u)) = e ∙ ap length (run-cons inLine z u q) in
-        let w : b + (2 + suc (length (takeWhile inLine u))) ≡ b + (3 + length (takeWhile inLine u)) = omega arith in
-        rw (line-at b z u true q, catch) (rw y (rw (w, drop-run inLine u)))
+        let w : b + 2 + n ≡ b + (2 + n) = omega arith in
+        rw (slashes b (z ∷ u) ∙ text-yes (b + 2) z u q, catch) (rw (← e, w) (ap (ok plain (b + (2 + n))) (sym (drop-run inLine (z ∷ u)) ∙ ap (λ k. drop k (z ∷ u)) (sym e))))
     go false q = let y : n ≡ 0 = e ∙ ap length (run-none inLine z u q) in absurd (omega arith)
 
 line-none : (b n : ℕ) (u : List ℕ) → n ≡ length (takeWhile inLine u) → n ≤ 0 → whitespace-group b (slash ∷ slash ∷ u) ≡ fail b
-unfolding whitespace-group catch line-comment block-comment multispace1 isSpace
-line-none b n [] e h = refl
+unfolding whitespace-group catch block-comment isSpace
+line-none b n [] e h = rw (slashes b [] ∙ text-nil (b + 2), catch) (space-no b slash (slash ∷ []) refl)
 line-none b n (z ∷ u) e h = go (inLine z) refl
   where
     go : (t : Bool) → inLine z ≡ t → whitespace-group b (slash ∷ slash ∷ z ∷ u) ≡ fail b
     go true q = let y : n ≡ suc (length (takeWhile inLine u)) = e ∙ ap length (run-cons inLine z u q) in absurd (omega arith)
-    go false q = rw (line-at b z u false q, catch)
+    go false q = rw (slashes b (z ∷ u) ∙ text-no (b + 2) z u q, catch) (space-no b slash (slash ∷ z ∷ u) refl)
 
 -- block comments
 block-is : (b : ℕ) (u : List ℕ) → block-comment b (slash ∷ star ∷ u) ≡ closed b u (until-close u)
@@ -129,15 +127,15 @@ unfolding block-comment
 block-is b u = refl
 
 block-at : (b : ℕ) (u : List ℕ) (t : Until) → until-close u ≡ t → whitespace-group b (slash ∷ star ∷ u) ≡ closed b u t
-unfolding whitespace-group catch multispace1 isSpace closed
+unfolding whitespace-group catch isSpace closed
 block-at b u t e = go t e
   where
     block : (t : Until) → until-close u ≡ t → block-comment b (slash ∷ star ∷ u) ≡ closed b u t
     block t e = block-is b u ∙ ap (closed b u) e
 
     go : (t : Until) → until-close u ≡ t → whitespace-group b (slash ∷ star ∷ u) ≡ closed b u t
-    go (found n r) e = rw (open-line b u, catch) (rw (block (found n r) e, catch))
-    go never e = rw (open-line b u, catch) (rw (block never e, catch))
+    go (found n r) e = rw (line-no b slash star u refl, catch) (rw (block (found n r) e, catch))
+    go never e = rw (line-no b slash star u refl, catch) (rw (block never e, catch) (space-no b slash (star ∷ u) refl))
 
 kind-doc : (b n : ℕ) (u : List ℕ) → (n ≡ 0 → ⊥) → getD u 0 0 ≡ star → comment-kind b n u ≡ doc-comment (b + 3) (n - 1)
 unfolding comment-kind
@@ -156,19 +154,14 @@ unfolding comment-kind
 kind-zero b u = refl
 
 -- behind a slash, by the second byte
-no-slash : (b y z : ℕ) (u : List ℕ) → (y ≡ slash → ⊥) → line-comment b (slash ∷ y ∷ z ∷ u) ≡ fail b
-unfolding line-comment
-no-slash b y z u f = rw (ne-eqb y slash f, line-comment)
-
 no-star : (b y : ℕ) (u : List ℕ) → (y ≡ star → ⊥) → block-comment b (slash ∷ y ∷ u) ≡ fail b
 unfolding block-comment
 no-star b y u g = rw (ne-eqb y star g, block-comment)
 
 second-other : (b : ℕ) (u : List ℕ) → (getD u 0 0 ≡ slash → ⊥) → (getD u 0 0 ≡ star → ⊥) → whitespace-group b (slash ∷ u) ≡ fail b
-unfolding whitespace-group catch line-comment block-comment multispace1 isSpace
-second-other b [] f g = refl
-second-other b (y ∷ []) f g = rw (no-star b y [] g, catch)
-second-other b (y ∷ z ∷ u) f g = rw (no-slash b y z u f, catch) (rw (no-star b y (z ∷ u) g, catch))
+unfolding whitespace-group catch block-comment isSpace
+second-other b [] f g = rw (line-one b slash, catch) (space-no b slash [] refl)
+second-other b (y ∷ u) f g = rw (line-no b slash y u (ne-eqb y slash f), catch) (rw (no-star b y u g, catch) (space-no b slash (y ∷ u) refl))
 
 two-bytes : (u : List ℕ) (x y : ℕ) → getD u 0 0 ≡ suc x → getD u 1 0 ≡ suc y → u ≡ suc x ∷ suc y ∷ drop 2 u
 two-bytes [] x y e f = absurd (omega arith)
@@ -246,14 +239,13 @@ not-slash x e = go (eqb x slash) refl
     go true q = absurd (false≢true (ap isSpace (sym (eqb-true x slash q)) ∙ e))
 
 pub group-white : (b n : ℕ) (u : List ℕ) → n ≡ length (takeWhile isSpace u) → 0 < n → ok white (b + n) (drop n u) ≡ whitespace-group b u
-unfolding whitespace-group catch takeWhile multispace1
+unfolding whitespace-group catch takeWhile
 group-white b n [] e h = absurd (omega arith)
 group-white b n (x ∷ u) e h = go (isSpace x) refl
   where
     go : (t : Bool) → isSpace x ≡ t → ok white (b + n) (drop n (x ∷ u)) ≡ whitespace-group b (x ∷ u)
     go true q =
-        let z : n ≡ suc (length (takeWhile isSpace u)) = e ∙ ap length (run-cons isSpace x u q) in
-        rw z (rw (no-line b x u (not-slash x q), catch) (rw (no-block b x u (not-slash x q), catch) (rw (q, multispace1) (rw (drop-run isSpace u)))))
+        rw (line-first b x u (not-slash x q), catch) (rw (no-block b x u (not-slash x q), catch) (rw (space-yes b x u q, ← e) (ap (ok white (b + n)) (ap (λ k. drop k (x ∷ u)) e ∙ drop-run isSpace (x ∷ u)))))
     go false q = let z : n ≡ 0 = e ∙ ap length (run-none isSpace x u q) in absurd (omega arith)
 
 no-space : isSpace 0 ≡ false
@@ -261,8 +253,8 @@ unfolding isSpace
 no-space = refl
 
 group-neither : (b : ℕ) (u : List ℕ) → isSpace (getD u 0 0) ≡ false → (x : ℕ) → x ≡ getD u 0 0 → (x ≡ slash → ⊥) → fail b ≡ whitespace-group b u
-unfolding whitespace-group catch line-comment block-comment multispace1
-group-neither b [] s y ey ne = refl
+unfolding whitespace-group catch block-comment
+group-neither b [] s y ey ne = sym (rw (line-nil b, catch) (space-nil b))
 group-neither b (x ∷ u) s y ey ne = sym (no-group b x u (rw (ne-eqb x slash (λ z. ne (ey ∙ z)), s)))
 
 pub group-none : (b n : ℕ) (u : List ℕ) → n ≡ length (takeWhile isSpace u) → n ≤ 0 → (x : ℕ) → x ≡ getD u 0 0 → (x ≡ slash → ⊥) → fail b ≡ whitespace-group b u
@@ -274,7 +266,7 @@ doc-some zero n h = absurd (h refl)
 doc-some (suc o) n h = refl
 
 -- a turn of a run
-turn-some : (d : Doc) (b c : ℕ) (u r : List ℕ) (k : Whitespace) → ok k c r ≡ whitespace-group b u → ok (after k d) c r ≡ one-blank d b u
+turn-some : (d : Doc) (b c : ℕ) (u r : List ℕ) (k : Whitespace) → ok k c r ≡ whitespace-group b u → ok (doc-after k d) c r ≡ one-blank d b u
 unfolding one-blank _>>=_ ret
 turn-some d b c u r k e = rw (sym e, one-blank, _>>=_)
 
@@ -288,14 +280,14 @@ module _ (b : ℕ) (u : List ℕ) (at : ℕ) (r : List ℕ) (q : Rest b u at r) 
 
   -- n bytes of kind k
   module _ (k : Whitespace) (n : ℕ) (e : ok k (at + n) (drop n r) ≡ whitespace-group at r) where
-    some : (d : Doc) → ok (after k d) (at + n) (drop (at + n - at) (drop (at - b) u)) ≡ one-blank d at (drop (at - b) u)
+    some : (d : Doc) → ok (doc-after k d) (at + n) (drop (at + n - at) (drop (at - b) u)) ≡ one-blank d at (drop (at - b) u)
     some d = let z : at + n - at ≡ n = omega arith in rw (z, ← q .same) (turn-some d at (at + n) r (drop n r) k e)
 
     fits : at + n ≤ b + length u
     fits = let f = rw (← e) at (group-advances .reads at r) in omega (arith, f .1, q .size)
 
   some-white : (d : Doc) (n : ℕ) → ok white (at + n) (drop n r) ≡ whitespace-group at r → ok d (at + n) (drop (at + n - at) (drop (at - b) u)) ≡ one-blank d at (drop (at - b) u)
-  unfolding after
+  unfolding doc-after
   some-white d n e = some white n e d
 
   pub turn-other : (d : Doc) → isSpace (getD u (at - b) 0) ≡ false → (x : ℕ) → x ≡ getD r 0 0 → (x ≡ slash → ⊥) → fail at ≡ one-blank d at (drop (at - b) u)
@@ -312,11 +304,11 @@ module _ (b : ℕ) (u : List ℕ) (at : ℕ) (r : List ℕ) (q : Rest b u at r) 
     turn-white d n e = some-white d n (told (White n) e)
 
     pub turn-plain : (d : Doc) (n : ℕ) → g ≡ Plain n → ok no-doc (at + n) (drop (at + n - at) (drop (at - b) u)) ≡ one-blank d at (drop (at - b) u)
-    unfolding after
+    unfolding doc-after
     turn-plain d n e = some plain n (told (Plain n) e) d
 
     pub turn-doc : (d : Doc) (n : ℕ) → g ≡ DocComment n → ok (docBy (at + 3) n) (at + (n + 5)) (drop (at + (n + 5) - at) (drop (at - b) u)) ≡ one-blank d at (drop (at - b) u)
-    unfolding after
+    unfolding doc-after
     turn-doc d n e = rw (← doc-some (at + 3) n (λ z. omega arith)) (some (doc-comment (at + 3) n) (n + 5) (told (DocComment n) e) d)
 
     pub white-fits : (n : ℕ) → g ≡ White n → at + n ≤ b + length u

@@ -18,6 +18,7 @@ use Rattle.lexing.specs.declared.integers.Digits.{Digits}
 use Rattle.lexing.specs.declared.integers.Digits.the-variants.{Count, Over}
 use Rattle.lexing.proofs.Tests.{and-right, within-of}
 use Rattle.lexing.proofs.Scans.{drop-run, run-cons, run-none, run-le, RunAt, runs-start, runs-more, runs-stop, runs-out}
+use Rattle.lexing.proofs.TokenRuns.{digits-nil, digits-yes, digits-no, hex-nil, hex-one, hex-two, hex-yes, hex-else}
 
 -- a byte that is not 0 stands inside
 pub byte-inside : (u : List ℕ) (i : ℕ) → (getD u i 0 ≡ 0 → ⊥) → i < length u
@@ -168,15 +169,15 @@ integer false = decimal-integer
 integer-as : (h : Bool) (b : ℕ) (u : List ℕ) → Ahead h u
     → integer h b u
     ≡ fitting b (number (radix h) 0 (takeWhile (digitTest h) (drop (start h) u))) (b + (start h + length (takeWhile (digitTest h) (drop (start h) u)))) (dropWhile (digitTest h) (drop (start h) u))
-unfolding hex-integer decimal-integer isHexAhead
+unfolding isHexAhead
 integer-as true b [] e = absurd (omega (arith, hex-inside [] e))
 integer-as true b (x ∷ []) e = absurd (omega (arith, hex-inside (x ∷ []) e))
 integer-as true b (x ∷ y ∷ []) e = absurd (omega (arith, hex-inside (x ∷ y ∷ []) e))
-integer-as true b (x ∷ y ∷ z ∷ u) e = rw (e, hex-integer)
+integer-as true b (x ∷ y ∷ z ∷ u) e = hex-yes b x y z u e
 integer-as false b [] e = absurd (false≢true (sym digit-none ∙ e))
 integer-as false b (x ∷ u) e =
     let z : 0 + length (takeWhile isDigit (x ∷ u)) ≡ length (takeWhile isDigit (x ∷ u)) = omega arith in
-    rw (z, e, decimal-integer)
+    rw z (digits-yes b x u e)
 
 -- digits that were counted
 module _ (h : Bool) (k b : ℕ) (u r : List ℕ) (er : r ≡ drop k u) (v n : ℕ) (a : digitsAre h r (Count v n)) where
@@ -207,17 +208,16 @@ module _ (h : Bool) (b : ℕ) (u r : List ℕ) (ahead : Ahead h u) (er : r ≡ d
       rw (ec, run-behind h (start h) b u r er v n l) (sym (integer-as h b u ahead ∙ rw (← er, ← l .0, ← l .1 .0) (rw (le-leb _ _ (l .1 .1), fitting))))
 
 pub decimal-no : (b : ℕ) (u : List ℕ) → isDigit (getD u 0 0) ≡ false → fail b ≡ decimal-integer b u
-unfolding decimal-integer
-decimal-no b [] e = refl
-decimal-no b (x ∷ u) e = rw (e, decimal-integer)
+decimal-no b [] e = sym (digits-nil b)
+decimal-no b (x ∷ u) e = sym (digits-no b x u e)
 
 -- hexadecimal first
-hex-no : (b : ℕ) (u : List ℕ) → isHexAhead u ≡ false → hex-integer b u ≡ fail b
-unfolding hex-integer isHexAhead
-hex-no b [] e = refl
-hex-no b (x ∷ []) e = refl
-hex-no b (x ∷ y ∷ []) e = refl
-hex-no b (x ∷ y ∷ z ∷ u) e = rw (e, hex-integer)
+hex-no : (b : ℕ) (u : List ℕ) → isHexAhead u ≡ false → (p : ℕ) × (hex-integer b u ≡ fail p)
+unfolding isHexAhead
+hex-no b [] e = (b, hex-nil b)
+hex-no b (x ∷ []) e = (b, hex-one b x)
+hex-no b (x ∷ y ∷ []) e = hex-two b x y
+hex-no b (x ∷ y ∷ z ∷ u) e = let k = hex-else b x y z e in (k .0, k .1 u)
 
 caught : (m : Parser ℕ) (h : ℕ → Parser ℕ) (b : ℕ) (u : List ℕ) (v c : ℕ) (r : List ℕ) → m b u ≡ fitting b v c r → m b u ≡ catch m h b u
 unfolding catch fitting
@@ -234,7 +234,7 @@ module _ (b : ℕ) (u : List ℕ) where
 
   pub then-decimal : isHexAhead u ≡ false → decimal-integer b u ≡ positive-integer b u
   unfolding positive-integer catch
-  then-decimal e = rw (hex-no b u e, catch)
+  then-decimal e = rw (hex-no b u e .1, catch)
 
 -- by the first two bytes
 pub digit-inside : (u : List ℕ) → isDigit (getD u 0 0) ≡ true → 0 < length u

@@ -15,14 +15,15 @@ use Rattle.lexing.specs.declared.integers.Number.the-variants.{Value, No
 use Rattle.lexing.proofs.Onward.{Onward, advances-onward, parse-id-advances, tag-advances, integer-advances}
 use Rattle.lexing.proofs.TokenLocality.{keyword-chain, whitespace0-chain, whitespace1-chain}
 use Rattle.lexing.proofs.Slicing.{Took, took, on, walks, rebase, told-value, integer-lost}
-use Rattle.lexing.specs.names.{NamedIn, NamedTo, NamedAt, namedLost, blank-word, gap-word, keyword-name, name-behind, named-after, keyword-number, type-behind, equals-code}
+use Rattle.lexing.specs.names.{two-keywords-name, named-after}
+use Rattle.lexing.specs.answers.names.{NamedIn, NamedTo, NamedAt, namedLost, blank-word, gap-word, keyword-name, keyword-number, type-behind, equals-code}
 use Rattle.lexing.specs.declared.names.Named.{Named}
 use Rattle.lexing.specs.declared.names.Named.the-variants.{Name, NoName}
 use Rattle.lexing.proofs.AnswerLaws.{read-is, read-not, read-within, read-took, read-lost}
 use Rattle.lexing.proofs.Composed.{onward-ret, onward-bind, onward-then}
 use Rattle.lexing.proofs.WordBetween.{word-moved}
 
-behind-on : {A : Type 0} {m : Parser A} → Onward m → Onward (whitespace0 >> m)
+pub behind-on : {A : Type 0} {m : Parser A} → Onward m → Onward (whitespace0 >> m)
 behind-on w = onward-then (walks whitespace0-chain) w
 
 pub blank-word-on : Onward blank-word
@@ -34,13 +35,13 @@ gap-word-on = onward-then (walks whitespace1-chain) (advances-onward parse-id-ad
 pub keyword-name-on : (k : List ℕ) → Onward (keyword-name k)
 keyword-name-on k = onward-then (walks (keyword-chain k)) (onward-then (walks whitespace1-chain) (advances-onward parse-id-advances))
 
-pub name-behind-on : (k j : List ℕ) → Onward (name-behind k j)
-unfolding name-behind
-name-behind-on k j = onward-then (walks (keyword-chain k)) (onward-then (walks whitespace1-chain) (keyword-name-on j))
+pub two-keywords-name-on : (k j : List ℕ) → Onward (two-keywords-name k j)
+unfolding two-keywords-name
+two-keywords-name-on k j = onward-then (walks (keyword-chain k)) (onward-then (walks whitespace1-chain) (keyword-name-on j))
 
 pub named-after-on : (k j : List ℕ) → Onward (named-after k j)
 unfolding named-after
-named-after-on k j = onward-bind (name-behind-on k j) (λ n. behind-on (onward-then (advances-onward (tag-advances 59)) (onward-ret n)))
+named-after-on k j = onward-bind (two-keywords-name-on k j) (λ n. behind-on (onward-then (advances-onward (tag-advances 59)) (onward-ret n)))
 
 pub keyword-number-on : (k : List ℕ) → Onward (keyword-number k)
 keyword-number-on k = onward-then (walks (keyword-chain k)) (onward-then (walks whitespace1-chain) (advances-onward integer-advances))

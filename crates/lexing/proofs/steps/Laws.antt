@@ -28,7 +28,7 @@ use Rattle.lexing.proofs.TokenLocality.{keyword-chain, whitespace0-chai
 use Rattle.lexing.proofs.Dropping.{behind, skip-behind, tag-skips, keyword-skips}
 use Rattle.lexing.proofs.blanks.Laws.{blanks-none, blanks-one}
 use Rattle.lexing.proofs.Composed.{onward-then}
-use Rattle.lexing.proofs.optional.Laws.{skip-took, skip-lost}
+use Rattle.lexing.proofs.answers.Laws.{skip-took, skip-lost}
 
 blank-on : Onward whitespace0
 blank-on = walks whitespace0-chain

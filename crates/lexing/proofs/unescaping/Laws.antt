@@ -354,7 +354,7 @@ mutual
   after-bounded [] b = fault-bounded b 0
   after-bounded (y ∷ u) b = escape-bounded b y u (from-bounded u (b + 2))
 
--- what comes out is never longer than the part
+-- What a caller may count on, which no proof here needs: what comes out is never longer than the part
 pub never-longer : (u l : List ℕ) → unescape u ≡ gives l → length l ≤ length u
 unfolding Bounded unescape
 never-longer u l e = rw e at (from-bounded u 0)

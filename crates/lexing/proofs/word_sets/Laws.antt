@@ -12,11 +12,11 @@ use lib.ListN.{length, drop, take, getD, length-drop, drop-of-length-le, List·g
 use lib.Seq.{drop-cons, getD-take, getD-drop, length-take-le}
 use borrow.Author.Tests.{eq-eqb, ne-eqb, eqb-true, eqb-false, leb-true, ltb-true, ltb-false, not-true, not-false}
 use Rattle.lexing.specs.bytes.{slash, underscore, isLetter, isDigit, isWord, within, lower}
-use Rattle.lexing.specs.reply.{Reply, ok, fail, stop, ret, _>>=_, _>>_, _or_, further, keep}
+use Rattle.lexing.specs.reply.{Reply, ok, fail, stop, ret, _>>=_, _>>_, _or_, no-nearer, keep}
 use Rattle.lexing.specs.words.{Word, bytesOf, isKeyLetter, isKey, isKeyword, isLower, keyword, any-keyword}
 use Rattle.lexing.specs.blanks.{Doc, whitespace1}
-use Rattle.lexing.specs.word_sets.{next-word, set-step, keywords-set, same-bytes, contains, bit, flags, sets, set-of, set-flags}
-use Rattle.lexing.specs.answers.{Rest, lostReply, wordAt, wordReply, docOf, BlankTo, WordSetTo, Fail}
+use Rattle.lexing.specs.word_sets.{next-word, set-step, keywords-set, same-bytes, contains, bit, flags, set-flags, field-set, struct-set, event-set, command-set, attribute-set}
+use Rattle.lexing.specs.answers.{Rest, lostReply, wordAt, wordReply, docOf, BlankTo, sets, set-of, WordSetTo, Fail}
 use Rattle.lexing.specs.inner.word_sets.{KeywordEnd, there, missing, set-gap, startReply, with-flag, initial, LowerAt, IsEight, EightFlag, some, none}
 use Rattle.lexing.specs.inner.words.{KeyAt}
 use Rattle.lexing.specs.inner.eights.{pack, bytesFrom, failing, isCapital}
@@ -91,7 +91,7 @@ all-apart [] = true
 all-apart (s ∷ l) = (apart s && leb (length s) 4) && all-apart l
 
 table-apart : all-apart sets ≡ true
-unfolding all-apart apart among sets isKeyword same-bytes lower within
+unfolding all-apart apart among field-set struct-set event-set command-set attribute-set isKeyword same-bytes lower within
 table-apart = refl
 
 one-apart : (l : List (List (List ℕ))) (n : ℕ) → all-apart l ≡ true → (apart (getD l n []) && leb (length (getD l n [])) 4) ≡ true
@@ -101,15 +101,12 @@ one-apart (s ∷ l) zero e = and-left (apart s && leb (length s) 4) (all-apart l
 one-apart (s ∷ l) (suc n) e = one-apart l n (and-right (apart s && leb (length s) 4) (all-apart l) e)
 
 set-apart : (n : ℕ) → apart (set-of n) ≡ true
-unfolding set-of
 set-apart n = and-left (apart (getD sets n [])) (leb (length (getD sets n [])) 4) (one-apart sets n table-apart)
 
 pub set-most : (n : ℕ) → length (set-of n) ≤ 4
-unfolding set-of
 set-most n = leb-true (length (getD sets n [])) 4 (and-right (apart (getD sets n [])) (leb (length (getD sets n [])) 4) (one-apart sets n table-apart))
 
 pub set-past : (n : ℕ) → 5 ≤ n → 0 ≡ length (set-of n)
-unfolding set-of sets
 set-past n h = ap length (sym (List·getD-eq-default sets [] h))
 
 pub set-below : (n k : ℕ) → k < length (set-of n) → n < 5
@@ -159,7 +156,7 @@ pow-even (suc k) j =
 pow-up : (j : ℕ) → 0 < 2 ^ j
 pow-up j = one-le-pow j 2 (omega arith)
 
-flags-less : (ks : List (List ℕ)) (ws : List Word) → flags ks ws < 2 ^ length ks
+pub flags-less : (ks : List (List ℕ)) (ws : List Word) → flags ks ws < 2 ^ length ks
 unfolding flags bit
 flags-less [] ws = omega arith
 flags-less (k ∷ ks) ws = go (contains ws k) (flags-less ks ws)
@@ -279,7 +276,7 @@ initial-last k x y = go (eqb x y)
     go false = refl
 
 pub initial-past : (x n : ℕ) → 5 ≤ n → false ≡ initial x (set-of n)
-unfolding set-of sets initial
+unfolding initial
 initial-past x n h = rw (List·getD-eq-default sets [] h)
 
 -- the test for lower case
@@ -356,13 +353,13 @@ Calm b (ok w c r) = Unit {0}
 Calm b (fail p) = p ≡ b
 Calm b (stop n p) = ⊥
 
-calm-further : (b : ℕ) (x : Reply Word) → Calm b x → further b x ≡ x
-unfolding further
+calm-further : (b : ℕ) (x : Reply Word) → Calm b x → no-nearer b x ≡ x
+unfolding no-nearer
 calm-further b (ok w c r) h = refl
 calm-further b (fail p) h = let l : b ≤ b = omega arith in rw (h, max-eq-left l)
 calm-further b (stop n p) h = absurd h
 
-or-fails : (k : List ℕ) (ks : List (List ℕ)) (b : ℕ) (u : List ℕ) → keyword k b u ≡ fail b → any-keyword (k ∷ ks) b u ≡ further b (any-keyword ks b u)
+or-fails : (k : List ℕ) (ks : List (List ℕ)) (b : ℕ) (u : List ℕ) → keyword k b u ≡ fail b → any-keyword (k ∷ ks) b u ≡ no-nearer b (any-keyword ks b u)
 unfolding any-keyword _or_
 or-fails k ks b u e = rw (e, _or_)
 
@@ -485,7 +482,7 @@ pub set-start : (n b : ℕ) (u : List ℕ) → SetAt n b u 0 b true
 unfolding none-yet
 set-start n b u = record { words = []; at = iter-start (set-step (set-of n)) keep [] b u; flags-are = no-flags (set-of n); first-is = refl; small = omega arith }
 
-flags-reply : (n b : ℕ) (u : List ℕ) (ws : List Word) (c : ℕ) (r : List ℕ) → ok ws c r ≡ keywords-set (set-of n) b u → ok (flags (set-of n) ws) c r ≡ set-flags n b u
+flags-reply : (n b : ℕ) (u : List ℕ) (ws : List Word) (c : ℕ) (r : List ℕ) → ok ws c r ≡ keywords-set (set-of n) b u → ok (flags (set-of n) ws) c r ≡ set-flags (set-of n) b u
 unfolding set-flags _>>=_ ret
 flags-reply n b u ws c r e = rw (sym e, _>>=_)
 

@@ -20,15 +20,12 @@ use Rattle.lexing.specs.inner.words.{wordEnd, isKeyByte, Agree, KeyAt, H
 use Rattle.lexing.specs.declared.answers.Lost.{Lost}
 use Rattle.lexing.specs.declared.answers.Step.{Step}
 use Rattle.lexing.specs.declared.answers.Step.the-variants.{Next, Not}
-use Rattle.lexing.proofs.Scans.{first-of, take-run, drop-run, run-cons, run-le, run-byte, run-stops, run-passes, RunAt, turns, runs-on}
+use Rattle.lexing.proofs.Scans.{first-of, take-run, drop-run, run-le, run-byte, run-stops, run-passes, RunAt, turns, runs-on}
+use Rattle.lexing.proofs.TokenRuns.{id-nil, id-yes, id-no}
 use Rattle.lexing.proofs.Slicing.{Took, rest-from, word-took, step-lost}
 use Rattle.lexing.proofs.eights.Laws.{Bytes, pack-alike, no-bits, passing}
 use Rattle.lexing.proofs.EveryByte.{every, every-at, same, alike-at}
-use Rattle.lexing.proofs.Tests.{eq-of, and-left, and-right, false-if, digit-no-letter}
-
-letter-word : (x : ℕ) → isLetter x ≡ true → isWord x ≡ true
-unfolding isWord
-letter-word x e = rw e
+use Rattle.lexing.proofs.Tests.{eq-of, and-left, and-right, false-if, digit-no-letter, letter-word}
 
 pub no-letter : isLetter 0 ≡ false
 unfolding isLetter within
@@ -36,18 +33,16 @@ no-letter = refl
 
 -- words
 parse-id-run : (b : ℕ) (u : List ℕ) → isLetter (getD u 0 0) ≡ true → parse-id b u ≡ ok (word b (takeWhile isWord u)) (b + length (takeWhile isWord u)) (dropWhile isWord u)
-unfolding parse-id dropWhile
 parse-id-run b [] e = absurd (false≢true (sym no-letter ∙ e))
-parse-id-run b (x ∷ u) e = rw (e, parse-id) (rw (run-cons isWord x u (letter-word x e)) (rw (letter-word x e, dropWhile)))
+parse-id-run b (x ∷ u) e = id-yes b x u e
 
 -- the same with the run by its length, as an answer gives it
 parse-id-yes : (b : ℕ) (u : List ℕ) (n : ℕ) → isLetter (getD u 0 0) ≡ true → n ≡ length (takeWhile isWord u) → ok (wordAt b u (b + n)) (b + n) (drop (b + n - b) u) ≡ parse-id b u
 parse-id-yes b u n e h = let z : b + n - b ≡ n = omega arith in rw (z, h) (rw (take-run isWord u, drop-run isWord u) (sym (parse-id-run b u e)))
 
 parse-id-no : (b : ℕ) (u : List ℕ) → isLetter (getD u 0 0) ≡ false → fail b ≡ parse-id b u
-unfolding parse-id
-parse-id-no b [] e = refl
-parse-id-no b (x ∷ u) e = rw (e, parse-id)
+parse-id-no b [] e = sym (id-nil b)
+parse-id-no b (x ∷ u) e = sym (id-no b x u e)
 
 -- tags
 pub tag-end : (t b : ℕ) (u : List ℕ) → length u ≡ 0 → fail b ≡ tag t b u

@@ -8,8 +8,7 @@ use lib.ListN.{length, take, drop, getD}
 use Rattle.lexing.specs.reply.{Reply, ok, fail, Parser, ret, _>>_}
 use Rattle.lexing.specs.words.{isKey, isLower, keyword}
 use Rattle.lexing.specs.blanks.{whitespace1}
-use Rattle.lexing.specs.word_sets.{set-of}
-use Rattle.lexing.specs.answers.{wordAt}
+use Rattle.lexing.specs.answers.{wordAt, set-of}
 use Rattle.lexing.specs.inner.eights.{pack, bytesFrom}
 use Rattle.lexing.specs.declared.word_sets.Start.{Start}
 use Rattle.lexing.specs.declared.word_sets.Start.the-variants.{Here, Nowhere}

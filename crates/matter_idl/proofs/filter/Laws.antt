@@ -14,9 +14,9 @@ use Rattle.lexing.specs.word_sets.{same-bytes}
 use Rattle.lexing.proofs.Tests.{and-left, and-right, false-if}
 use Rattle.lexing.proofs.word_sets.Laws.{same-eq}
 use Rattle.items.specs.records.{Record}
-use Rattle.items.proofs.Truth.{All}
+use Rattle.lexing.proofs.Truth.{All}
 use Rattle.items.proofs.RecordsFit.{all-append}
-use Rattle.matter_idl.specs.hoisting.{bytes-at, hits, found}
+use Rattle.matter_idl.specs.demand_3.{bytes-at, is-global, has-global}
 use Rattle.matter_idl.specs.inner.bits.{bits-size, has-bit, BitSet}
 use Rattle.matter_idl.specs.inner.filter.{Grown, id-bits, hash-on, hash-of, position-of, Holds, Added, HoldsId, Filtered}
 
@@ -112,9 +112,9 @@ module _ {f g : List ℕ} (w : Grown g f) (t : List ℕ) where
 
 -- an id of which a bit is clear is that of no record
 module _ (f t : List ℕ) (k : ℕ) (i : List ℕ) (c : Holds f (hash-of k i) → ⊥) where
-  no-hit : (r : Record) → HoldsId f t r → hits t k i r ≡ false
-  unfolding hits
-  no-hit r h = false-if (hits t k i r) λ e.
+  no-hit : (r : Record) → HoldsId f t r → is-global t k i r ≡ false
+  unfolding is-global
+  no-hit r h = false-if (is-global t k i r) λ e.
       let same = same-bytes i (bytes-at t (r .name)) in
       let x = and-right (eqb (r .place) 1) (eqb (r .kind) k && same) e in
       let p = eqb-true (r .place) 1 (and-left (eqb (r .place) 1) (eqb (r .kind) k && same) e) in
@@ -122,10 +122,10 @@ module _ (f t : List ℕ) (k : ℕ) (i : List ℕ) (c : Holds f (hash-of k i) �
       let s = same-eq i (bytes-at t (r .name)) (and-right (eqb (r .kind) k) same x) in
       c (rw (s, ← q) (h p))
 
-  none-found : (l : List Record) → All (HoldsId f t) l → found t k i l ≡ false
-  unfolding found
+  none-found : (l : List Record) → All (HoldsId f t) l → has-global t k i l ≡ false
+  unfolding has-global
   none-found [] h = refl
   none-found (r ∷ l) h = rw (no-hit r (h .0)) (none-found l (h .1))
 
-  pub filtered-out : {l : List Record} → Filtered f t l → found t k i l ≡ false
+  pub filtered-out : {l : List Record} → Filtered f t l → has-global t k i l ≡ false
   filtered-out {l} h = none-found l (h .ids)

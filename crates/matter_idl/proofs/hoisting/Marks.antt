@@ -16,8 +16,10 @@ use Rattle.items.specs.records.{bits, value, spanned, Record, response-of, flag
 use Rattle.lexing.specs.buffers.{each}
 use Rattle.items.specs.layout.{packed, width, from-top}
 use Rattle.items.specs.answers.items.{unhoisted-item}
-use Rattle.items.proofs.Truth.{All, WordTrue, ChoiceTrue, true-choice, StructTrue, true-struct, MemberTrue, true-cluster, ItemTrue}
-use Rattle.matter_idl.specs.hoisting.{Tables, no-ids, held, mark, choice-id, struct-id, is-shared, place-by, after-item, after-items, hoisted, found, with-place}
+use Rattle.lexing.proofs.Truth.{All, WordTrue}
+use Rattle.items.proofs.Truth.{ChoiceTrue, true-choice, StructTrue, true-struct, MemberTrue, true-cluster, ItemTrue}
+use Rattle.matter_idl.specs.hoisting.{Tables, no-ids, held, mark, choice-id, struct-id, is-shared, place-by, after-item, after-items, hoisted}
+use Rattle.matter_idl.specs.demand_3.{has-global, with-place}
 use Rattle.matter_idl.specs.inner.hoisting.{flags-shared, is-unmarked, mark-after, new-place, marked}
 use Rattle.matter_idl.proofs.hoisting.Search.{Kind, enums, bitmaps, structs, number-of, table-of, name-is, by-search}
 
@@ -39,7 +41,7 @@ struct-flags : (m s : ℕ) → s < 2 ^ 1 → from-top 7 (bits 2 m ∷ bits 1 s �
 unfolding from-top packed width
 struct-flags m s h = omega arith
 
-module _ (text : List ℕ) (n : ℕ) (before : List Record) (t : Tables) (agree : (K : Kind) (i : List ℕ) → held i (table-of K t) ≡ found text (number-of K) i before) where
+module _ (text : List ℕ) (n : ℕ) (before : List Record) (t : Tables) (agree : (K : Kind) (i : List ℕ) → held i (table-of K t) ≡ has-global text (number-of K) i before) where
   abbrev Marked : Record → Record
   Marked r = marked text before r
 
@@ -78,7 +80,7 @@ module _ (text : List ℕ) (n : ℕ) (before : List Record) (t : Tables) (agree 
   -- a type's mark
   marks : (K : Kind) (w : Word) → WordTrue 0 text n w → mark-after text before (number-of K) (word-extent w) ≡ mark (table-of K t) true (bytesOf w)
   unfolding mark-after mark
-  marks K w h = ap (λ (i : List ℕ). elim (found text (number-of K) i before) [ true ↦ 2 | false ↦ 1 ]) (name-is text n w h) ∙ ap (λ (b : Bool). elim b [ true ↦ 2 | false ↦ 1 ]) (sym (agree K (bytesOf w)))
+  marks K w h = ap (λ (i : List ℕ). elim (has-global text (number-of K) i before) [ true ↦ 2 | false ↦ 1 ]) (name-is text n w h) ∙ ap (λ (b : Bool). elim b [ true ↦ 2 | false ↦ 1 ]) (sym (agree K (bytesOf w)))
 
   module _ (K : Kind) (k : ℕ) (e : k ≡ number-of K) (on : flags-shared k (from-top 7 (flag true ∷ [])) ≡ true) (off : flags-shared k (from-top 7 (flag false ∷ [])) ≡ false) (c : Choice) where
     choice-place : ChoiceTrue 0 text n c → (s : Bool) → elim (is-unmarked k 0 (from-top 7 (flag s ∷ []))) [ true ↦ mark-after text before k (word-extent (c .name)) | false ↦ 0 ] ≡ mark (table-of K t) s (choice-id c)

@@ -2,8 +2,7 @@
 use Prim.Native.Nat.{ℕ}
 use mathlib.Core.Path.{_≡_, refl, sym, _∙_, ap}
 use mathlib.Core.List.{List, [], _∷_, _++_, map, map-append}
-use Rattle.lexing.specs.words.{Word, word, bytesOf}
-use Rattle.lexing.proofs.Shift.{shiftWord}
+use Rattle.lexing.proofs.Shift.{bytes-shift}
 use Rattle.items.specs.entries.{Choice}
 use Rattle.items.specs.structs.{Struct}
 use Rattle.items.specs.clusters.{Member, revision, bitmap, enum, struct, attribute, command, event}
@@ -14,17 +13,13 @@ use Rattle.items.proofs.RecordsMoved.{item-records-moved}
 use Rattle.matter_idl.specs.hoisting.{Tables, choice-id, struct-id, place-by, after-member, after-members, after-item, after-items, hoisted}
 
 module _ (d : ℕ) where
-  bytes-moved : (w : Word) → bytesOf (shiftWord d w) ≡ bytesOf w
-  unfolding bytesOf shiftWord
-  bytes-moved (word o w) = refl
-
   choice-id-moved : (c : Choice) → choice-id (shiftChoice d c) ≡ choice-id c
   unfolding choice-id shiftChoice
-  choice-id-moved c = bytes-moved (c .name)
+  choice-id-moved c = bytes-shift d (c .name)
 
   struct-id-moved : (s : Struct) → struct-id (shiftStruct d s) ≡ struct-id s
   unfolding struct-id shiftStruct
-  struct-id-moved s = bytes-moved (s .name)
+  struct-id-moved s = bytes-shift d (s .name)
 
   place-moved : (t : Tables) (m : Member) → place-by t (shiftMember d m) ≡ place-by t m
   unfolding place-by shiftMember shiftChoice shiftStruct

@@ -15,7 +15,7 @@ use Rattle.items.specs.items.{Item, cluster-item, endpoint-item, enum-item, bit
 use Rattle.items.specs.records.{Record, plain, documented, entry-record, choice-records, field-record, struct-records, attribute-records, command-record, event-records, member-records, cluster-records, instance-record, part-records, endpoint-records, item-records}
 use Rattle.lexing.specs.buffers.{each}
 use Rattle.items.proofs.RecordsFit.{all-append}
-use Rattle.items.proofs.Truth.{All}
+use Rattle.lexing.proofs.Truth.{All}
 use Rattle.matter_idl.specs.hoisting.{Tables, place-by, after-item, hoisted}
 use Rattle.matter_idl.specs.demand_3.{IsType, EachType, globals}
 

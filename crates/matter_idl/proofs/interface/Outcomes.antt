@@ -7,7 +7,7 @@ use native.Mathlib.Omega.{arith}
 use lib.Dec.{leb}
 use lib.ListN.{length, drop}
 use Rattle.lexing.specs.outcomes.{Outcome, refused, written, fitted, returned, afterwards}
-use Rattle.items.specs.layout.{layout-20, catalogue-bytes}
+use Rattle.items.specs.layout.{layout, catalogue-bytes}
 use Rattle.items.specs.declared.writing.Wrote.{Wrote}
 use Rattle.items.proofs.RecordWords.{catalogue-bytes-length}
 use Rattle.matter_idl.specs.hoisting.{no-ids, hoisted}
@@ -21,7 +21,7 @@ use Rattle.matter_idl.specs.inner.reading.{HoistedItemsTo}
 use Rattle.matter_idl.proofs.reading.Marked.{hoisted-alone}
 
 abbrev pub read-20 : List ℕ → ℕ → Outcome
-read-20 u n = reading layout-20 u n
+read-20 u n = reading layout u n
 
 -- a known outcome: what it returns, and what it leaves in its buffer
 module _ {o : Outcome} where
@@ -49,11 +49,11 @@ told-accepted a u h e = subst (λ (x : Verdict). VerdictTo x u) e h
 
 pub refused-outcome : (u : List ℕ) (n : ℕ) {k v : ℕ} → RefusedTo k v u → read-20 u n ≡ refused k v
 unfolding reading into-catalogue
-refused-outcome u n h = ap (into-catalogue layout-20 n) (h .is)
+refused-outcome u n h = ap (into-catalogue layout n) (h .is)
 
 module _ (u : List ℕ) (n : ℕ) {m : ℕ} (h : AcceptedTo m u) where
   pub bytes-now : List ℕ
-  bytes-now = catalogue-bytes layout-20 (hoisted no-ids (h .whole .items))
+  bytes-now = catalogue-bytes layout (hoisted no-ids (h .whole .items))
 
   pub size-now : length bytes-now ≡ 8 * m
   unfolding bytes-now
@@ -61,7 +61,7 @@ module _ (u : List ℕ) (n : ℕ) {m : ℕ} (h : AcceptedTo m u) where
 
   fitted-now : read-20 u n ≡ fitted 7 n bytes-now
   unfolding reading into-catalogue bytes-now
-  fitted-now = ap (into-catalogue layout-20 n) (h .is)
+  fitted-now = ap (into-catalogue layout n) (h .is)
 
   -- the catalogue is too short
   pub short-outcome : leb (8 * m) n ≡ false → read-20 u n ≡ refused 7 (8 * m)

@@ -7,13 +7,13 @@ use native.Mathlib.Omega.{arith}
 use lib.Dec.{leb}
 use lib.ListN.{length}
 use Rattle.lexing.specs.outcomes.{refused, written, afterwards}
-use Rattle.items.specs.layout.{layout-20, catalogue-bytes, word-count, text-limit}
+use Rattle.items.specs.layout.{layout, catalogue-bytes, word-count, text-limit}
 use Rattle.lexing.specs.buffers.{put}
 use Rattle.items.proofs.RecordWords.{catalogue-bytes-length}
 use Rattle.lexing.proofs.buffers.Laws.{put-length}
 use Rattle.matter_idl.specs.hoisting.{no-ids, hoisted}
 use Rattle.matter_idl.specs.sections.{sections}
-use Rattle.matter_idl.specs.survey.{accepted-items, entries, report-20, report-bytes, Surveyed, not-surveyed, surveyed, for-catalogue, for-report, into-buffers, survey}
+use Rattle.matter_idl.specs.survey.{accepted-items, report-entries, report-layout, report-bytes, Surveyed, not-surveyed, surveyed, for-catalogue, for-report, into-buffers, survey}
 use Rattle.matter_idl.specs.interface.{number-unit, result}
 use Rattle.matter_idl.proofs.interface.Outcomes.{refused-result, refused-left, written-result, written-left}
 use Rattle.matter_idl.proofs.reading.Marked.{put-behind}
@@ -38,24 +38,24 @@ survey-written {s} {c} {r} e z h cat rep w y =
     (written-result k z h, (written-left k cat (w ∙ put-behind 0 [] c cat refl), written-left l rep (y ∙ put-behind 0 [] r rep refl)))
 
 module _ (u : List ℕ) (n m : ℕ) where
-  abbrev pub survey-20 : Surveyed
-  survey-20 = survey layout-20 report-20 u n m
+  abbrev pub survey-now : Surveyed
+  survey-now = survey layout report-layout u n m
 
   abbrev records-now : List ℕ
-  records-now = catalogue-bytes layout-20 (hoisted no-ids (accepted-items 0 (sections u)))
+  records-now = catalogue-bytes layout (hoisted no-ids (accepted-items 0 (sections u)))
 
   abbrev entries-now : List ℕ
-  entries-now = report-bytes report-20 (entries 0 (sections u))
+  entries-now = report-bytes report-layout (report-entries 0 (sections u))
 
-  pub survey-long : leb (length u) text-limit ≡ false → survey-20 ≡ not-surveyed 1 text-limit
+  pub survey-long : leb (length u) text-limit ≡ false → survey-now ≡ not-surveyed 1 text-limit
   unfolding survey
   survey-long e = rw (e, survey) refl
 
   module _ (e : leb (length u) text-limit ≡ true) {k : ℕ} (d : k ≡ length (sections u)) where
     report-size : length entries-now ≡ 8 * k
-    report-size = omega (arith, report-length (entries 0 (sections u)), entries-count 0 (sections u), d)
+    report-size = omega (arith, report-length (report-entries 0 (sections u)), entries-count 0 (sections u), d)
 
-    short-now : survey-20 ≡ into-buffers n m records-now entries-now
+    short-now : survey-now ≡ into-buffers n m records-now entries-now
     unfolding survey
     short-now = rw (e, survey) refl
 
@@ -63,11 +63,11 @@ module _ (u : List ℕ) (n m : ℕ) where
     report-kept rep l w = ap length w ∙ put-length 0 entries-now rep (omega (arith, report-size, l))
 
     -- the report is too short
-    pub survey-rows : leb (8 * k) m ≡ false → survey-20 ≡ not-surveyed 8 (8 * k)
+    pub survey-rows : leb (8 * k) m ≡ false → survey-now ≡ not-surveyed 8 (8 * k)
     unfolding into-buffers
     survey-rows f = let z : leb (length entries-now) m ≡ false = ap (λ (i : ℕ). leb i m) report-size ∙ f in short-now ∙ rw (z, into-buffers) (ap (not-surveyed 8) report-size)
 
-    module _ (f : leb (8 * k) m ≡ true) {x : ℕ} (c : x ≡ word-count (hoisted no-ids (accepted-items 0 (sections u)))) where
+    module _ (f : leb (8 * k) m ≡ true) {x : ℕ} (c : x ≡ word-count layout (hoisted no-ids (accepted-items 0 (sections u)))) where
       catalogue-size : length records-now ≡ 8 * x
       catalogue-size = omega (arith, catalogue-bytes-length (hoisted no-ids (accepted-items 0 (sections u))), c)
 
@@ -78,13 +78,13 @@ module _ (u : List ℕ) (n m : ℕ) where
       report-fits = ap (λ (i : ℕ). leb i m) report-size ∙ f
 
       -- the catalogue is too short
-      pub survey-short : leb (8 * x) n ≡ false → survey-20 ≡ not-surveyed 7 (8 * x)
+      pub survey-short : leb (8 * x) n ≡ false → survey-now ≡ not-surveyed 7 (8 * x)
       unfolding into-buffers
       survey-short g = let z : leb (length records-now) n ≡ false = ap (λ (i : ℕ). leb i n) catalogue-size ∙ g in short-now ∙ rw (report-fits, z, into-buffers) (ap (not-surveyed 7) catalogue-size)
 
-      pub survey-done : leb (8 * x) n ≡ true → {y : ℕ} → y ≡ 0 * number-unit + 8 * x → (cat rep : List ℕ) {cat' rep' : List ℕ} → cat' ≡ put 0 records-now cat → rep' ≡ put 0 entries-now rep → SurveyTo survey-20 y cat rep cat' rep'
+      pub survey-done : leb (8 * x) n ≡ true → {y : ℕ} → y ≡ 0 * number-unit + 8 * x → (cat rep : List ℕ) {cat' rep' : List ℕ} → cat' ≡ put 0 records-now cat → rep' ≡ put 0 entries-now rep → SurveyTo survey-now y cat rep cat' rep'
       unfolding into-buffers
       survey-done g h cat rep w w' =
           let z : leb (length records-now) n ≡ true = ap (λ (i : ℕ). leb i n) catalogue-size ∙ g in
-          let o : survey-20 ≡ surveyed records-now entries-now = short-now ∙ rw (report-fits, z, into-buffers) refl in
+          let o : survey-now ≡ surveyed records-now entries-now = short-now ∙ rw (report-fits, z, into-buffers) refl in
           survey-written o catalogue-size h cat rep w w'

@@ -7,6 +7,7 @@ use Prim.Native.Nat.{ℕ, zero, suc, _+_, _*_, _≤_}
 use native.Mathlib.Omega.{arith}
 use lib.Dec.{leb}
 use lib.ListN.{length}
+use Rattle.lexing.proofs.Numbers.{stop-part, part-text}
 use Rattle.lexing.specs.answers.{Rest, lostReply}
 use Rattle.lexing.specs.utf8.{utf8-error, errorOf}
 use Rattle.lexing.specs.declared.answers.Lost.{Lost}
@@ -24,7 +25,8 @@ use Rattle.items.specs.answers.items.{unhoisted-item}
 use Rattle.items.specs.declared.counts.Count.{Count}
 use Rattle.items.specs.declared.counts.Count.the-variants.{Words, NoCount}
 use Rattle.lexing.proofs.Composed.{onward-ret, onward-bind}
-use Rattle.items.proofs.RefusedPlaces.{RefusedIn, Placed, placed-ret, placed-bind, item-in}
+use Rattle.lexing.proofs.RefusedPlaces.{RefusedIn, Placed, placed-ret, placed-bind}
+use Rattle.items.proofs.RefusedPlaces.{item-in}
 use Rattle.items.proofs.counts.Laws.{count-value, count-none}
 use Rattle.items.proofs.items.Laws.{item-walks}
 use Rattle.matter_idl.specs.hoisting.{no-ids}
@@ -34,7 +36,7 @@ use Rattle.matter_idl.specs.declared.reading.Verdict.{Verdict}
 use Rattle.matter_idl.specs.declared.reading.Verdict.the-variants.{Accepted, Refused}
 use Rattle.matter_idl.proofs.Places.{hoisted-words}
 
--- the place of every refusal lies in the part, and a stop's number is 4, 5 or 6
+-- the place of every refusal lies in the part, and a stop's number is one of those where the Rust panics
 within-on : (n : ℕ) → Onward (itemsWithin n)
 unfolding itemsWithin unless-ended
 within-on zero = onward-ret []
@@ -51,12 +53,12 @@ all-on = record { onward = λ b u. within-on (length u) .onward b u }
 module _ (b : ℕ) (t : List ℕ) where
   within-placed : (n : ℕ) → Placed b t (itemsWithin n)
   unfolding itemsWithin unless-ended
-  within-placed zero = placed-ret b t []
+  within-placed zero = placed-ret []
   within-placed (suc n) = record { places = λ c u h. go (within-placed n) u c h }
     where
       go : Placed b t (itemsWithin n) → (u : List ℕ) (c : ℕ) → Rest b t c u → RefusedIn b t (itemsWithin (suc n) c u)
       go w [] c h = tt
-      go w (x ∷ v) c h = placed-bind b t item-walks (item-in b t) (λ i _. placed-bind b t (within-on n) w (λ l _. placed-ret b t (i ∷ l))) .places c (x ∷ v) h
+      go w (x ∷ v) c h = placed-bind item-walks (item-in b t) (λ i _. placed-bind (within-on n) w (λ l _. placed-ret (i ∷ l))) .places c (x ∷ v) h
 
   pub all-refused : RefusedIn b t (all-items b t)
   unfolding all-items
@@ -69,7 +71,7 @@ module _ (b : ℕ) (u : List ℕ) where
   verdict-ill a p h d =
       let z : utf8-error b u ≡ some p = sym h ∙ ap errorOf d in
       let i = utf8-inside b u p z in
-      record { is = ap (λ (o : Option ℕ). by-utf8 o (by-reply (all-items b u))) z; number-from = omega arith; number = omega arith; from = i .0; inside = omega (arith, i .1) }
+      record { is = ap (λ (o : Option ℕ). by-utf8 o (by-reply (all-items b u))) z; number = refl; from = i .0; inside = omega (arith, i .1) }
 
   module _ (a : Utf8) (h : errorOf a ≡ utf8-error b u) (d : a ≡ WellFormed) where
     read-is : verdict-at b u ≡ by-reply (all-items b u)
@@ -83,10 +85,10 @@ module _ (b : ℕ) (u : List ℕ) where
         (λ l. lostReply l ≡ all-items b u → VerdictAtTo (refusedBy l) b u)
         (λ p z.
         let k = rw (← z) at (all-refused b u) in
-        record { is = read-is ∙ ap by-reply (sym z); number-from = omega arith; number = omega arith; from = k .after; inside = k .before })
+        record { is = read-is ∙ ap by-reply (sym z); number = refl; from = k .after; inside = k .before })
         (λ n p z.
         let k = rw (← z) at (all-refused b u) in
-        record { is = read-is ∙ ap by-reply (sym z); number-from = omega (arith, k .1); number = omega (arith, k .2); from = k .0 .after; inside = k .0 .before })
+        record { is = read-is ∙ ap by-reply (sym z); number = stop-part n (k .1); from = k .0 .after; inside = k .0 .before })
 
     pub verdict-lost : (r : Count) (l l' : Lost) → CountTo (each unhoisted-item) all-items r b u → r ≡ NoCount l → l' ≡ countLost r → (v : Verdict) → v ≡ refusedBy l' → VerdictAtTo v b u
     verdict-lost r l l' c x y v w = subst (λ (o : Verdict). VerdictAtTo o b u) (sym w) (lost-fits l' (count-none y x b u c))
@@ -106,9 +108,9 @@ accepted-room h l = record { value = h .items; next = h .next; is = h .reads; fi
 -- a whole text that is too long, and one that is not
 pub verdict-long : (u : List ℕ) → leb (length u) text-limit ≡ false → RefusedTo 1 text-limit u
 unfolding verdict
-verdict-long u e = record { is = rw (e, verdict) refl; number = omega arith; value = omega arith }
+verdict-long u e = record { is = rw (e, verdict) refl; number = refl; value = omega arith }
 
 pub verdict-short : (u : List ℕ) → leb (length u) text-limit ≡ true → length u ≤ text-limit → (v : Verdict) → VerdictAtTo v 0 u → VerdictTo v u
 unfolding verdict
 verdict-short u e s (Accepted n) h = record { short = s; whole = h; is = rw (e, verdict) (h .is) }
-verdict-short u e s (Refused k p) h = record { is = rw (e, verdict) (h .is); number = h .number; value = omega (arith, h .inside, s) }
+verdict-short u e s (Refused k p) h = record { is = rw (e, verdict) (h .is); number = part-text k (h .number); value = omega (arith, h .inside, s) }

@@ -5,7 +5,7 @@ use mathlib.Core.List.{List, [], _∷_, _++_, append-nil}
 use Prim.Native.Nat.{ℕ, _+_, _-_, _*_, _≤_, _<_}
 use native.Mathlib.Omega.{arith}
 use native.Mathlib.Decide.{ℕ-discrete}
-use lib.ListN.{length, drop, length-append}
+use lib.ListN.{length, drop}
 use Rattle.lexing.specs.reply.{Reply, ok, fail, stop, Parser, ret, _>>_, many0}
 use Rattle.lexing.specs.blanks.{whitespace0, whitespace1}
 use Rattle.lexing.specs.answers.{lostReply, Rest, docOf, BlankTo, Fail, Stop}
@@ -16,22 +16,25 @@ use Rattle.lexing.proofs.Losses.{by-lost}
 use Rattle.lexing.proofs.blanks.Laws.{gap-none, gap-some}
 use Rattle.lexing.proofs.Repetition.{ManyAt, many0-step}
 use Rattle.lexing.proofs.Slicing.{Took, rest-self, rest-from, rebase, blank-took, or-here, took}
-use Rattle.items.specs.items.{Item, blank-item, item, declaration}
-use Rattle.items.proofs.Truth.{All, ItemTrue, item-true}
+use Rattle.lexing.proofs.TextEnd.{clear-blank}
+use Rattle.items.specs.items.{Item, blank-item, item}
+use Rattle.items.specs.answers.items.{declaration}
+use Rattle.lexing.proofs.Truth.{All}
+use Rattle.items.proofs.Truth.{ItemTrue, item-true}
 use Rattle.items.specs.records.{Record, item-records}
-use Rattle.lexing.specs.buffers.{each, big-endian, put}
-use Rattle.items.specs.layout.{layout-20, catalogue-bytes, word-count}
+use Rattle.lexing.specs.buffers.{each, put}
+use Rattle.items.specs.layout.{layout, catalogue-bytes, word-count}
 use Rattle.items.specs.answers.{CountTo, Room, Written}
 use Rattle.items.specs.answers.items.{unhoisted-item, DeclarationCountTo}
 use Rattle.items.specs.declared.writing.Wrote.{Wrote}
 use Rattle.items.specs.declared.counts.Count.{Count}
 use Rattle.items.specs.declared.counts.Count.the-variants.{Words, NoCount}
 use Rattle.items.proofs.Locality.{item-consumes}
-use Rattle.items.proofs.RecordsFit.{first-word, all-append}
-use Rattle.items.proofs.RecordWords.{Elementwise, each-elementwise, catalogue-bytes-none, catalogue-bytes-append, catalogue-bytes-length}
-use Rattle.lexing.proofs.buffers.Laws.{big-endian-length, put-nothing, put-length, put-on}
+use Rattle.items.proofs.RecordsFit.{all-append}
+use Rattle.items.proofs.RecordWords.{Elementwise, each-elementwise, catalogue-bytes-none, catalogue-bytes-append, catalogue-bytes-length, word-count-append}
+use Rattle.lexing.proofs.buffers.Laws.{put-nothing, put-length, put-on}
 use Rattle.items.proofs.Braces.{rest-is}
-use Rattle.items.proofs.Tries.{then-ok, then-fail}
+use Rattle.lexing.proofs.Sequences.{then-ok, then-fail}
 use Rattle.lexing.proofs.steps.Laws.{rest-clear}
 use Rattle.items.proofs.counts.Laws.{Counting, counting-start, counting-more, count-took, count-lost, count-is, count-not, count-pass}
 use Rattle.items.proofs.items.Laws.{item-is, declaration-walks, item-walks, item-words, item-lost, item-blank}
@@ -40,9 +43,9 @@ use Rattle.items.proofs.writing.Laws.{Writing, writing-start, writing-start-see
 use Rattle.matter_idl.specs.hoisting.{Tables, place-by, after-items, hoisted}
 use Rattle.matter_idl.specs.reading.{all-items}
 use Rattle.matter_idl.proofs.Places.{hoisted-words, item-words as words-of-places}
-use Rattle.matter_idl.proofs.hoisting.Walk.{further-bytes, record-bytes}
+use Rattle.matter_idl.proofs.hoisting.Walk.{record-some}
 use Rattle.matter_idl.proofs.hoisting.Marks.{hoisted-more}
-use Rattle.matter_idl.proofs.AllItems.{clear-blank, no-declaration, accepted-many, all-ended, all-lost}
+use Rattle.matter_idl.proofs.AllItems.{no-declaration, accepted-many, all-ended, all-lost}
 
 -- a rest of a rest
 rest-within : {b c s : ℕ} {u r v : List ℕ} → Rest b u c r → Rest b u s v → c ≤ s → Rest c r s v
@@ -177,7 +180,7 @@ module _ (b : ℕ) (u : List ℕ) (at : ℕ) (old : List ℕ) (room : Room (each
             declared a n s y =
                 let k = rest-is (declaration-walks (docOf (t .doc))) (t .next) n v s a (sym y) in
                 let g : ok a n (drop (n - t .next) v) ≡ behind (t .next) v = rw (← k) y in
-                record { value = a; next = n; is = g; fits = writing-fits items-one item b u at old many i item-consumes (there g) (word-count (unhoisted-item a)) refl .0 }
+                record { value = a; next = n; is = g; fits = writing-fits items-one item b u at old many i item-consumes (there g) (word-count layout (unhoisted-item a)) refl .0 }
 
             -- blanks before the end are no item
             blank : (a : Item) (n : ℕ) (s : List ℕ) (p : ℕ) → item c r ≡ ok a n s → n ≡ t .next → item (t .next) v ≡ fail p → ⊥
@@ -201,16 +204,16 @@ pub record HoistingItems (Q : List Record → Type 0) (ts : Tables) (b : ℕ) (u
   pub plain : List ℕ
   pub writing : WritingItems b u c at old plain to
   pub true-items : All (ItemTrue b u (b + length u)) (writing .seen)
-  pub bytes : new ≡ put at (catalogue-bytes layout-20 (hoisted ts (writing .seen))) old
+  pub bytes : new ≡ put at (catalogue-bytes layout (hoisted ts (writing .seen))) old
   pub holds : Q (hoisted ts (writing .seen))
 
 -- records without words are none
-none-counted : (l : List Record) → word-count l ≡ 0 → l ≡ []
+none-counted : (l : List Record) → word-count layout l ≡ 0 → l ≡ []
 none-counted [] e = refl
-none-counted (r ∷ l) e = absurd (omega (arith, e, catalogue-bytes-length (r ∷ l), ap length (catalogue-bytes-append layout-20 (r ∷ []) l ∙ ap (λ x. x ++ catalogue-bytes layout-20 l) (record-bytes r)), length-append (big-endian 8 (first-word r) ++ further-bytes r) (catalogue-bytes layout-20 l), length-append (big-endian 8 (first-word r)) (further-bytes r), big-endian-length 8 (first-word r)))
+none-counted (r ∷ l) e = absurd (omega (arith, e, word-count-append (r ∷ []) l, record-some r))
 
 -- an item without words changes nothing
-wordless : (ts : Tables) (seen : List Item) (x : Item) → word-count (unhoisted-item x) ≡ 0 → hoisted ts (seen ++ (x ∷ [])) ≡ hoisted ts seen
+wordless : (ts : Tables) (seen : List Item) (x : Item) → word-count layout (unhoisted-item x) ≡ 0 → hoisted ts (seen ++ (x ∷ [])) ≡ hoisted ts seen
 wordless ts seen x e =
     let f = place-by (after-items ts seen) in
     let z : item-records 1 f x ≡ [] = none-counted (item-records 1 f x) (omega (arith, words-of-places 1 1 f (λ m. 0) x, e)) in
@@ -229,7 +232,7 @@ module _ (ts : Tables) (b : ℕ) (u : List ℕ) (at : ℕ) (old : List ℕ) (roo
         plain = old;
         writing = placing-start b u at old room;
         true-items = subst (λ (l : List Item). All (ItemTrue b u (b + length u)) l) (sym e) tt;
-        bytes = sym (ap (λ (l : List Item). put at (catalogue-bytes layout-20 (hoisted ts l)) old) e ∙ rw (catalogue-bytes-none layout-20) (put-nothing at old));
+        bytes = sym (ap (λ (l : List Item). put at (catalogue-bytes layout (hoisted ts l)) old) e ∙ rw (catalogue-bytes-none layout) (put-nothing at old));
         holds = subst (λ (l : List Item). Q (hoisted ts l)) (sym e) h;
       }
 
@@ -237,11 +240,11 @@ module _ (ts : Tables) (b : ℕ) (u : List ℕ) (at : ℕ) (old : List ℕ) (roo
     abbrev seen-now : List Item
     seen-now = i .writing .seen
 
-    pub hoisting-place : to ≡ at + 8 * word-count (hoisted ts seen-now)
+    pub hoisting-place : to ≡ at + 8 * word-count layout (hoisted ts seen-now)
     hoisting-place = omega (arith, i .writing .place, hoisted-words ts seen-now)
 
     pub hoisting-same : length new ≡ length old
-    hoisting-same = ap length (i .bytes) ∙ put-length at (catalogue-bytes layout-20 (hoisted ts seen-now)) old (omega (arith, catalogue-bytes-length (hoisted ts seen-now), hoisting-place, i .writing .fits))
+    hoisting-same = ap length (i .bytes) ∙ put-length at (catalogue-bytes layout (hoisted ts seen-now)) old (omega (arith, catalogue-bytes-length (hoisted ts seen-now), hoisting-place, i .writing .fits))
 
     -- the next item is true, and so are all with it
     true-next : {a : Item} {n : ℕ} → Took item b u c a n → ItemTrue b u (b + length u) a
@@ -259,25 +262,25 @@ module _ (ts : Tables) (b : ℕ) (u : List ℕ) (at : ℕ) (old : List ℕ) (roo
 
         module _ {o : Wrote} {new' : List ℕ} (g : Written unhoisted-item (declaration (docOf (t .doc))) (t .next) v to o new new') where
           -- the item's records behind those before it, not yet marked
-          pub hoisting-written : new' ≡ put at (catalogue-bytes layout-20 (hoisted ts seen-now ++ unhoisted-item (g .value))) old
+          pub hoisting-written : new' ≡ put at (catalogue-bytes layout (hoisted ts seen-now ++ unhoisted-item (g .value))) old
           hoisting-written =
               let x = room-left in
-              rw (catalogue-bytes-append layout-20 (hoisted ts seen-now) (unhoisted-item (g .value))) (
-              put-on at to (catalogue-bytes layout-20 (hoisted ts seen-now)) (catalogue-bytes layout-20 (unhoisted-item (g .value))) old new new'
+              rw (catalogue-bytes-append layout (hoisted ts seen-now) (unhoisted-item (g .value))) (
+              put-on at to (catalogue-bytes layout (hoisted ts seen-now)) (catalogue-bytes layout (unhoisted-item (g .value))) old new new'
               (omega (arith, hoisting-place, catalogue-bytes-length (hoisted ts seen-now)))
               (omega (arith, x, catalogue-bytes-length (unhoisted-item (g .value))))
               (i .bytes)
               (g .bytes)
               )
             where
-              room-left : to + 8 * word-count (unhoisted-item (g .value)) ≤ length old
-              room-left = let y = writing-fits items-one item b u at old (many b u at old room) (i .writing) item-consumes (there b u at old room (i .writing) q w q' (g .is)) (word-count (unhoisted-item (g .value))) refl .0 in omega (arith, y, placing-same b u at old room (i .writing))
+              room-left : to + 8 * word-count layout (unhoisted-item (g .value)) ≤ length old
+              room-left = let y = writing-fits items-one item b u at old (many b u at old room) (i .writing) item-consumes (there b u at old room (i .writing) q w q' (g .is)) (word-count layout (unhoisted-item (g .value))) refl .0 in omega (arith, y, placing-same b u at old room (i .writing))
 
           -- a turn, once they are marked
           plain-next : List ℕ
-          plain-next = put to (catalogue-bytes layout-20 (unhoisted-item (g .value))) (i .plain)
+          plain-next = put to (catalogue-bytes layout (unhoisted-item (g .value))) (i .plain)
 
-          plain-is : plain-next ≡ put to (catalogue-bytes layout-20 (unhoisted-item (g .value))) (i .plain)
+          plain-is : plain-next ≡ put to (catalogue-bytes layout (unhoisted-item (g .value))) (i .plain)
           unfolding plain-next
           plain-is = refl
 
@@ -287,9 +290,9 @@ module _ (ts : Tables) (b : ℕ) (u : List ℕ) (at : ℕ) (old : List ℕ) (roo
           pub hoisting-true : ItemTrue b u (b + length u) (g .value)
           hoisting-true = true-next read-here
 
-          pub hoisting-more : {new'' : List ℕ} → new'' ≡ put at (catalogue-bytes layout-20 (hoisted ts (seen-now ++ (g .value ∷ [])))) old → {R : List Record → Type 0} → R (hoisted ts (seen-now ++ (g .value ∷ []))) → HoistingItems R ts b u (o .next) at old new'' (o .to) × (c < o .next)
+          pub hoisting-more : {new'' : List ℕ} → new'' ≡ put at (catalogue-bytes layout (hoisted ts (seen-now ++ (g .value ∷ [])))) old → {R : List Record → Type 0} → R (hoisted ts (seen-now ++ (g .value ∷ []))) → HoistingItems R ts b u (o .next) at old new'' (o .to) × (c < o .next)
           hoisting-more {new''} e {R} d =
-              let k = word-count (unhoisted-item (g .value)) in
+              let k = word-count layout (unhoisted-item (g .value)) in
               let x = writing-more items-one item b u at old (many b u at old room) (i .writing) item-consumes read-here k refl plain-next plain-is in
               let y = writing-fits items-one item b u at old (many b u at old room) (i .writing) item-consumes read-here k refl in
               let z = writing-more-seen items-one item b u at old (many b u at old room) (i .writing) item-consumes read-here k refl plain-next plain-is in
@@ -297,7 +300,7 @@ module _ (ts : Tables) (b : ℕ) (u : List ℕ) (at : ℕ) (old : List ℕ) (roo
                 plain = plain-next;
                 writing = x;
                 true-items = subst (λ (l : List Item). All (ItemTrue b u (b + length u)) l) (sym z) (true-more read-here);
-                bytes = e ∙ ap (λ (l : List Item). put at (catalogue-bytes layout-20 (hoisted ts l)) old) (sym z);
+                bytes = e ∙ ap (λ (l : List Item). put at (catalogue-bytes layout (hoisted ts l)) old) (sym z);
                 holds = subst (λ (l : List Item). R (hoisted ts l)) (sym z) d;
               } in
               (subst (λ (n : ℕ). HoistingItems R ts b u (o .next) at old new'' n) (sym (g .place)) h, y .1 .0)
@@ -311,7 +314,7 @@ module _ (ts : Tables) (b : ℕ) (u : List ℕ) (at : ℕ) (old : List ℕ) (roo
         where
           done-with : (l : List Item) → ManyAt item b u (t .next) l → All (ItemTrue b u (b + length u)) l → hoisted ts l ≡ hoisted ts seen-now → Ended
           done-with l m h x =
-              (record { value = l; is = all-ended m (end-rest q w e) (end-none q w e); place = omega (arith, hoisting-place, ap word-count x); bytes = i .bytes ∙ ap (λ (r : List Record). put at (catalogue-bytes layout-20 r) old) (sym x) }, (h, subst Q (sym x) (i .holds)))
+              (record { value = l; is = all-ended m (end-rest q w e) (end-none q w e); place = omega (arith, hoisting-place, ap (word-count layout) x); bytes = i .bytes ∙ ap (λ (r : List Record). put at (catalogue-bytes layout r) old) (sym x) }, (h, subst Q (sym x) (i .holds)))
 
           finish : Dec (t .next ≡ c) → Ended
           finish (yes y) = done-with seen-now (subst (λ (n : ℕ). ManyAt item b u n seen-now) (sym y) (i .writing .run)) (i .true-items) refl

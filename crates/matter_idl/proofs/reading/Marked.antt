@@ -8,10 +8,11 @@ use lib.Seq.{take-at, drop-append-add}
 use Rattle.lexing.specs.reply.{ok}
 use Rattle.lexing.specs.answers.{Rest, docOf, BlankTo}
 use Rattle.lexing.specs.declared.blanks.Blank.{Blank}
-use Rattle.items.specs.items.{Item, declaration}
+use Rattle.items.specs.items.{Item}
+use Rattle.items.specs.answers.items.{declaration}
 use Rattle.items.specs.records.{Record}
 use Rattle.lexing.specs.buffers.{each, put}
-use Rattle.items.specs.layout.{layout-20, catalogue-bytes, word-count}
+use Rattle.items.specs.layout.{layout, catalogue-bytes, word-count}
 use Rattle.items.specs.answers.{Room, Written}
 use Rattle.items.specs.answers.items.{unhoisted-item}
 use Rattle.items.specs.declared.writing.Wrote.{Wrote}
@@ -38,25 +39,25 @@ put-behind at front xs tail e = rw (e, take-at front tail (length front) refl, d
 -- nothing stands at the front yet
 unfoldable pub front-none : (t out : List ℕ) {filter : List ℕ} → length filter ≡ bits-size → HoistedFront t out filter 0
 unfolding hoisted
-front-none t out z = record { items = []; true-items = tt; tail = out; bytes = rw (catalogue-bytes-none layout-20) refl; ends = omega (arith, word-count-none); filtered = filtered-none t z }
+front-none t out z = record { items = []; true-items = tt; tail = out; bytes = rw (catalogue-bytes-none layout) refl; ends = omega (arith, word-count-none); filtered = filtered-none t z }
 
 module _ {t old filter : List ℕ} {at : ℕ} (f : HoistedFront t old filter at) where
   abbrev tables : Tables
   tables = after-items no-ids (f .items)
 
   -- records written behind the front
-  behind : (l : List Record) → put at (catalogue-bytes layout-20 l) old ≡ catalogue-bytes layout-20 (hoisted no-ids (f .items) ++ l) ++ drop (8 * word-count l) (f .tail)
+  behind : (l : List Record) → put at (catalogue-bytes layout l) old ≡ catalogue-bytes layout (hoisted no-ids (f .items) ++ l) ++ drop (8 * word-count layout l) (f .tail)
   behind l =
-      let front = catalogue-bytes layout-20 (hoisted no-ids (f .items)) in
-      let xs = catalogue-bytes layout-20 l in
-      ap (put at xs) (f .bytes) ∙ (put-behind at front xs (f .tail) (omega (arith, f .ends, catalogue-bytes-length (hoisted no-ids (f .items)))) ∙ rw (catalogue-bytes-length l, catalogue-bytes-append layout-20 (hoisted no-ids (f .items)) l) (sym (append-assoc front xs _)))
+      let front = catalogue-bytes layout (hoisted no-ids (f .items)) in
+      let xs = catalogue-bytes layout l in
+      ap (put at xs) (f .bytes) ∙ (put-behind at front xs (f .tail) (omega (arith, f .ends, catalogue-bytes-length (hoisted no-ids (f .items)))) ∙ rw (catalogue-bytes-length l, catalogue-bytes-append layout (hoisted no-ids (f .items)) l) (sym (append-assoc front xs _)))
 
   -- those of items are hoisted with the items of the front
-  behind-items : (l : List Item) → put at (catalogue-bytes layout-20 (hoisted tables l)) old ≡ catalogue-bytes layout-20 (hoisted no-ids (f .items ++ l)) ++ drop (8 * word-count (hoisted tables l)) (f .tail)
+  behind-items : (l : List Item) → put at (catalogue-bytes layout (hoisted tables l)) old ≡ catalogue-bytes layout (hoisted no-ids (f .items ++ l)) ++ drop (8 * word-count layout (hoisted tables l)) (f .tail)
   behind-items l = behind (hoisted tables l) ∙ rw (hoisted-append no-ids (f .items) l) refl
 
-  words-behind : (l : List Item) → word-count (hoisted no-ids (f .items ++ l)) ≡ word-count (hoisted no-ids (f .items)) + word-count (hoisted tables l)
-  words-behind l = ap word-count (hoisted-append no-ids (f .items) l) ∙ word-count-append (hoisted no-ids (f .items)) (hoisted tables l)
+  words-behind : (l : List Item) → word-count layout (hoisted no-ids (f .items ++ l)) ≡ word-count layout (hoisted no-ids (f .items)) + word-count layout (hoisted tables l)
+  words-behind l = ap (word-count layout) (hoisted-append no-ids (f .items) l) ∙ word-count-append (hoisted no-ids (f .items)) (hoisted tables l)
 
 -- the loop: whichever items stand at the front, the filter has the ids of those and of the ones behind
 abbrev Behind : (t filter : List ℕ) {old filter₀ : List ℕ} {at : ℕ} → HoistedFront t old filter₀ at → List Record → Type 0
@@ -84,7 +85,7 @@ module _ {t : List ℕ} {b : ℕ} {u : List ℕ} (p : PartOf t b u) {at : ℕ} {
     abbrev unmarked : List Record
     unmarked = hoisted (tables f) seen ++ unhoisted-item (g .value)
 
-    as-long : word-count unmarked ≡ word-count (hoisted (tables f) (seen ++ (g .value ∷ [])))
+    as-long : word-count layout unmarked ≡ word-count layout (hoisted (tables f) (seen ++ (g .value ∷ [])))
     as-long = omega (arith, word-count-append (hoisted (tables f) seen) (unhoisted-item (g .value)), hoisted-words (tables f) (seen ++ (g .value ∷ [])), hoisted-words (tables f) seen, word-count-more (each-elementwise unhoisted-item) seen (g .value))
 
     pub mark-asks : Unhoisted t new' filter to (o .to)
@@ -94,7 +95,7 @@ module _ {t : List ℕ} {b : ℕ} {u : List ℕ} (p : PartOf t b u) {at : ℕ} {
       before-true = all-append (ItemTrue 0 t (length t)) (f .items) seen (f .true-items) (items-whole p seen (i .true-items));
       item-true = item-whole p (g .value) (hoisting-true (tables f) b u at old room i q w q' g);
       filtered = rw (hoisted-append no-ids (f .items) seen) (i .holds);
-      tail = drop (8 * word-count unmarked) (f .tail);
+      tail = drop (8 * word-count layout unmarked) (f .tail);
       bytes = hoisting-written (tables f) b u at old room i q w q' g ∙ (behind f unmarked ∙ rw (hoisted-append no-ids (f .items) seen, append-assoc (hoisted no-ids (f .items)) (hoisted (tables f) seen) (unhoisted-item (g .value))) refl);
       starts = omega (arith, hoisting-place (tables f) b u at old room i, f .ends, words-behind f seen);
       ends = g .place;
@@ -114,7 +115,7 @@ module _ {t : List ℕ} {b : ℕ} {u : List ℕ} (p : PartOf t b u) {at : ℕ} {
   hoisted-all e f =
       let k = hoisting-ends (tables f) b u at old room (j f) q w e in
       let l = k .0 .value in
-      let n : to - at ≡ 8 * word-count (hoisted (tables f) l) = omega (arith, k .0 .place) in
+      let n : to - at ≡ 8 * word-count layout (hoisted (tables f) l) = omega (arith, k .0 .place) in
       record {
         items = l;
         is = k .0 .is;
@@ -135,8 +136,8 @@ pub behind-same : {t old filter₀ new filter : List ℕ} {at b : ℕ} {u : List
 behind-same {old = old} {at = at} {w = w} room {f} h =
     let z = room .is ∙ sym (h .is) in
     let y : room .value ≡ h .items = cc in
-    let x : word-count (each unhoisted-item (room .value)) ≡ word-count (each unhoisted-item (h .items)) = ap (λ (l : List Item). word-count (each unhoisted-item l)) y in
-    let n : w .to ≡ at + 8 * word-count (hoisted (tables f) (h .items)) = omega (arith, h .front .ends, ap (λ (l : List Item). word-count (hoisted no-ids l)) (h .front-items), words-behind f (h .items), f .ends) in
+    let x : word-count layout (each unhoisted-item (room .value)) ≡ word-count layout (each unhoisted-item (h .items)) = ap (λ (l : List Item). word-count layout (each unhoisted-item l)) y in
+    let n : w .to ≡ at + 8 * word-count layout (hoisted (tables f) (h .items)) = omega (arith, h .front .ends, ap (λ (l : List Item). word-count layout (hoisted no-ids l)) (h .front-items), words-behind f (h .items), f .ends) in
     omega (
       arith,
       room .fits,
@@ -145,23 +146,23 @@ behind-same {old = old} {at = at} {w = w} room {f} h =
       hoisted-words (tables f) (h .items),
       f .ends,
       ap length (f .bytes),
-      length-append (catalogue-bytes layout-20 (hoisted no-ids (f .items))) (f .tail),
+      length-append (catalogue-bytes layout (hoisted no-ids (f .items))) (f .tail),
       catalogue-bytes-length (hoisted no-ids (f .items)),
       h .front .ends,
       ap length (h .front .bytes),
-      length-append (catalogue-bytes layout-20 (hoisted no-ids (h .front .items))) (h .front .tail),
+      length-append (catalogue-bytes layout (hoisted no-ids (h .front .items))) (h .front .tail),
       catalogue-bytes-length (hoisted no-ids (h .front .items)),
       ap length (h .front-tail),
       length-drop (w .to - at) (f .tail),
     )
 
 -- with nothing at the front, the items of the part alone
-pub hoisted-alone : {t old filter₀ new filter : List ℕ} {b : ℕ} {u : List ℕ} {w : Wrote} → length filter₀ ≡ bits-size → HoistedItemsTo new filter t old filter₀ 0 b u w → {l : List Item} {c : ℕ} {r : List ℕ} → ok l c r ≡ all-items b u → new ≡ catalogue-bytes layout-20 (hoisted no-ids l) ++ drop (8 * word-count (hoisted no-ids l)) old
+pub hoisted-alone : {t old filter₀ new filter : List ℕ} {b : ℕ} {u : List ℕ} {w : Wrote} → length filter₀ ≡ bits-size → HoistedItemsTo new filter t old filter₀ 0 b u w → {l : List Item} {c : ℕ} {r : List ℕ} → ok l c r ≡ all-items b u → new ≡ catalogue-bytes layout (hoisted no-ids l) ++ drop (8 * word-count layout (hoisted no-ids l)) old
 unfolding front-none
 hoisted-alone {t} {old} {w = w} z g {l} e =
     let k = g (front-none t old z) in
     let x = e ∙ sym (k .is) in
     let y : k .items ≡ l = cc in
     let f : k .front .items ≡ l = k .front-items ∙ y in
-    let n : w .to - 0 ≡ 8 * word-count (hoisted no-ids l) = omega (arith, k .front .ends, ap (λ (i : List Item). word-count (hoisted no-ids i)) f) in
+    let n : w .to - 0 ≡ 8 * word-count layout (hoisted no-ids l) = omega (arith, k .front .ends, ap (λ (i : List Item). word-count layout (hoisted no-ids i)) f) in
     k .front .bytes ∙ rw (f, k .front-tail, n) refl

@@ -8,22 +8,24 @@ use native.Mathlib.Omega.{arith}
 use native.Mathlib.Decide.{ℕ-discrete}
 use lib.ListN.{length, drop, getD, replicate, length-replicate, List·getD-eq-default}
 use lib.Seq.{getD-at}
+use Rattle.lexing.specs.outcomes.{part-numbers}
+use Rattle.lexing.proofs.Numbers.{number-less}
 use Rattle.lexing.specs.reply.{Reply, ok, fail, stop}
 use Rattle.lexing.specs.utf8.{utf8-error}
 use Rattle.lexing.proofs.Slicing.{suf-drop}
 use Rattle.items.specs.items.{Item}
 use Rattle.lexing.specs.buffers.{each}
-use Rattle.items.specs.layout.{word-count, text-limit}
+use Rattle.items.specs.layout.{layout, word-count, text-limit}
 use Rattle.items.specs.answers.{Room}
 use Rattle.items.specs.answers.items.{unhoisted-item}
 use Rattle.items.specs.declared.writing.Wrote.{Wrote}
 use Rattle.matter_idl.specs.hoisting.{no-ids, hoisted}
 use Rattle.matter_idl.specs.reading.{all-items, Verdict as VerdictOf, accepted, turned-down, by-reply, by-utf8, verdict-at}
-use Rattle.matter_idl.specs.survey.{items-of, Entry, sound, spoilt, entry}
+use Rattle.matter_idl.specs.survey.{items-of, ReportEntry, sound, spoilt, report-entry}
 use Rattle.matter_idl.specs.answers.reading.{VerdictAtTo}
 use Rattle.matter_idl.specs.inner.reading.{HoistedItemsTo}
 use Rattle.matter_idl.specs.inner.bits.{bits-size, has-bit, BitSet}
-use Rattle.matter_idl.specs.inner.survey.{is-sound, no-entry, Marks, Remembered, MarkTrue, Judged, SectionBehindTo}
+use Rattle.matter_idl.specs.inner.survey.{is-sound, no-entry, AcceptedBits, Remembered, BitTrue, Judged, SectionBehindTo}
 use Rattle.matter_idl.specs.declared.reading.Verdict.{Verdict}
 use Rattle.matter_idl.specs.declared.reading.Verdict.the-variants.{Accepted, Refused}
 use Rattle.matter_idl.proofs.bits.Laws.{none-set}
@@ -33,47 +35,47 @@ use Rattle.matter_idl.proofs.reading.Judged.{all-on}
 -- Marks.
 
 -- an entry more is told apart from those before it by its number
-other-entry : (es : List Entry) (e : Entry) (j : ℕ) → (j ≡ length es → ⊥) → getD (es ++ (e ∷ [])) j no-entry ≡ getD es j no-entry
+other-entry : (es : List ReportEntry) (e : ReportEntry) (j : ℕ) → (j ≡ length es → ⊥) → getD (es ++ (e ∷ [])) j no-entry ≡ getD es j no-entry
 other-entry [] e zero h = absurd (h refl)
 other-entry [] e (suc j) h = refl
 other-entry (x ∷ es) e zero h = refl
 other-entry (x ∷ es) e (suc j) h = other-entry es e j (λ z. h (ap suc z))
 
 -- a section's own bit, and the others as they were
-marks-with : {new marks : List ℕ} {es : List Entry} {i : ℕ} → Marks marks es → length es ≡ i → (e : Entry) → length new ≡ length marks → has-bit new i ≡ is-sound e → ((j : ℕ) → (j ≡ i → ⊥) → has-bit new j ≡ has-bit marks j) → Marks new (es ++ (e ∷ []))
-marks-with {new} {marks} {es} {i} m z e s here others = record { size = s ∙ m .size; each-bit = λ j. go j (ℕ-discrete j i) }
+bits-with : {new bits : List ℕ} {es : List ReportEntry} {i : ℕ} → AcceptedBits bits es → length es ≡ i → (e : ReportEntry) → length new ≡ length bits → has-bit new i ≡ is-sound e → ((j : ℕ) → (j ≡ i → ⊥) → has-bit new j ≡ has-bit bits j) → AcceptedBits new (es ++ (e ∷ []))
+bits-with {new} {bits} {es} {i} m z e s here others = record { size = s ∙ m .size; each-bit = λ j. go j (ℕ-discrete j i) }
   where
     go : (j : ℕ) → Dec (j ≡ i) → has-bit new j ≡ is-sound (getD (es ++ (e ∷ [])) j no-entry)
     go j (yes y) = rw (y, getD-at es e [] no-entry i z) here
     go j (no y) = others j y ∙ (m .each-bit j ∙ ap is-sound (sym (other-entry es e j (λ d. y (d ∙ z)))))
 
-pub marks-more : (v : Verdict) {new marks : List ℕ} {es : List Entry} {i : ℕ} → Marks marks es → length es ≡ i → {b : ℕ} {u : List ℕ} → Judged v b u → Remembered new marks i v → Marks new (es ++ (entry b (length u) (verdict-at b u) ∷ []))
-marks-more (Accepted n) m z x r = marks-with m z _ (r .size) (r .is ∙ ap is-sound (x .is)) (r .others)
-marks-more (Refused k p) {es = es} {i = i} m z x r =
-    rw r (marks-with m z _ refl (m .each-bit i ∙ (ap is-sound (List·getD-eq-default es no-entry (omega arith)) ∙ ap is-sound (x .is))) (λ j h. refl))
+pub bits-more : (v : Verdict) {new bits : List ℕ} {es : List ReportEntry} {i : ℕ} → AcceptedBits bits es → length es ≡ i → {b : ℕ} {u : List ℕ} → Judged v b u → Remembered new bits i v → AcceptedBits new (es ++ (report-entry b (length u) (verdict-at b u) ∷ []))
+bits-more (Accepted n) m z x r = bits-with m z _ (r .size) (r .is ∙ ap is-sound (x .is)) (r .others)
+bits-more (Refused k p) {es = es} {i = i} m z x r =
+    rw r (bits-with m z _ refl (m .each-bit i ∙ (ap is-sound (List·getD-eq-default es no-entry (omega arith)) ∙ ap is-sound (x .is))) (λ j h. refl))
 
 -- no section is marked at the start
-pub unmarked : (n : ℕ) → n ≡ bits-size → Marks (replicate n 0) []
+pub unmarked : (n : ℕ) → n ≡ bits-size → AcceptedBits (replicate n 0) []
 unmarked n z = record { size = length-replicate n 0 ∙ z; each-bit = none-set n }
 
-pub remembered-refused : {v : Verdict} {k p : ℕ} → v ≡ Refused k p → (marks : List ℕ) (i : ℕ) → Remembered marks marks i v
-remembered-refused e marks i = rw e refl
+pub remembered-refused : {v : Verdict} {k p : ℕ} → v ≡ Refused k p → (bits : List ℕ) (i : ℕ) → Remembered bits bits i v
+remembered-refused e bits i = rw e refl
 
-pub remembered-accepted : {v : Verdict} {n : ℕ} → v ≡ Accepted n → {new marks : List ℕ} {i : ℕ} → BitSet new marks i → Remembered new marks i v
+pub remembered-accepted : {v : Verdict} {n : ℕ} → v ≡ Accepted n → {new bits : List ℕ} {i : ℕ} → BitSet new bits i → Remembered new bits i v
 remembered-accepted e b = rw e b
 
 -- Verdicts.
 
 pub judged-of : (v : Verdict) (b : ℕ) (u : List ℕ) → VerdictAtTo v b u → b + length u ≤ text-limit → Judged v b u
-unfolding entry
-judged-of (Accepted n) b u h l = record { is = rw (h .is, entry) refl; fits = tt }
-judged-of (Refused k p) b u h l = record { is = rw (h .is, entry) refl; fits = (omega (arith, h .number), omega (arith, h .inside)) }
+unfolding report-entry
+judged-of (Accepted n) b u h l = record { is = rw (h .is, report-entry) refl; fits = tt }
+judged-of (Refused k p) b u h l = record { is = rw (h .is, report-entry) refl; fits = (number-less 16 part-numbers refl k (h .number), omega (arith, h .inside)) }
 
-pub judged-marked : {marks : List ℕ} {i b : ℕ} {u : List ℕ} → MarkTrue marks i b u → has-bit marks i ≡ true → (n : ℕ) → Judged (Accepted n) b u
-unfolding entry
+pub judged-marked : {bits : List ℕ} {i b : ℕ} {u : List ℕ} → BitTrue bits i b u → has-bit bits i ≡ true → (n : ℕ) → Judged (Accepted n) b u
+unfolding report-entry
 judged-marked {b = b} {u = u} m h n = record { is = go (verdict-at b u) (sym (m .mark) ∙ h); fits = tt }
   where
-    go : (v : VerdictOf) → is-sound (entry b (length u) v) ≡ true → sound b (length u) ≡ entry b (length u) v
+    go : (v : VerdictOf) → is-sound (report-entry b (length u) v) ≡ true → sound b (length u) ≡ report-entry b (length u) v
     go (accepted l) k = refl
     go (turned-down x p) k = absurd (false≢true k)
 
@@ -81,20 +83,20 @@ judged-as : {v w : Verdict} {b : ℕ} {u : List ℕ} → v ≡ w → Judged v b 
 judged-as {b = b} {u = u} e h = subst (λ (x : Verdict). Judged x b u) e h
 
 refused-items : {k p b : ℕ} {u : List ℕ} → Judged (Refused k p) b u → items-of (verdict-at b u) ≡ []
-unfolding entry items-of
+unfolding report-entry items-of
 refused-items {k} {p} {b} {u} h = go (verdict-at b u) (h .is)
   where
-    go : (v : VerdictOf) → spoilt b (length u) k p ≡ entry b (length u) v → items-of v ≡ []
+    go : (v : VerdictOf) → spoilt b (length u) k p ≡ report-entry b (length u) v → items-of v ≡ []
     go (accepted l) e = let z : _≡_ {A = ℕ} 0 1 = cc in absurd (omega arith)
     go (turned-down x q) e = refl
 
 -- what an accepted section reads
 accepted-reads : {n b : ℕ} {u : List ℕ} → Judged (Accepted n) b u → (c : ℕ) × (ok (items-of (verdict-at b u)) c (drop (c - b) u) ≡ all-items b u)
-unfolding entry items-of verdict-at by-utf8 by-reply
+unfolding report-entry items-of verdict-at by-utf8 by-reply
 accepted-reads {n} {b} {u} h = go (utf8-error b u) refl (all-items b u) refl
   where
     spoiled : {k p : ℕ} → verdict-at b u ≡ turned-down k p → ⊥
-    spoiled e = let y = rw (e, entry) at (h .is) in let z : _≡_ {A = ℕ} 0 1 = cc in omega arith
+    spoiled e = let y = rw (e, report-entry) at (h .is) in let z : _≡_ {A = ℕ} 0 1 = cc in omega arith
 
     go : (o : Option ℕ) → utf8-error b u ≡ o → (r : Reply (List Item)) → all-items b u ≡ r → (c : ℕ) × (ok (items-of (verdict-at b u)) c (drop (c - b) u) ≡ all-items b u)
     go (some p) e r f = absurd (spoiled {k = 2} {p = p} (rw (e, by-utf8) refl))
@@ -114,7 +116,7 @@ module _ {v : Verdict} {b : ℕ} {u : List ℕ} (h : Judged v b u) where
       let z : at - at ≡ 0 = omega arith in
       record { front = f; front-items = rw (refused-items (judged-as e h)) (sym (append-nil (f .items))); front-tail = rw z refl }
 
-  pub judged-room : {n : ℕ} → v ≡ Accepted n → {at size : ℕ} → at + 8 * word-count (hoisted no-ids (items-of (verdict-at b u))) ≤ size → Room (each unhoisted-item) all-items b u at size
+  pub judged-room : {n : ℕ} → v ≡ Accepted n → {at size : ℕ} → at + 8 * word-count layout (hoisted no-ids (items-of (verdict-at b u))) ≤ size → Room (each unhoisted-item) all-items b u at size
   judged-room e l = let r = accepted-reads (judged-as e h) in record { value = items-of (verdict-at b u); next = r .0; is = r .1; fits = omega (arith, hoisted-words no-ids (items-of (verdict-at b u)), l) }
 
   pub accepted-behind : {n : ℕ} → v ≡ Accepted n → {new filter t old filter₀ : List ℕ} {at : ℕ} {w : Wrote} → HoistedItemsTo new filter t old filter₀ at b u w → SectionBehindTo new filter t old filter₀ at b u (w .to)

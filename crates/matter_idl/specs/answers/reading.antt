@@ -4,10 +4,11 @@ use mathlib.Core.Path.{_≡_}
 use mathlib.Core.List.{List}
 use lib.ListN.{length, drop}
 use Rattle.lexing.specs.reply.{ok}
+use Rattle.lexing.specs.outcomes.{part-numbers, text-numbers, Among}
 use Rattle.lexing.specs.answers.{onLost}
 use Rattle.lexing.specs.declared.answers.Lost.{Lost}
 use Rattle.items.specs.items.{Item}
-use Rattle.items.specs.layout.{word-count, text-limit}
+use Rattle.items.specs.layout.{layout, word-count, text-limit}
 use Rattle.matter_idl.specs.hoisting.{Tables, hoisted}
 use Rattle.matter_idl.specs.reading.{all-items, accepted, turned-down, verdict-at, verdict}
 use Rattle.matter_idl.specs.declared.reading.Verdict.{Verdict}
@@ -23,14 +24,13 @@ pub record AcceptedAt (n b : ℕ) (u : List ℕ) : Type 0 where
   pub next : ℕ
   pub is : verdict-at b u ≡ accepted items
   pub reads : ok items next (drop (next - b) u) ≡ all-items b u
-  pub words : (t : Tables) → word-count (hoisted t items) ≡ n
+  pub words : (t : Tables) → word-count layout (hoisted t items) ≡ n
   pub few : n ≤ 8 * length u
 
--- or it is refused, by 2 to 6, at a place in it
+-- or it is refused, by a number of a part, at a place in it
 pub record RefusedAt (k v b : ℕ) (u : List ℕ) : Type 0 where
   pub is : verdict-at b u ≡ turned-down k v
-  pub number-from : 1 < k
-  pub number : k < 7
+  pub number : Among part-numbers k
   pub from : b ≤ v
   pub inside : v ≤ b + length u
 
@@ -47,7 +47,7 @@ pub record AcceptedTo (n : ℕ) (u : List ℕ) : Type 0 where
 -- or it is refused, by a number and a value that a result has room for
 pub record RefusedTo (k v : ℕ) (u : List ℕ) : Type 0 where
   pub is : verdict u ≡ turned-down k v
-  pub number : k < 7
+  pub number : Among text-numbers k
   pub value : v ≤ text-limit
 
 abbrev pub VerdictTo : Verdict → List ℕ → Type 0

@@ -5,8 +5,8 @@ use mathlib.Core.Bool.{Bool, true, false}
 use mathlib.Core.List.{List, [], _∷_}
 use lib.ListN.{length}
 use Rattle.items.specs.records.{Record}
-use Rattle.items.proofs.Truth.{All}
-use Rattle.matter_idl.specs.hoisting.{bytes-at}
+use Rattle.lexing.proofs.Truth.{All}
+use Rattle.matter_idl.specs.demand_3.{bytes-at}
 use Rattle.matter_idl.specs.inner.bits.{bits-size, has-bit}
 
 -- every bit of f is set in g

@@ -5,9 +5,10 @@ use mathlib.Core.List.{List, _++_}
 use lib.ListN.{length, take, drop}
 use Rattle.lexing.specs.reply.{ok}
 use Rattle.items.specs.items.{Item}
-use Rattle.items.specs.layout.{layout-20, catalogue-bytes, word-count}
+use Rattle.items.specs.layout.{layout, catalogue-bytes, word-count}
 use Rattle.items.specs.declared.writing.Wrote.{Wrote}
-use Rattle.items.proofs.Truth.{All, ItemTrue}
+use Rattle.lexing.proofs.Truth.{All}
+use Rattle.items.proofs.Truth.{ItemTrue}
 use Rattle.matter_idl.specs.hoisting.{no-ids, hoisted}
 use Rattle.matter_idl.specs.reading.{all-items}
 use Rattle.matter_idl.specs.inner.filter.{Filtered}
@@ -22,8 +23,8 @@ pub record HoistedFront (t out filter : List ℕ) (end : ℕ) : Type 0 where
   pub items : List Item
   pub true-items : All (ItemTrue 0 t (length t)) items
   pub tail : List ℕ
-  pub bytes : out ≡ catalogue-bytes layout-20 (hoisted no-ids items) ++ tail
-  pub ends : end ≡ 8 * word-count (hoisted no-ids items)
+  pub bytes : out ≡ catalogue-bytes layout (hoisted no-ids items) ++ tail
+  pub ends : end ≡ 8 * word-count layout (hoisted no-ids items)
   pub filtered : Filtered filter t (hoisted no-ids items)
 
 -- the items of a part, hoisted behind such records: they stand at the front together, and the rest of the buffer is as it was

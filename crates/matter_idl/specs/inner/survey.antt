@@ -4,10 +4,9 @@ use mathlib.Core.Path.{_≡_}
 use mathlib.Core.Bool.{Bool, true, false}
 use mathlib.Core.List.{List, [], _∷_, _++_}
 use lib.ListN.{length, getD, drop}
-use Rattle.items.specs.records.{bits}
-use Rattle.items.specs.layout.{packed, text-limit}
+use Rattle.items.specs.layout.{packed, offset-width, text-limit}
 use Rattle.matter_idl.specs.reading.{verdict-at}
-use Rattle.matter_idl.specs.survey.{items-of, Entry, sound, spoilt, entry}
+use Rattle.matter_idl.specs.survey.{items-of, ReportEntry, sound, spoilt, report-entry, number-width, report-row}
 use Rattle.matter_idl.specs.inner.bits.{bits-size, has-bit, BitSet}
 use Rattle.matter_idl.specs.inner.reading.{HoistedFront}
 use Rattle.matter_idl.specs.declared.reading.Verdict.{Verdict}
@@ -15,20 +14,20 @@ use Rattle.matter_idl.specs.declared.reading.Verdict.the-variants.{Accep
 
 -- the word of an entry of the report
 abbrev pub entryWord : (start size number place : ℕ) → ℕ
-entryWord b n k p = packed 0 (bits 20 b ∷ bits 20 n ∷ bits 4 k ∷ bits 20 p ∷ [])
+entryWord b n k p = packed 0 (report-row offset-width b n k p)
 
 abbrev pub verdictWord : (start size : ℕ) → Verdict → ℕ
 verdictWord b n (Accepted m) = entryWord b n 0 0
 verdictWord b n (Refused k p) = entryWord b n k p
 
-abbrev pub entryOf : (start size : ℕ) → Verdict → Entry
+abbrev pub entryOf : (start size : ℕ) → Verdict → ReportEntry
 entryOf b n (Accepted m) = sound b n
 entryOf b n (Refused k p) = spoilt b n k p
 
 -- a number and a place that the word has room for
 abbrev pub PlaceFits : Verdict → Type 0
 PlaceFits (Accepted m) = Unit {0}
-PlaceFits (Refused k p) = (k < 16) × (p ≤ text-limit)
+PlaceFits (Refused k p) = (k < 2 ^ number-width) × (p ≤ text-limit)
 
 abbrev pub wordsOf : Verdict → ℕ
 wordsOf (Accepted m) = m
@@ -36,32 +35,32 @@ wordsOf (Refused k p) = 0
 
 -- Which sections are accepted, as the first pass remembers it.
 
-abbrev pub is-sound : Entry → Bool
+abbrev pub is-sound : ReportEntry → Bool
 is-sound (sound b n) = true
 is-sound (spoilt b n k p) = false
 
 -- what stands behind the last entry
-abbrev pub no-entry : Entry
+abbrev pub no-entry : ReportEntry
 no-entry = spoilt 0 0 0 0
 
 -- the bit of a section's number says whether it is accepted
-pub record Marks (marks : List ℕ) (es : List Entry) : Type 0 where
-  pub size : length marks ≡ bits-size
-  pub each-bit : (j : ℕ) → has-bit marks j ≡ is-sound (getD es j no-entry)
+pub record AcceptedBits (bits : List ℕ) (es : List ReportEntry) : Type 0 where
+  pub size : length bits ≡ bits-size
+  pub each-bit : (j : ℕ) → has-bit bits j ≡ is-sound (getD es j no-entry)
 
 abbrev pub Remembered : (new old : List ℕ) → ℕ → Verdict → Type 0
 Remembered new old i (Accepted m) = BitSet new old i
 Remembered new old i (Refused k p) = new ≡ old
 
 -- section i, its mark among them
-pub record MarkTrue (marks : List ℕ) (i b : ℕ) (u : List ℕ) : Type 0 where
-  pub size : length marks ≡ bits-size
+pub record BitTrue (bits : List ℕ) (i b : ℕ) (u : List ℕ) : Type 0 where
+  pub size : length bits ≡ bits-size
   pub place : i < 2 ^ 19
-  pub mark : has-bit marks i ≡ is-sound (entry b (length u) (verdict-at b u))
+  pub mark : has-bit bits i ≡ is-sound (report-entry b (length u) (verdict-at b u))
 
 -- a verdict that is a section's, whatever its words
 pub record Judged (v : Verdict) (b : ℕ) (u : List ℕ) : Type 0 where
-  pub is : entryOf b (length u) v ≡ entry b (length u) (verdict-at b u)
+  pub is : entryOf b (length u) v ≡ report-entry b (length u) (verdict-at b u)
   pub fits : PlaceFits v
 
 -- the items of a section, if it is accepted, hoisted behind those before; the rest of the buffer is as it was

@@ -2,7 +2,7 @@ use Rattle.items.proofs.attributes.access_entry.Statement.{statement}
 use Rattle.items.proofs.attributes.access_entry.Tie as tie
 use Rattle.lexing.specs.answers.{Fail}
 use Rattle.items.specs.members.{access-entry}
-use Rattle.items.proofs.members.Laws.{level-small, level-at-none, level-at-took, colon-on}
+use Rattle.items.proofs.levels.Laws.{level-small, level-at-none, level-at-took, colon-on}
 use Rattle.items.proofs.attributes.Laws.{operation-none, entry-none, entry-is, operation-took}
 use native.Mathlib.Omega.{arith}
 use Rattle.lexing.proofs.Slicing.{begin, go, on, lose, done}

@@ -2,7 +2,7 @@ use borrow.Author.Needs.{needs}
 use Rattle.items.proofs.attributes.attribute_access.Statement.{statement}
 use Rattle.items.proofs.attributes.attribute_access.Tie as tie
 use Rattle.items.specs.members.{access-list}
-use Rattle.items.proofs.members.Laws.{skips-none}
+use Rattle.items.proofs.levels.Laws.{skips-none}
 use Rattle.lexing.proofs.Slicing.{told-not, begin, go, on, fall, done, keyword-took}
 use Rattle.items.proofs.attributes.Laws.{access-elsewhere, access-absent, access-grants, access-refused, entries-onward}
 use mathlib.Core.Path.{refl}

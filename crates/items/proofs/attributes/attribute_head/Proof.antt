@@ -1,7 +1,7 @@
 use borrow.Author.Needs.{needs}
 use Rattle.items.proofs.attributes.attribute_head.Statement.{statement}
 use Rattle.items.proofs.attributes.attribute_head.Tie as tie
-use Rattle.items.specs.inner.attributes.{attribute-head}
+use Rattle.items.specs.inner.attributes.{attribute-head, privilegesLost}
 use Rattle.items.proofs.SetSizes.{fits}
 use Rattle.items.proofs.attributes.Laws.{privileges-small, attribute-access-onward}
 use mathlib.Core.Path.{refl}
@@ -11,7 +11,6 @@ use Rattle.lexing.specs.answers.{wordAt}
 use Rattle.lexing.proofs.Slicing.{rest-self, begin, go, on, lose, fall, done, set-took, keyword-took, step-lost}
 use Rattle.lexing.proofs.AnswerLaws.{read-is, read-not, read-lost, read-took}
 use Rattle.lexing.proofs.steps.Laws.{blank-at-took, gap-at-took, skips-lost}
-use Rattle.items.specs.answers.attributes.{privilegesLost}
 
 keywords-set-requires : tie.Need-keywords-set-requires
 keywords-set-requires c κs = search needs
@@ -78,7 +77,7 @@ returns-3 c = read-not _ refl tt (begin (attribute-head) _ _ (go _ (set-took (re
 
 returns-4 : tie.Need-returns-4
 unfolding attribute-head
-returns-4 c = read-is refl (begin (attribute-head) _ _ (go _ (set-took (rest-self _ _) (c .before .before .before .before .before .before .before .before .before .before .before .before .before .before .before .before .keywords-set .ensures)) (on _ (blank-at-took (c .before .before .before .before .before .before .before .before .before .before .before .before .before .before .before .blank-at .ensures)) (on _ (keyword-took (c .before .before .before .before .before .before .before .before .before .before .before .before .before .before .rest-at .ensures) (c .before .before .before .before .before .before .before .before .before .before .attribute .given .1) (ascii "attribute") (c .before .before .before .before .before .before .before .before .before .before .before .before .keyword .ensures)) (on _ (gap-at-took (c .before .before .before .before .before .before .gap .given .1) (c .before .before .before .before .before .before .before .before .gap-at .ensures)) (go _ (read-took (c .before .before .before .attribute-access .ensures) (c .before .access .given .1) attribute-access-onward (c .before .before .before .before .rest-at2 .ensures) refl) (done _ _ _ _))))))) (record { flags = fits 4 (c .before .before .before .before .before .before .before .before .before .before .before .before .before .before .before .before .keywords-set .ensures); privileges = privileges-small (c .before .before .before .attribute-access .ensures) (c .before .access .given .1) })
+returns-4 c = read-is refl (begin (attribute-head) _ _ (go _ (set-took (rest-self _ _) (c .before .before .before .before .before .before .before .before .before .before .before .before .before .before .before .before .keywords-set .ensures)) (on _ (blank-at-took (c .before .before .before .before .before .before .before .before .before .before .before .before .before .before .before .blank-at .ensures)) (on _ (keyword-took (c .before .before .before .before .before .before .before .before .before .before .before .before .before .before .rest-at .ensures) (c .before .before .before .before .before .before .before .before .before .before .attribute .given .1) (ascii "attribute") (c .before .before .before .before .before .before .before .before .before .before .before .before .keyword .ensures)) (on _ (gap-at-took (c .before .before .before .before .before .before .gap .given .1) (c .before .before .before .before .before .before .before .before .gap-at .ensures)) (go _ (read-took (c .before .before .before .attribute-access .ensures) (c .before .access .given .1) attribute-access-onward (c .before .before .before .before .rest-at2 .ensures) refl) (done _ _ _ _))))))) (record { flags = fits (c .before .before .before .before .before .before .before .before .before .before .before .before .before .before .before .before .keywords-set .ensures); privileges = privileges-small (c .before .before .before .attribute-access .ensures) (c .before .access .given .1) })
 
 pub attribute-head-spec : {M : Type 1} → statement M
 attribute-head-spec =

@@ -2,7 +2,7 @@ use borrow.Author.Needs.{needs}
 use Rattle.items.proofs.attributes.privileges_lost.Statement.{statement}
 use Rattle.items.proofs.attributes.privileges_lost.Tie as tie
 use mathlib.Core.Path.{sym, ap}
-use Rattle.items.specs.answers.attributes.{privilegesLost}
+use Rattle.items.specs.inner.attributes.{privilegesLost}
 
 enum-known-r : tie.Need-enum-known-r
 enum-known-r c = c .match .keys1

@@ -6,11 +6,11 @@ use Prim.Native.Nat.{_+_}
 use native.Mathlib.Omega.{arith}
 use Rattle.lexing.proofs.AnswerLaws.{read-within}
 use Rattle.items.specs.answers.{frontOf}
-use Rattle.items.specs.answers.structs.{structFieldLost}
+use Rattle.items.specs.inner.fields.{structFieldLost}
 use Rattle.items.specs.inner.attributes.{attributeHeadLost}
 use Rattle.items.proofs.Headed.{headed-found, headed-room, headed-written}
 use Rattle.items.proofs.writing.Laws.{no-room, written-same}
-use Rattle.items.proofs.structs.Laws.{struct-field-none, closed-field-on, field-in-limit}
+use Rattle.items.proofs.fields.Laws.{struct-field-none, closed-field-on, struct-between-wider}
 use Rattle.items.proofs.attributes.Laws.{attribute-head-took, attribute-head-none, attribute-headed, attribute-first-is, field-counted, field-room, field-written}
 
 attribute-head-requires : tie.Need-attribute-head-requires
@@ -44,7 +44,7 @@ add-put-field : tie.Need-add-put-field
 add-put-field c = let z = (field-room (c .before .before .before .before .closed-field .ensures) (c .before .before .r .given .1) (headed-room attribute-headed (frontOf (c .before .before .before .before .before .before .before .before .before .before .before .before .args .front)) (c .before .before .before .before .before .before .before .before .before .before .before .before .pre .1 .1) closed-field-on (attribute-head-took (c .before .before .before .before .before .before .before .before .before .attribute-head .ensures) (c .before .before .before .before .before .before .before .head .given .1)) (c .before .before .before .before .before .rest-at .ensures))) in omega (arith, z, c .before .before .before .before .before .before .before .before .before .before .before .before .good)
 
 put-field-requires : tie.Need-put-field-requires
-put-field-requires c κs = let z = (field-room (c .before .before .before .before .closed-field .ensures) (c .before .before .r .given .1) (headed-room attribute-headed (frontOf (c .before .before .before .before .before .before .before .before .before .before .before .before .args .front)) (c .before .before .before .before .before .before .before .before .before .before .before .before .pre .1 .1) closed-field-on (attribute-head-took (c .before .before .before .before .before .before .before .before .before .attribute-head .ensures) (c .before .before .before .before .before .before .before .head .given .1)) (c .before .before .before .before .before .rest-at .ensures))) in let k = field-counted (c .before .before .before .before .closed-field .ensures) (c .before .before .r .given .1) (c .before .before .before .before .before .rest-at .ensures) in (omega (arith, z), field-in-limit (read-within (c .before .before .before .before .closed-field .ensures) (c .before .before .r .given .1)) (omega (arith, k .step .inside, c .before .before .before .before .before .before .before .before .before .before .before .before .pre .0)))
+put-field-requires c κs = let z = (field-room (c .before .before .before .before .closed-field .ensures) (c .before .before .r .given .1) (headed-room attribute-headed (frontOf (c .before .before .before .before .before .before .before .before .before .before .before .before .args .front)) (c .before .before .before .before .before .before .before .before .before .before .before .before .pre .1 .1) closed-field-on (attribute-head-took (c .before .before .before .before .before .before .before .before .before .attribute-head .ensures) (c .before .before .before .before .before .before .before .head .given .1)) (c .before .before .before .before .before .rest-at .ensures))) in let k = field-counted (c .before .before .before .before .closed-field .ensures) (c .before .before .r .given .1) (c .before .before .before .before .before .rest-at .ensures) in (omega (arith, z), struct-between-wider (omega arith) (omega (arith, k .step .inside, c .before .before .before .before .before .before .before .before .before .before .before .before .pre .0)) (read-within (c .before .before .before .before .closed-field .ensures) (c .before .before .r .given .1)))
 
 put-attribute-requires : tie.Need-put-attribute-requires
 put-attribute-requires c κs = let z = (field-room (c .before .before .before .before .before .before .before .before .closed-field .ensures) (c .before .before .before .before .before .before .r .given .1) (headed-room attribute-headed (frontOf (c .before .before .before .before .before .before .before .before .before .before .before .before .before .before .before .before .args .front)) (c .before .before .before .before .before .before .before .before .before .before .before .before .before .before .before .before .pre .1 .1) closed-field-on (attribute-head-took (c .before .before .before .before .before .before .before .before .before .before .before .before .before .attribute-head .ensures) (c .before .before .before .before .before .before .before .before .before .before .before .head .given .1)) (c .before .before .before .before .before .before .before .before .before .rest-at .ensures))) in let y = written-same (headed-room attribute-headed (frontOf (c .before .before .before .before .before .before .before .before .before .before .before .before .before .before .before .before .args .front)) (c .before .before .before .before .before .before .before .before .before .before .before .before .before .before .before .before .pre .1 .1) closed-field-on (attribute-head-took (c .before .before .before .before .before .before .before .before .before .before .before .before .before .attribute-head .ensures) (c .before .before .before .before .before .before .before .before .before .before .before .head .given .1)) (c .before .before .before .before .before .before .before .before .before .rest-at .ensures)) (field-written (c .before .before .before .before .before .before .before .before .closed-field .ensures) (c .before .before .before .before .before .before .r .given .1) (c .before .before .before .before .before .before .before .before .before .before .before .before .before .before .before .before .args .at + 48) (omega arith) (c .before .before .before .put-field .ensures)) refl in (omega (arith, z, y), (c .before .before .before .before .before .before .before .before .before .before .before .before .before .before .before .before .pre .1 .0, read-within (c .before .before .before .before .before .before .before .before .before .before .before .before .before .attribute-head .ensures) (c .before .before .before .before .before .before .before .before .before .before .before .head .given .1)))

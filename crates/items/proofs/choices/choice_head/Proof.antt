@@ -11,7 +11,7 @@ use Rattle.lexing.proofs.AnswerLaws.{read-not, read-lost}
 use Rattle.lexing.proofs.Pairs.{pair-on, pair-fall, three-go, three-lose}
 use Rattle.lexing.proofs.steps.Laws.{blank-at-took, tag-behind-took, skips-lost}
 use Rattle.lexing.proofs.words.Laws.{word-at-took, word-at-lost}
-use Rattle.lexing.specs.names.{namedLost}
+use Rattle.lexing.specs.answers.names.{namedLost}
 
 rest-at-requires : tie.Need-rest-at-requires
 rest-at-requires c κs = let t = (shared-took (c .before .before .pre .1 .0)) .step in omega (arith, t .up, t .inside)

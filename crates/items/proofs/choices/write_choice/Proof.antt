@@ -4,7 +4,7 @@ use mathlib.Core.Path.{refl, sym, ap}
 use native.Mathlib.Omega.{arith}
 use Rattle.lexing.proofs.Slicing.{rest-self}
 use Rattle.items.specs.answers.{frontOf}
-use Rattle.items.specs.answers.choices.{choiceHeadLost}
+use Rattle.items.specs.inner.choices.{choiceHeadLost}
 use Rattle.lexing.proofs.AnswerLaws.{read-took, read-lost, read-within}
 use Rattle.items.proofs.Headed.{headed-found, headed-room, headed-written}
 use Rattle.items.proofs.writing.Laws.{written-same}

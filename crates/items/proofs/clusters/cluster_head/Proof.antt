@@ -9,9 +9,9 @@ use Rattle.lexing.proofs.Slicing.{rest-self, begin, on, fall, done}
 use Rattle.lexing.proofs.AnswerLaws.{read-is, read-not, read-lost}
 use Rattle.lexing.proofs.Pairs.{three-go, three-lose, four-go, four-lose}
 use Rattle.lexing.proofs.steps.Laws.{blank-at-took}
-use Rattle.lexing.specs.names.{namedLost}
+use Rattle.lexing.specs.answers.names.{namedLost}
 use Rattle.lexing.proofs.Dropping.{opt-skips}
-use Rattle.lexing.proofs.optional.Laws.{skip-took, skip-lost}
+use Rattle.lexing.proofs.answers.Laws.{skip-took, skip-lost}
 use Rattle.items.proofs.clusters.Whole.{side-on}
 
 side-requires : tie.Need-side-requires
@@ -55,8 +55,8 @@ returns-2 : tie.Need-returns-2
 unfolding cluster-head
 returns-2 c = read-not _ refl tt (begin (cluster-head) _ _ (on _ (skip-took side-on (rest-self _ _) (c .before .before .before .before .before .before .before .o .given .1) (opt-skips (c .before .before .before .before .before .before .before .before .before .before .side .result) (c .before .before .before .before .before .before .before .before .before .before .side .ensures) (c .before .before .before .before .before .before .before .before .before .optional .ensures))) (three-lose _ _ _ _ (c .named-lost .result) (c .before .before .before .before .before .rest-at .ensures) (read-lost (c .before .before .before .keyword-name .ensures) (c .before .enum-told2 .given .1) namedLost (c .named-lost .ensures) refl))))
 
-code-behind-requires : tie.Need-code-behind-requires
-code-behind-requires c κs = let t = named-took (c .before .before .before .keyword-name .ensures) (c .before .named .given .1) (keyword-name-on _) (c .before .before .before .before .before .rest-at .ensures) in omega (arith, t .up, t .inside, c .before .before .before .before .before .rest-at .ensures .from, c .before .before .before .before .before .before .before .before .before .before .before .before .pre)
+blank-equals-code-requires : tie.Need-blank-equals-code-requires
+blank-equals-code-requires c κs = let t = named-took (c .before .before .before .keyword-name .ensures) (c .before .named .given .1) (keyword-name-on _) (c .before .before .before .before .before .rest-at .ensures) in omega (arith, t .up, t .inside, c .before .before .before .before .before .rest-at .ensures .from, c .before .before .before .before .before .before .before .before .before .before .before .before .pre)
 
 enum-known-number : tie.Need-enum-known-number
 enum-known-number c = c .match3 .keys1
@@ -69,14 +69,14 @@ number-lost-requires c κs = tt
 
 returns-3 : tie.Need-returns-3
 unfolding cluster-head
-returns-3 c = read-not _ refl tt (begin (cluster-head) _ _ (on _ (skip-took side-on (rest-self _ _) (c .before .before .before .before .before .before .before .before .before .before .before .o .given .1) (opt-skips (c .before .before .before .before .before .before .before .before .before .before .before .before .before .before .side .result) (c .before .before .before .before .before .before .before .before .before .before .before .before .before .before .side .ensures) (c .before .before .before .before .before .before .before .before .before .before .before .before .before .optional .ensures))) (three-go _ _ _ _ (named-took (c .before .before .before .before .before .before .before .keyword-name .ensures) (c .before .before .before .before .before .named .given .1) (keyword-name-on _) (c .before .before .before .before .before .before .before .before .before .rest-at .ensures)) (four-lose _ _ _ _ _ (c .number-lost .result) (c .before .before .before .code-behind .ensures .at) (number-at-lost (c .before .before .before .code-behind .ensures) (c .number-lost .ensures) (c .before .enum-told3 .given .1))))))
+returns-3 c = read-not _ refl tt (begin (cluster-head) _ _ (on _ (skip-took side-on (rest-self _ _) (c .before .before .before .before .before .before .before .before .before .before .before .o .given .1) (opt-skips (c .before .before .before .before .before .before .before .before .before .before .before .before .before .before .side .result) (c .before .before .before .before .before .before .before .before .before .before .before .before .before .before .side .ensures) (c .before .before .before .before .before .before .before .before .before .before .before .before .before .optional .ensures))) (three-go _ _ _ _ (named-took (c .before .before .before .before .before .before .before .keyword-name .ensures) (c .before .before .before .before .before .named .given .1) (keyword-name-on _) (c .before .before .before .before .before .before .before .before .before .rest-at .ensures)) (four-lose _ _ _ _ _ (c .number-lost .result) (c .before .before .before .blank-equals-code .ensures .at) (number-at-lost (c .before .before .before .blank-equals-code .ensures) (c .number-lost .ensures) (c .before .enum-told3 .given .1))))))
 
 blank-at-requires : tie.Need-blank-at-requires
-blank-at-requires c κs = let t = number-at-took (c .before .before .before .code-behind .ensures) code-behind-on (c .before .number .given .1) in omega (arith, t .up, t .inside, c .before .before .before .code-behind .ensures .at .from, c .before .before .before .before .before .before .before .before .before .before .before .before .before .before .before .before .pre)
+blank-at-requires c κs = let t = number-at-took (c .before .before .before .blank-equals-code .ensures) code-behind-on (c .before .number .given .1) in omega (arith, t .up, t .inside, c .before .before .before .blank-equals-code .ensures .at .from, c .before .before .before .before .before .before .before .before .before .before .before .before .before .before .before .before .pre)
 
 returns-4 : tie.Need-returns-4
 unfolding cluster-head
-returns-4 c = read-is refl (begin (cluster-head) _ _ (on _ (skip-took side-on (rest-self _ _) (c .before .before .before .before .before .before .before .before .before .before .before .before .o .given .1) (opt-skips (c .before .before .before .before .before .before .before .before .before .before .before .before .before .before .before .side .result) (c .before .before .before .before .before .before .before .before .before .before .before .before .before .before .before .side .ensures) (c .before .before .before .before .before .before .before .before .before .before .before .before .before .before .optional .ensures))) (three-go _ _ _ _ (named-took (c .before .before .before .before .before .before .before .before .keyword-name .ensures) (c .before .before .before .before .before .before .named .given .1) (keyword-name-on _) (c .before .before .before .before .before .before .before .before .before .before .rest-at .ensures)) (four-go _ _ _ _ _ (number-at-took (c .before .before .before .before .code-behind .ensures) code-behind-on (c .before .before .number .given .1)) (on _ (blank-at-took (c .blank-at .ensures)) (done _ _ _ _)))))) (let w = named-in (c .before .before .before .before .before .before .before .before .keyword-name .ensures) (c .before .before .before .before .before .before .named .given .1) in record { from = omega (arith, w .from, c .before .before .before .before .before .before .before .before .before .before .rest-at .ensures .from); up = w .up; inside = omega (arith, w .inside, (number-at-took (c .before .before .before .before .code-behind .ensures) code-behind-on (c .before .before .number .given .1)) .up, (blank-at-took (c .blank-at .ensures)) .up) })
+returns-4 c = read-is refl (begin (cluster-head) _ _ (on _ (skip-took side-on (rest-self _ _) (c .before .before .before .before .before .before .before .before .before .before .before .before .o .given .1) (opt-skips (c .before .before .before .before .before .before .before .before .before .before .before .before .before .before .before .side .result) (c .before .before .before .before .before .before .before .before .before .before .before .before .before .before .before .side .ensures) (c .before .before .before .before .before .before .before .before .before .before .before .before .before .before .optional .ensures))) (three-go _ _ _ _ (named-took (c .before .before .before .before .before .before .before .before .keyword-name .ensures) (c .before .before .before .before .before .before .named .given .1) (keyword-name-on _) (c .before .before .before .before .before .before .before .before .before .before .rest-at .ensures)) (four-go _ _ _ _ _ (number-at-took (c .before .before .before .before .blank-equals-code .ensures) code-behind-on (c .before .before .number .given .1)) (on _ (blank-at-took (c .blank-at .ensures)) (done _ _ _ _)))))) (let w = named-in (c .before .before .before .before .before .before .before .before .keyword-name .ensures) (c .before .before .before .before .before .before .named .given .1) in record { from = omega (arith, w .from, c .before .before .before .before .before .before .before .before .before .before .rest-at .ensures .from); up = w .up; inside = omega (arith, w .inside, (number-at-took (c .before .before .before .before .blank-equals-code .ensures) code-behind-on (c .before .before .number .given .1)) .up, (blank-at-took (c .blank-at .ensures)) .up) })
 
 pub cluster-head-spec : {M : Type 1} → statement M
 cluster-head-spec =
@@ -95,7 +95,7 @@ cluster-head-spec =
     enum-told-2
     named-lost-requires
     returns-2
-    code-behind-requires
+    blank-equals-code-requires
     enum-known-number
     enum-told-3
     number-lost-requires

@@ -2,7 +2,7 @@ use borrow.Author.Needs.{needs}
 use Rattle.items.proofs.clusters.cluster_head_lost.Statement.{statement}
 use Rattle.items.proofs.clusters.cluster_head_lost.Tie as tie
 use mathlib.Core.Path.{sym, ap}
-use Rattle.items.specs.answers.clusters.{clusterHeadLost}
+use Rattle.items.specs.inner.clusters.{clusterHeadLost}
 
 enum-known-r : tie.Need-enum-known-r
 enum-known-r c = c .match .keys1

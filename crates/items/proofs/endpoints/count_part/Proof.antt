@@ -6,8 +6,8 @@ use Rattle.lexing.specs.bytes.{ascii, lower}
 use Rattle.lexing.specs.names.{named-after}
 use Rattle.items.specs.endpoints.{device-type, cluster-instantiation, device, binding, instantiation, part-tries}
 use Rattle.items.specs.records.{part-records}
-use Rattle.items.proofs.endpoints.Deep.{tried-by}
-use Rattle.items.proofs.endpoints.Laws.{instantiation-alone, binding-alone, device-alone}
+use Rattle.items.proofs.Deep.{tried-by}
+use Rattle.items.proofs.instances.Laws.{instantiation-alone, binding-alone, device-alone}
 
 peek-requires : tie.Need-peek-requires
 peek-requires c κs = tt
@@ -15,8 +15,8 @@ peek-requires c κs = tt
 lower-of-requires : tie.Need-lower-of-requires
 lower-of-requires c κs = tt
 
-cluster-instantiation-requires : tie.Need-cluster-instantiation-requires
-cluster-instantiation-requires c κs = search needs
+count-cluster-instantiation-requires : tie.Need-count-cluster-instantiation-requires
+count-cluster-instantiation-requires c κs = search needs
 
 count-binding-requires : tie.Need-count-binding-requires
 count-binding-requires c κs = search needs
@@ -25,7 +25,7 @@ count-device-type-requires : tie.Need-count-device-type-requires
 count-device-type-requires c κs = search needs
 
 returns : tie.Need-returns
-returns c = tried-by part-records part-tries instantiation cluster-instantiation (c .cluster-instantiation .result) (instantiation-alone _ _ (c .before .before .before .before .before .pre .1) ((ap lower (sym (c .before .before .before .peek .ensures)) ∙ sym (c .before .before .lower-of .ensures)) ∙ c .before .match .keys1)) (c .cluster-instantiation .ensures)
+returns c = tried-by part-records part-tries instantiation cluster-instantiation (c .count-cluster-instantiation .result) (instantiation-alone _ _ (c .before .before .before .before .before .pre .1) ((ap lower (sym (c .before .before .before .peek .ensures)) ∙ sym (c .before .before .lower-of .ensures)) ∙ c .before .match .keys1)) (c .count-cluster-instantiation .ensures)
 
 returns-2 : tie.Need-returns-2
 returns-2 c = tried-by part-records part-tries binding (named-after (ascii "binding") (ascii "cluster")) (c .count-binding .result) (binding-alone _ _ (c .before .before .before .before .before .pre .1) ((ap lower (sym (c .before .before .before .peek .ensures)) ∙ sym (c .before .before .lower-of .ensures)) ∙ c .before .match .keys2)) (c .count-binding .ensures)
@@ -39,7 +39,7 @@ count-part-spec =
     (tie.spec
     peek-requires
     lower-of-requires
-    cluster-instantiation-requires
+    count-cluster-instantiation-requires
     count-binding-requires
     count-device-type-requires
     returns

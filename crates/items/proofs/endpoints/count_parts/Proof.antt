@@ -11,7 +11,7 @@ use Rattle.items.specs.endpoints.{part-tries}
 use Rattle.items.proofs.Locality.{part-tries-inside, part-tries-consumes}
 use Rattle.items.proofs.RecordWords.{each-elementwise}
 use Rattle.lexing.proofs.steps.Laws.{blank-at-took, rest-clear}
-use Rattle.items.proofs.endpoints.Deep.{Seeking, seeking-start, seeking-more, seeking-closed, seeking-lost}
+use Rattle.items.proofs.Deep.{Seeking, seeking-start, seeking-more, seeking-closed, seeking-lost}
 use Rattle.items.proofs.endpoints.Laws.{parts-unclosing, parts-nearer}
 
 abbrev Inv-loop : tie.InvT-loop

@@ -80,4 +80,28 @@ unfolding device-version
 returns-5 c = (begin (device-version) _ _ (pair-on _ _ _ (tag-behind-took 44 (c .before .before .before .before .before .before .before .before .before .before .before .before .before .before .comma .given .1) (c .before .before .before .before .before .before .before .before .before .before .before .before .before .before .before .before .tag-behind .ensures)) (pair-on _ _ _ (keyword-behind-took (ascii "version") (c .before .before .before .before .before .before .before .before .before .key .given .1) (c .before .before .before .before .before .before .before .before .before .before .before .keyword-behind .ensures)) (pair-go _ _ _ (integer-behind-took (c .before .before .before .before .before .before .before .integer-behind .ensures) (c .before .before .before .before .before .number .given .1)) (pair-on _ _ _ (tag-behind-took 59 (c .before .semicolon .given .1) (c .before .before .before .tag-behind2 .ensures)) (done _ _ _ _))))))
 
 pub device-version-spec : {M : Type 1} → statement M
-device-version-spec = tie.close (tie.spec tag-behind-requires enum-known-comma enum-told step-lost-requires returns slice-aggregate-keyword-behind keyword-behind-requires enum-known-key enum-told-2 step-lost-requires-2 returns-2 integer-behind-requires enum-known-number enum-told-3 number-lost-requires returns-3 tag-behind-requires-2 enum-known-semicolon enum-told-4 step-lost-requires-3 returns-4 returns-5)
+device-version-spec =
+    tie.close
+    (tie.spec
+    tag-behind-requires
+    enum-known-comma
+    enum-told
+    step-lost-requires
+    returns
+    slice-aggregate-keyword-behind
+    keyword-behind-requires
+    enum-known-key
+    enum-told-2
+    step-lost-requires-2
+    returns-2
+    integer-behind-requires
+    enum-known-number
+    enum-told-3
+    number-lost-requires
+    returns-3
+    tag-behind-requires-2
+    enum-known-semicolon
+    enum-told-4
+    step-lost-requires-3
+    returns-4
+    returns-5)

@@ -9,7 +9,7 @@ use Rattle.items.specs.endpoints.{part-tries}
 use Rattle.items.proofs.Headed.{headed-found, headed-room, headed-written}
 use Rattle.items.proofs.writing.Laws.{written-same}
 use Rattle.lexing.proofs.names.Laws.{number-took}
-use Rattle.items.proofs.endpoints.Placed.{rest-inner, opened, opened-room, opened-written}
+use Rattle.items.proofs.Placed.{rest-inner, opened, opened-room, opened-written}
 use Rattle.items.proofs.endpoints.Laws.{parts-on, parts-run-on, endpoint-head-on, endpoint-headed, endpoint-first-is}
 
 endpoint-head-requires : tie.Need-endpoint-head-requires

@@ -15,9 +15,10 @@ use Rattle.items.specs.endpoints.{device-type, cluster-instantiation, de
 use Rattle.lexing.proofs.AnswerLaws.{read-took, read-within, reads-as}
 use Rattle.items.proofs.Mapped.{mapped-ok, mapped-not}
 use Rattle.items.proofs.writing.Laws.{read-room, read-written}
-use Rattle.items.proofs.endpoints.Placed.{try-took, mapped-room, mapped-written, first-found, second-found, first-missed, second-missed, third-room, third-written}
+use Rattle.items.proofs.Placed.{try-took, mapped-room, mapped-written, first-found, second-found, first-missed, second-missed, third-room, third-written}
 use Rattle.lexing.proofs.names.Laws.{named-in, named-took, named-after-on}
-use Rattle.items.proofs.endpoints.Laws.{clear-binding, device-type-on, device-words, binding-words, name-parts-is, device-parts-is, name-in-limit}
+use Rattle.items.proofs.instances.Laws.{clear-binding, name-parts-is, device-parts-is, name-in-limit}
+use Rattle.items.proofs.endpoints.Laws.{device-type-on, device-words, binding-words}
 
 device-type-requires : tie.Need-device-type-requires
 device-type-requires c κs = search needs

@@ -7,7 +7,7 @@ use mathlib.Core.List.{List, []}
 use lib.ListN.{length}
 use Rattle.lexing.proofs.Repetition.{ManyAt, many0-start, many0-step}
 use Rattle.items.specs.entries.{Annotation, blank-annotation}
-use Rattle.lexing.proofs.optional.Laws.{skip-took}
+use Rattle.lexing.proofs.answers.Laws.{skip-took}
 use Rattle.lexing.proofs.Dropping.{many0-skips}
 use Rattle.items.proofs.entries.Laws.{annotation-behind, blank-annotation-onward, blank-annotation-consumes}
 

@@ -8,7 +8,7 @@ use Rattle.items.proofs.entries.Laws.{skip-all, last-pair, annotations-
 use mathlib.Core.Path.{sym}
 use native.Mathlib.Omega.{arith}
 use Rattle.lexing.proofs.Slicing.{rest-self, begin, go, on, lose, fall, tag-took, step-lost}
-use Rattle.lexing.proofs.optional.Laws.{skip-took, skip-lost}
+use Rattle.lexing.proofs.answers.Laws.{skip-took, skip-lost}
 
 tag-requires : tie.Need-tag-requires
 tag-requires c κs = search needs

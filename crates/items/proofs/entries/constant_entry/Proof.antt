@@ -9,10 +9,10 @@ use native.Mathlib.Omega.{arith}
 use Rattle.lexing.proofs.Slicing.{rest-self, begin, go, on, lose}
 use Rattle.lexing.proofs.AnswerLaws.{read-is, read-not, last-lost}
 use Rattle.lexing.proofs.Pairs.{three-go, three-lose, between-go}
-use Rattle.items.proofs.maturity.Laws.{between-took}
 use Rattle.lexing.proofs.steps.Laws.{blank-at-took}
 use Rattle.lexing.proofs.words.Laws.{word-at-took, word-at-lost}
 use Rattle.lexing.proofs.names.Laws.{equals-code-on, number-at-took, number-at-lost}
+use Rattle.items.proofs.maturity.Laws.{between-took}
 
 maturity-between-requires : tie.Need-maturity-between-requires
 maturity-between-requires c κs = search needs
@@ -36,8 +36,8 @@ returns c = read-not _ refl tt (begin (constant-entry) _ _ (between-go _ _ _ _ (
 blank-at-requires : tie.Need-blank-at-requires
 blank-at-requires c κs = let t = word-at-took (c .before .name .given .1) (c .before .before .before .id-at .ensures) in omega (arith, t .up, t .inside, c .before .before .before .id-at .ensures .at .from, c .before .before .before .before .before .before .pre)
 
-code-at-requires : tie.Need-code-at-requires
-code-at-requires c κs = let t = blank-at-took (c .blank-at .ensures) in omega (arith, t .up, t .inside, c .blank-at .ensures .at .from, c .before .before .before .before .before .before .before .pre)
+equals-code-requires : tie.Need-equals-code-requires
+equals-code-requires c κs = let t = blank-at-took (c .blank-at .ensures) in omega (arith, t .up, t .inside, c .blank-at .ensures .at .from, c .before .before .before .before .before .before .before .pre)
 
 enum-known-value : tie.Need-enum-known-value
 enum-known-value c = c .match2 .keys1
@@ -50,10 +50,10 @@ number-lost-requires c κs = tt
 
 returns-2 : tie.Need-returns-2
 unfolding constant-entry entry-end
-returns-2 c = read-not _ refl tt (begin (constant-entry) _ _ (between-go _ _ _ _ (between-took (rest-self _ _) (c .before .before .before .before .before .before .before .before .before .maturity-between .ensures)) (go _ (word-at-took (c .before .before .before .before .before .before .name .given .1) (c .before .before .before .before .before .before .before .before .id-at .ensures)) (on _ (blank-at-took (c .before .before .before .before .blank-at .ensures)) (three-lose _ _ _ _ (c .number-lost .result) (c .before .before .before .code-at .ensures .at) (number-at-lost (c .before .before .before .code-at .ensures) (c .number-lost .ensures) (c .before .enum-told2 .given .1)))))))
+returns-2 c = read-not _ refl tt (begin (constant-entry) _ _ (between-go _ _ _ _ (between-took (rest-self _ _) (c .before .before .before .before .before .before .before .before .before .maturity-between .ensures)) (go _ (word-at-took (c .before .before .before .before .before .before .name .given .1) (c .before .before .before .before .before .before .before .before .id-at .ensures)) (on _ (blank-at-took (c .before .before .before .before .blank-at .ensures)) (three-lose _ _ _ _ (c .number-lost .result) (c .before .before .before .equals-code .ensures .at) (number-at-lost (c .before .before .before .equals-code .ensures) (c .number-lost .ensures) (c .before .enum-told2 .given .1)))))))
 
 rest-at-requires : tie.Need-rest-at-requires
-rest-at-requires c κs = let t = number-at-took (c .before .before .before .code-at .ensures) equals-code-on (c .before .value .given .1) in omega (arith, t .up, t .inside, c .before .before .before .code-at .ensures .at .from)
+rest-at-requires c κs = let t = number-at-took (c .before .before .before .equals-code .ensures) equals-code-on (c .before .value .given .1) in omega (arith, t .up, t .inside, c .before .before .before .equals-code .ensures .at .from)
 
 entry-end-requires : tie.Need-entry-end-requires
 entry-end-requires c κs = omega (arith, c .rest-at .ensures .size, c .before .before .before .before .before .before .before .before .before .before .before .before .pre)
@@ -69,11 +69,11 @@ step-lost-requires-2 c κs = tt
 
 returns-3 : tie.Need-returns-3
 unfolding constant-entry entry-end
-returns-3 c = read-not _ refl tt (begin (constant-entry) _ _ (between-go _ _ _ _ (between-took (rest-self _ _) (c .before .before .before .before .before .before .before .before .before .before .before .before .before .before .maturity-between .ensures)) (go _ (word-at-took (c .before .before .before .before .before .before .before .before .before .before .before .name .given .1) (c .before .before .before .before .before .before .before .before .before .before .before .before .before .id-at .ensures)) (on _ (blank-at-took (c .before .before .before .before .before .before .before .before .before .blank-at .ensures)) (three-go _ _ _ _ (number-at-took (c .before .before .before .before .before .before .before .before .code-at .ensures) equals-code-on (c .before .before .before .before .before .before .value .given .1)) (last-lost (entry-end _) (c .step-lost2 .result) (c .before .before .before .before .rest-at .ensures) (end-none _ (c .step-lost2 .ensures) (c .before .enum-told3 .given .1) (c .before .before .before .entry-end .ensures))))))))
+returns-3 c = read-not _ refl tt (begin (constant-entry) _ _ (between-go _ _ _ _ (between-took (rest-self _ _) (c .before .before .before .before .before .before .before .before .before .before .before .before .before .before .maturity-between .ensures)) (go _ (word-at-took (c .before .before .before .before .before .before .before .before .before .before .before .name .given .1) (c .before .before .before .before .before .before .before .before .before .before .before .before .before .id-at .ensures)) (on _ (blank-at-took (c .before .before .before .before .before .before .before .before .before .blank-at .ensures)) (three-go _ _ _ _ (number-at-took (c .before .before .before .before .before .before .before .before .equals-code .ensures) equals-code-on (c .before .before .before .before .before .before .value .given .1)) (last-lost (entry-end _) (c .step-lost2 .result) (c .before .before .before .before .rest-at .ensures) (end-none _ (c .step-lost2 .ensures) (c .before .enum-told3 .given .1) (c .before .before .before .entry-end .ensures))))))))
 
 returns-4 : tie.Need-returns-4
 unfolding constant-entry entry-end
-returns-4 c = read-is refl (begin (constant-entry) _ _ (between-go _ _ _ _ (between-took (rest-self _ _) (c .before .before .before .before .before .before .before .before .before .before .before .before .before .before .maturity-between .ensures)) (go _ (word-at-took (c .before .before .before .before .before .before .before .before .before .before .before .name .given .1) (c .before .before .before .before .before .before .before .before .before .before .before .before .before .id-at .ensures)) (on _ (blank-at-took (c .before .before .before .before .before .before .before .before .before .blank-at .ensures)) (three-go _ _ _ _ (number-at-took (c .before .before .before .before .before .before .before .before .code-at .ensures) equals-code-on (c .before .before .before .before .before .before .value .given .1)) (sym ((end-took _ (c .before .before .before .before .rest-at .ensures) (c .before .last .given .1) (c .before .before .before .entry-end .ensures)) .goes))))))) (record { from = c .before .before .before .before .before .before .before .before .before .before .before .before .before .before .maturity-between .ensures .up; up = (word-at-took (c .before .before .before .before .before .before .before .before .before .before .before .name .given .1) (c .before .before .before .before .before .before .before .before .before .before .before .before .before .id-at .ensures)) .up; inside = omega (arith, (blank-at-took (c .before .before .before .before .before .before .before .before .before .blank-at .ensures)) .up, (number-at-took (c .before .before .before .before .before .before .before .before .code-at .ensures) equals-code-on (c .before .before .before .before .before .before .value .given .1)) .up, end-up (c .before .last .given .1) (c .before .before .before .entry-end .ensures)); small = c .before .before .before .before .before .before .before .before .before .before .before .before .before .before .maturity-between .ensures .small })
+returns-4 c = read-is refl (begin (constant-entry) _ _ (between-go _ _ _ _ (between-took (rest-self _ _) (c .before .before .before .before .before .before .before .before .before .before .before .before .before .before .maturity-between .ensures)) (go _ (word-at-took (c .before .before .before .before .before .before .before .before .before .before .before .name .given .1) (c .before .before .before .before .before .before .before .before .before .before .before .before .before .id-at .ensures)) (on _ (blank-at-took (c .before .before .before .before .before .before .before .before .before .blank-at .ensures)) (three-go _ _ _ _ (number-at-took (c .before .before .before .before .before .before .before .before .equals-code .ensures) equals-code-on (c .before .before .before .before .before .before .value .given .1)) (sym ((end-took _ (c .before .before .before .before .rest-at .ensures) (c .before .last .given .1) (c .before .before .before .entry-end .ensures)) .goes))))))) (record { from = c .before .before .before .before .before .before .before .before .before .before .before .before .before .before .maturity-between .ensures .up; up = (word-at-took (c .before .before .before .before .before .before .before .before .before .before .before .name .given .1) (c .before .before .before .before .before .before .before .before .before .before .before .before .before .id-at .ensures)) .up; inside = omega (arith, (blank-at-took (c .before .before .before .before .before .before .before .before .before .blank-at .ensures)) .up, (number-at-took (c .before .before .before .before .before .before .before .before .equals-code .ensures) equals-code-on (c .before .before .before .before .before .before .value .given .1)) .up, end-up (c .before .last .given .1) (c .before .before .before .entry-end .ensures)); small = c .before .before .before .before .before .before .before .before .before .before .before .before .before .before .maturity-between .ensures .small })
 
 pub constant-entry-spec : {M : Type 1} → statement M
 constant-entry-spec =
@@ -86,7 +86,7 @@ constant-entry-spec =
     step-lost-requires
     returns
     blank-at-requires
-    code-at-requires
+    equals-code-requires
     enum-known-value
     enum-told-2
     number-lost-requires

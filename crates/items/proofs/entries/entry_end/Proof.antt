@@ -6,7 +6,7 @@ use mathlib.Core.Path.{sym}
 use native.Mathlib.Omega.{arith}
 use Rattle.lexing.proofs.Slicing.{begin, on, fall}
 use Rattle.lexing.proofs.steps.Laws.{blank-at-took}
-use Rattle.lexing.proofs.optional.Laws.{skip-took, skip-lost}
+use Rattle.lexing.proofs.answers.Laws.{skip-took, skip-lost}
 
 blank-at-requires : tie.Need-blank-at-requires
 blank-at-requires c κs = omega (arith, c .before .pre)

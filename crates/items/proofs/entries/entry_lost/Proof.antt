@@ -2,7 +2,7 @@ use borrow.Author.Needs.{needs}
 use Rattle.items.proofs.entries.entry_lost.Statement.{statement}
 use Rattle.items.proofs.entries.entry_lost.Tie as tie
 use mathlib.Core.Path.{sym, ap}
-use Rattle.items.specs.answers.entries.{entryLost}
+use Rattle.items.specs.inner.entries.{entryLost}
 
 enum-known-r : tie.Need-enum-known-r
 enum-known-r c = c .match .keys1

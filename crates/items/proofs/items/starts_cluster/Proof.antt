@@ -2,7 +2,7 @@ use borrow.Author.Needs.{needs}
 use Rattle.items.proofs.items.starts_cluster.Statement.{statement}
 use Rattle.items.proofs.items.starts_cluster.Tie as tie
 use Rattle.lexing.specs.bytes.{ascii}
-use Rattle.items.proofs.clusters.Laws.{any-yes, any-more}
+use Rattle.items.proofs.member_kinds.Laws.{any-yes, any-more}
 
 slice-aggregate-starts : tie.Need-slice-aggregate-starts
 slice-aggregate-starts c = search needs

@@ -13,16 +13,21 @@ declaration-start-requires c κs = search needs
 rest-at-requires : tie.Need-rest-at-requires
 rest-at-requires c κs = omega (arith, (c .declaration-start .ensures) .from, (c .declaration-start .ensures) .inside)
 
-write-kind-requires : tie.Need-write-kind-requires
-write-kind-requires c κs = (omega (arith, c .before .rest-at .ensures .size, c .before .before .before .before .before .pre .0), (start-from (c .before .before .declaration-start .ensures) (c .before .rest-at .ensures), (c .before .before .before .before .before .pre .1 .1 .0, ((c .before .before .declaration-start .ensures) .small, (start-room (docOf (c .before .before .before .before .before .args .doc)) (c .before .before .declaration-start .ensures) (c .before .rest-at .ensures) (c .before .before .before .before .before .pre .1 .1 .1))))))
+write-declaration-of-kind-requires : tie.Need-write-declaration-of-kind-requires
+write-declaration-of-kind-requires c κs = (omega (arith, c .before .rest-at .ensures .size, c .before .before .before .before .before .pre .0), (start-from (c .before .before .declaration-start .ensures) (c .before .rest-at .ensures), (c .before .before .before .before .before .pre .1 .1 .0, ((c .before .before .declaration-start .ensures) .small, (start-room (docOf (c .before .before .before .before .before .args .doc)) (c .before .before .declaration-start .ensures) (c .before .rest-at .ensures) (c .before .before .before .before .before .pre .1 .1 .1))))))
 
 same-length : tie.Need-same-length
-same-length c = written-same (start-room (docOf (c .before .before .before .before .before .before .before .before .args .doc)) (c .before .before .before .before .before .declaration-start .ensures) (c .before .before .before .before .rest-at .ensures) (c .before .before .before .before .before .before .before .before .pre .1 .1 .1)) (c .before .before .write-kind .ensures) refl
+same-length c = written-same (start-room (docOf (c .before .before .before .before .before .before .before .before .args .doc)) (c .before .before .before .before .before .declaration-start .ensures) (c .before .before .before .before .rest-at .ensures) (c .before .before .before .before .before .before .before .before .pre .1 .1 .1)) (c .before .before .write-declaration-of-kind .ensures) refl
 
 returns : tie.Need-returns
-returns c = start-written (docOf (c .before .before .before .before .before .before .before .before .args .doc)) (c .before .before .before .before .before .declaration-start .ensures) (c .before .before .before .before .rest-at .ensures) (c .before .before .write-kind .ensures)
+returns c = start-written (docOf (c .before .before .before .before .before .before .before .before .args .doc)) (c .before .before .before .before .before .declaration-start .ensures) (c .before .before .before .before .rest-at .ensures) (c .before .before .write-declaration-of-kind .ensures)
 
 pub write-declaration-spec : {M : Type 1} → statement M
 write-declaration-spec =
     tie.close
-    (tie.spec declaration-start-requires rest-at-requires write-kind-requires same-length returns)
+    (tie.spec
+    declaration-start-requires
+    rest-at-requires
+    write-declaration-of-kind-requires
+    same-length
+    returns)

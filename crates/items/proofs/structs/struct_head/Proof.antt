@@ -10,7 +10,7 @@ use Rattle.lexing.proofs.Slicing.{rest-self, begin, go, on, lose, done, set-too
 use Rattle.lexing.proofs.AnswerLaws.{read-is, read-not, read-lost}
 use Rattle.lexing.proofs.Pairs.{three-go, three-lose}
 use Rattle.lexing.proofs.steps.Laws.{blank-at-took}
-use Rattle.lexing.specs.names.{namedLost}
+use Rattle.lexing.specs.answers.names.{namedLost}
 use Rattle.items.proofs.structs.Laws.{struct-word-took, type-took, type-none}
 
 struct-word-requires : tie.Need-struct-word-requires
@@ -71,7 +71,7 @@ returns-2 c = read-not _ refl tt (begin (struct-head) _ _ (go _ (struct-word-too
 
 returns-3 : tie.Need-returns-3
 unfolding struct-head
-returns-3 c = read-is refl (begin (struct-head) _ _ (go _ (struct-word-took (rest-self _ _) (c .before .before .before .before .before .before .before .before .before .before .before .before .before .before .before .struct-word .ensures)) (on _ (blank-at-took (c .before .before .before .before .before .before .before .before .before .before .before .before .before .before .before .struct-word .ensures .blanks)) (go _ (set-took (c .before .before .before .before .before .before .before .before .before .before .before .before .before .before .rest-at .ensures) (c .before .before .before .before .before .before .before .before .before .before .before .before .before .keywords-set .ensures)) (on _ (blank-at-took (c .before .before .before .before .before .before .before .before .before .before .before .before .blank-at .ensures)) (three-go _ _ _ _ (named-took (c .before .before .before .before .before .before .before .before .before .keyword-name .ensures) (c .before .before .before .before .before .before .before .named .given .1) (keyword-name-on _) (c .before .before .before .before .before .before .before .before .before .before .before .rest-at2 .ensures)) (on _ (blank-at-took (c .before .before .before .before .before .blank-at2 .ensures)) (go _ (type-took (c .before .before .before .before .before .before .before .before .before .before .before .before .before .before .before .struct-word .ensures .read) (c .before .before .before .before .before .before .before .before .before .before .before .before .before .before .before .struct-word .result .kind) (c .before .before .before .before .before .before .before .before .before .before .before .before .before .before .before .struct-word .ensures .means) _ _ (c .before .before .before .struct-code .result) (c .before .before .before .struct-code .ensures) (c .before .before .before .before .rest-at3 .ensures) (c .before .number .given .1)) (done _ _ _ _))))))))) (let w = named-in (c .before .before .before .before .before .before .before .before .before .keyword-name .ensures) (c .before .before .before .before .before .before .before .named .given .1) in record { name-from = omega (arith, w .from, c .before .before .before .before .before .before .before .before .before .before .before .rest-at2 .ensures .from); name-to = w .up; before = omega (arith, w .inside, (blank-at-took (c .before .before .before .before .before .blank-at2 .ensures)) .up, (type-took (c .before .before .before .before .before .before .before .before .before .before .before .before .before .before .before .struct-word .ensures .read) (c .before .before .before .before .before .before .before .before .before .before .before .before .before .before .before .struct-word .result .kind) (c .before .before .before .before .before .before .before .before .before .before .before .before .before .before .before .struct-word .ensures .means) _ _ (c .before .before .before .struct-code .result) (c .before .before .before .struct-code .ensures) (c .before .before .before .before .rest-at3 .ensures) (c .before .number .given .1)) .up); few-flags = fits 1 (c .before .before .before .before .before .before .before .before .before .before .before .before .before .keywords-set .ensures) })
+returns-3 c = read-is refl (begin (struct-head) _ _ (go _ (struct-word-took (rest-self _ _) (c .before .before .before .before .before .before .before .before .before .before .before .before .before .before .before .struct-word .ensures)) (on _ (blank-at-took (c .before .before .before .before .before .before .before .before .before .before .before .before .before .before .before .struct-word .ensures .blanks)) (go _ (set-took (c .before .before .before .before .before .before .before .before .before .before .before .before .before .before .rest-at .ensures) (c .before .before .before .before .before .before .before .before .before .before .before .before .before .keywords-set .ensures)) (on _ (blank-at-took (c .before .before .before .before .before .before .before .before .before .before .before .before .blank-at .ensures)) (three-go _ _ _ _ (named-took (c .before .before .before .before .before .before .before .before .before .keyword-name .ensures) (c .before .before .before .before .before .before .before .named .given .1) (keyword-name-on _) (c .before .before .before .before .before .before .before .before .before .before .before .rest-at2 .ensures)) (on _ (blank-at-took (c .before .before .before .before .before .blank-at2 .ensures)) (go _ (type-took (c .before .before .before .before .before .before .before .before .before .before .before .before .before .before .before .struct-word .ensures .read) (c .before .before .before .before .before .before .before .before .before .before .before .before .before .before .before .struct-word .result .kind) (c .before .before .before .before .before .before .before .before .before .before .before .before .before .before .before .struct-word .ensures .means) _ _ (c .before .before .before .struct-code .result) (c .before .before .before .struct-code .ensures) (c .before .before .before .before .rest-at3 .ensures) (c .before .number .given .1)) (done _ _ _ _))))))))) (let w = named-in (c .before .before .before .before .before .before .before .before .before .keyword-name .ensures) (c .before .before .before .before .before .before .before .named .given .1) in record { name-from = omega (arith, w .from, c .before .before .before .before .before .before .before .before .before .before .before .rest-at2 .ensures .from); name-to = w .up; before = omega (arith, w .inside, (blank-at-took (c .before .before .before .before .before .blank-at2 .ensures)) .up, (type-took (c .before .before .before .before .before .before .before .before .before .before .before .before .before .before .before .struct-word .ensures .read) (c .before .before .before .before .before .before .before .before .before .before .before .before .before .before .before .struct-word .result .kind) (c .before .before .before .before .before .before .before .before .before .before .before .before .before .before .before .struct-word .ensures .means) _ _ (c .before .before .before .struct-code .result) (c .before .before .before .struct-code .ensures) (c .before .before .before .before .rest-at3 .ensures) (c .before .number .given .1)) .up); few-flags = fits (c .before .before .before .before .before .before .before .before .before .before .before .before .before .keywords-set .ensures) })
 
 pub struct-head-spec : {M : Type 1} → statement M
 struct-head-spec =

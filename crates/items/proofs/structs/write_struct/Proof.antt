@@ -4,10 +4,12 @@ use mathlib.Core.Path.{refl, sym, ap}
 use native.Mathlib.Omega.{arith}
 use Rattle.lexing.proofs.Slicing.{rest-self}
 use Rattle.items.specs.answers.{frontOf}
-use Rattle.items.specs.answers.structs.{headLost}
+use Rattle.lexing.proofs.AnswerLaws.{read-within}
+use Rattle.items.specs.inner.structs.{headLost}
 use Rattle.items.proofs.Headed.{headed-found, headed-room, headed-written}
 use Rattle.items.proofs.writing.Laws.{written-same}
-use Rattle.items.proofs.structs.Laws.{head-took, head-none, head-between, struct-fields-on, struct-headed, struct-first-is, head-in-limit}
+use Rattle.items.proofs.structs.Laws.{head-took, head-none, struct-headed, struct-first-is, head-in-limit}
+use Rattle.items.proofs.fields.Laws.{struct-fields-on}
 
 struct-head-requires : tie.Need-struct-head-requires
 struct-head-requires c κs = (c .before .before .pre .0, c .before .before .pre .1 .0)
@@ -31,13 +33,13 @@ write-struct-fields-requires : tie.Need-write-struct-fields-requires
 write-struct-fields-requires c κs = (omega (arith, c .before .rest-at .ensures .size, c .before .before .before .before .before .before .before .before .pre .0), (headed-room struct-headed (frontOf (c .before .before .before .before .before .before .before .before .args .front)) (c .before .before .before .before .before .before .before .before .pre .1 .1 .1) struct-fields-on (head-took (rest-self _ _) (c .before .before .before .before .before .struct-head .ensures) (c .before .before .before .head .given .1)) (c .before .rest-at .ensures)))
 
 put-struct-requires : tie.Need-put-struct-requires
-put-struct-requires c κs = let z = (headed-room struct-headed (frontOf (c .before .before .before .before .before .before .before .before .before .before .before .before .args .front)) (c .before .before .before .before .before .before .before .before .before .before .before .before .pre .1 .1 .1) struct-fields-on (head-took (rest-self _ _) (c .before .before .before .before .before .before .before .before .before .struct-head .ensures) (c .before .before .before .before .before .before .before .head .given .1)) (c .before .before .before .before .before .rest-at .ensures)) in let y = written-same z (c .before .before .before .write-struct-fields .ensures) refl in (omega (arith, z .fits, y), (c .before .before .before .before .before .before .before .before .before .before .before .before .pre .1 .1 .0, head-in-limit (head-between (rest-self _ _) (c .before .before .before .before .before .before .before .before .before .struct-head .ensures) (c .before .before .before .before .before .before .before .head .given .1)) (omega (arith, (head-took (rest-self _ _) (c .before .before .before .before .before .before .before .before .before .struct-head .ensures) (c .before .before .before .before .before .before .before .head .given .1)) .inside, c .before .before .before .before .before .before .before .before .before .before .before .before .pre .0))))
+put-struct-requires c κs = let z = (headed-room struct-headed (frontOf (c .before .before .before .before .before .before .before .before .before .before .before .before .args .front)) (c .before .before .before .before .before .before .before .before .before .before .before .before .pre .1 .1 .1) struct-fields-on (head-took (rest-self _ _) (c .before .before .before .before .before .before .before .before .before .struct-head .ensures) (c .before .before .before .before .before .before .before .head .given .1)) (c .before .before .before .before .before .rest-at .ensures)) in let y = written-same z (c .before .before .before .write-struct-fields .ensures) refl in (omega (arith, z .fits, y), (c .before .before .before .before .before .before .before .before .before .before .before .before .pre .1 .1 .0, head-in-limit (read-within (c .before .before .before .before .before .before .before .before .before .struct-head .ensures) (c .before .before .before .before .before .before .before .head .given .1)) (omega (arith, (head-took (rest-self _ _) (c .before .before .before .before .before .before .before .before .before .struct-head .ensures) (c .before .before .before .before .before .before .before .head .given .1)) .inside, c .before .before .before .before .before .before .before .before .before .before .before .before .pre .0))))
 
 same-length : tie.Need-same-length
-same-length c = written-same (c .before .before .before .before .before .before .before .before .before .before .before .before .before .before .before .pre .1 .1 .1) (headed-written struct-headed (frontOf (c .before .before .before .before .before .before .before .before .before .before .before .before .before .before .before .args .front)) (c .before .before .before .before .before .before .before .before .before .before .before .before .before .before .before .pre .1 .1 .1) struct-fields-on (head-took (rest-self _ _) (c .before .before .before .before .before .before .before .before .before .before .before .before .struct-head .ensures) (c .before .before .before .before .before .before .before .before .before .before .head .given .1)) (c .before .before .before .before .before .before .before .before .rest-at .ensures) (c .before .before .before .before .before .before .write-struct-fields .ensures) refl (struct-first-is (c .before .before .before .before .before .before .before .before .before .before .before .before .before .before .before .args .front) _ (c .before .before .before .before .before .before .before .before .before .before .before .before .before .before .before .args .part .now) _ _ _ (head-between (rest-self _ _) (c .before .before .before .before .before .before .before .before .before .before .before .before .struct-head .ensures) (c .before .before .before .before .before .before .before .before .before .before .head .given .1)) ((head-took (rest-self _ _) (c .before .before .before .before .before .before .before .before .before .before .before .before .struct-head .ensures) (c .before .before .before .before .before .before .before .before .before .before .head .given .1)) .inside)) (c .before .before .put-struct .ensures)) refl
+same-length c = written-same (c .before .before .before .before .before .before .before .before .before .before .before .before .before .before .before .pre .1 .1 .1) (headed-written struct-headed (frontOf (c .before .before .before .before .before .before .before .before .before .before .before .before .before .before .before .args .front)) (c .before .before .before .before .before .before .before .before .before .before .before .before .before .before .before .pre .1 .1 .1) struct-fields-on (head-took (rest-self _ _) (c .before .before .before .before .before .before .before .before .before .before .before .before .struct-head .ensures) (c .before .before .before .before .before .before .before .before .before .before .head .given .1)) (c .before .before .before .before .before .before .before .before .rest-at .ensures) (c .before .before .before .before .before .before .write-struct-fields .ensures) refl (struct-first-is (c .before .before .before .before .before .before .before .before .before .before .before .before .before .before .before .args .front) _ (c .before .before .before .before .before .before .before .before .before .before .before .before .before .before .before .args .part .now) _ _ _ (read-within (c .before .before .before .before .before .before .before .before .before .before .before .before .struct-head .ensures) (c .before .before .before .before .before .before .before .before .before .before .head .given .1)) ((head-took (rest-self _ _) (c .before .before .before .before .before .before .before .before .before .before .before .before .struct-head .ensures) (c .before .before .before .before .before .before .before .before .before .before .head .given .1)) .inside)) (c .before .before .put-struct .ensures)) refl
 
 returns-2 : tie.Need-returns-2
-returns-2 c = (headed-written struct-headed (frontOf (c .before .before .before .before .before .before .before .before .before .before .before .before .before .before .before .args .front)) (c .before .before .before .before .before .before .before .before .before .before .before .before .before .before .before .pre .1 .1 .1) struct-fields-on (head-took (rest-self _ _) (c .before .before .before .before .before .before .before .before .before .before .before .before .struct-head .ensures) (c .before .before .before .before .before .before .before .before .before .before .head .given .1)) (c .before .before .before .before .before .before .before .before .rest-at .ensures) (c .before .before .before .before .before .before .write-struct-fields .ensures) refl (struct-first-is (c .before .before .before .before .before .before .before .before .before .before .before .before .before .before .before .args .front) _ (c .before .before .before .before .before .before .before .before .before .before .before .before .before .before .before .args .part .now) _ _ _ (head-between (rest-self _ _) (c .before .before .before .before .before .before .before .before .before .before .before .before .struct-head .ensures) (c .before .before .before .before .before .before .before .before .before .before .head .given .1)) ((head-took (rest-self _ _) (c .before .before .before .before .before .before .before .before .before .before .before .before .struct-head .ensures) (c .before .before .before .before .before .before .before .before .before .before .head .given .1)) .inside)) (c .before .before .put-struct .ensures))
+returns-2 c = (headed-written struct-headed (frontOf (c .before .before .before .before .before .before .before .before .before .before .before .before .before .before .before .args .front)) (c .before .before .before .before .before .before .before .before .before .before .before .before .before .before .before .pre .1 .1 .1) struct-fields-on (head-took (rest-self _ _) (c .before .before .before .before .before .before .before .before .before .before .before .before .struct-head .ensures) (c .before .before .before .before .before .before .before .before .before .before .head .given .1)) (c .before .before .before .before .before .before .before .before .rest-at .ensures) (c .before .before .before .before .before .before .write-struct-fields .ensures) refl (struct-first-is (c .before .before .before .before .before .before .before .before .before .before .before .before .before .before .before .args .front) _ (c .before .before .before .before .before .before .before .before .before .before .before .before .before .before .before .args .part .now) _ _ _ (read-within (c .before .before .before .before .before .before .before .before .before .before .before .before .struct-head .ensures) (c .before .before .before .before .before .before .before .before .before .before .head .given .1)) ((head-took (rest-self _ _) (c .before .before .before .before .before .before .before .before .before .before .before .before .struct-head .ensures) (c .before .before .before .before .before .before .before .before .before .before .head .given .1)) .inside)) (c .before .before .put-struct .ensures))
 
 pub write-struct-spec : {M : Type 1} → statement M
 write-struct-spec =

@@ -15,17 +15,17 @@ abbrev μ-loop : tie.MeasureT-loop
 loop-holds : tie.Need-loop-holds Inv-loop μ-loop
 loop-holds c = until-start _
 
-lacks-requires : tie.Need-lacks-requires Inv-loop μ-loop
-lacks-requires c κs = search needs
+eight-without-requires : tie.Need-eight-without-requires Inv-loop μ-loop
+eight-without-requires c κs = search needs
 
 add-i : tie.Need-add-i Inv-loop μ-loop
-add-i c = omega (arith, (until-eight _ _ (c .before .before .before .loop .inv) (c .before .lacks .result) (c .before .lacks .ensures) (c .if1 .taken)) .inside)
+add-i c = omega (arith, (until-eight _ _ (c .before .before .before .loop .inv) (c .before .eight-without .result) (c .before .eight-without .ensures) (c .if1 .taken)) .inside)
 
 loop-less : tie.Need-loop-less Inv-loop μ-loop
-loop-less c = omega (arith, (until-eight _ _ (c .before .before .before .loop .inv) (c .before .lacks .result) (c .before .lacks .ensures) (c .if1 .taken)) .inside)
+loop-less c = omega (arith, (until-eight _ _ (c .before .before .before .loop .inv) (c .before .eight-without .result) (c .before .eight-without .ensures) (c .if1 .taken)) .inside)
 
 loop-again : tie.Need-loop-again Inv-loop μ-loop
-loop-again c = (until-eight _ _ (c .before .before .before .loop .inv) (c .before .lacks .result) (c .before .lacks .ensures) (c .if1 .taken))
+loop-again c = (until-eight _ _ (c .before .before .before .loop .inv) (c .before .eight-without .result) (c .before .eight-without .ensures) (c .if1 .taken))
 
 is-close-at-requires : tie.Need-is-close-at-requires Inv-loop μ-loop
 is-close-at-requires c κs = search needs
@@ -52,7 +52,7 @@ comment-end-spec =
     Inv-loop
     μ-loop
     loop-holds
-    lacks-requires
+    eight-without-requires
     add-i
     loop-less
     loop-again

@@ -2,7 +2,7 @@ use borrow.Author.Needs.{needs}
 use Rattle.lexing.proofs.names.keyword_name.Statement.{statement}
 use Rattle.lexing.proofs.names.keyword_name.Tie as tie
 use Rattle.lexing.specs.words.{parse-id}
-use Rattle.lexing.specs.names.{keyword-name}
+use Rattle.lexing.specs.answers.names.{keyword-name}
 use mathlib.Core.Path.{refl, sym}
 use native.Mathlib.Omega.{arith}
 use Rattle.lexing.specs.answers.{wordAt}

@@ -2,7 +2,7 @@ use borrow.Author.Needs.{needs}
 use Rattle.lexing.proofs.names.keyword_number.Statement.{statement}
 use Rattle.lexing.proofs.names.keyword_number.Tie as tie
 use Rattle.lexing.specs.integers.{positive-integer}
-use Rattle.lexing.specs.names.{keyword-number}
+use Rattle.lexing.specs.answers.names.{keyword-number}
 use mathlib.Core.Path.{sym}
 use native.Mathlib.Omega.{arith}
 use Rattle.lexing.specs.answers.{wordAt}

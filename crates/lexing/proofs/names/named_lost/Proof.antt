@@ -2,7 +2,7 @@ use borrow.Author.Needs.{needs}
 use Rattle.lexing.proofs.names.named_lost.Statement.{statement}
 use Rattle.lexing.proofs.names.named_lost.Tie as tie
 use mathlib.Core.Path.{sym, ap}
-use Rattle.lexing.specs.names.{namedLost}
+use Rattle.lexing.specs.answers.names.{namedLost}
 
 enum-known-r : tie.Need-enum-known-r
 enum-known-r c = c .match .keys1

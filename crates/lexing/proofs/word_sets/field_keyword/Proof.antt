@@ -3,7 +3,7 @@ use Rattle.lexing.proofs.word_sets.field_keyword.Statement.{statement}
 use Rattle.lexing.proofs.word_sets.field_keyword.Tie as tie
 use mathlib.Core.Path.{refl}
 use native.Mathlib.Omega.{arith}
-use Rattle.lexing.specs.word_sets.{sets, set-of}
+use Rattle.lexing.specs.word_sets.{field-set}
 use Rattle.lexing.proofs.word_sets.Laws.{keyword-at}
 
 slice-aggregate-keyword-end : tie.Need-slice-aggregate-keyword-end
@@ -13,7 +13,7 @@ keyword-end-requires : tie.Need-keyword-end-requires
 keyword-end-requires c κs = search needs
 
 returns : tie.Need-returns
-unfolding set-of sets
+unfolding field-set
 returns c = keyword-at {n = 0} refl (c .before .before .if1 .taken) (c .keyword-end .ensures)
 
 slice-aggregate-keyword-end-2 : tie.Need-slice-aggregate-keyword-end-2
@@ -23,7 +23,7 @@ keyword-end-requires-2 : tie.Need-keyword-end-requires-2
 keyword-end-requires-2 c κs = search needs
 
 returns-2 : tie.Need-returns-2
-unfolding set-of sets
+unfolding field-set
 returns-2 c = keyword-at {n = 0} refl (c .before .before .if2 .taken) (c .keyword-end2 .ensures)
 
 slice-aggregate-keyword-end-3 : tie.Need-slice-aggregate-keyword-end-3
@@ -33,7 +33,7 @@ keyword-end-requires-3 : tie.Need-keyword-end-requires-3
 keyword-end-requires-3 c κs = search needs
 
 returns-3 : tie.Need-returns-3
-unfolding set-of sets
+unfolding field-set
 returns-3 c = keyword-at {n = 0} {k = c .before .before .before .before .before .args .k} {j = 2} refl (omega arith) (c .keyword-end3 .ensures)
 
 pub field-keyword-spec : {M : Type 1} → statement M

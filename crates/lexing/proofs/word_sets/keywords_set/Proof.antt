@@ -3,7 +3,7 @@ use Rattle.lexing.proofs.word_sets.keywords_set.Statement.{statement}
 use Rattle.lexing.proofs.word_sets.keywords_set.Tie as tie
 use mathlib.Core.Path.{sym, ap, _∙_}
 use Rattle.lexing.specs.bytes.{lower}
-use Rattle.lexing.specs.word_sets.{set-of}
+use Rattle.lexing.specs.answers.{set-of}
 use Rattle.lexing.specs.inner.word_sets.{initial}
 use Rattle.lexing.proofs.word_sets.Laws.{set-none}
 

@@ -2,7 +2,7 @@ use borrow.Author.Needs.{needs}
 use Rattle.lexing.proofs.word_sets.words_by_front.Statement.{statement}
 use Rattle.lexing.proofs.word_sets.words_by_front.Tie as tie
 use mathlib.Core.Path.{sym, refl, ap, _∙_}
-use Rattle.lexing.specs.word_sets.{set-of}
+use Rattle.lexing.specs.answers.{set-of}
 use Rattle.lexing.specs.inner.word_sets.{initial}
 use Rattle.lexing.proofs.word_sets.Laws.{eight-alone}
 

@@ -4,7 +4,7 @@ use Rattle.lexing.proofs.word_sets.words_of_set.Tie as tie
 use borrow.Author.Tests.{not-true}
 use mathlib.Core.Path.{_≡_, refl, sym, ap, _∙_}
 use Rattle.lexing.specs.bytes.{lower}
-use Rattle.lexing.specs.word_sets.{set-of}
+use Rattle.lexing.specs.answers.{set-of}
 use Rattle.lexing.specs.inner.word_sets.{initial}
 use native.Mathlib.Omega.{arith}
 use Prim.Native.Nat.{_+_, _-_}
@@ -69,16 +69,16 @@ sub-is-lower : tie.Need-sub-is-lower Inv-loop μ-loop Inv-words μ-words
 sub-is-lower c = search needs
 
 is-lower-requires : tie.Need-is-lower-requires Inv-loop μ-loop Inv-words μ-words
-is-lower-requires c κs = omega (arith, walk-found (c .before .before .before .loop .inv .0) (c .before .before .before .before .before .before .before .before .before .before .before .before .before .before .before .keyword-count .ensures) (c .before .before .loop-test .taken) (c .before .set-keyword .ensures) (c .if2 .taken) .inside)
+is-lower-requires c κs = omega (arith, walk-found (c .before .before .before .loop .inv .0) (c .before .before .before .before .before .before .before .before .before .before .before .before .before .before .before .keyword-count .ensures) (c .before .before .if2 .left) (c .before .set-keyword .ensures) (c .if3 .taken) .inside)
 
 with-flag-requires : tie.Need-with-flag-requires Inv-loop μ-loop Inv-words μ-words
 with-flag-requires c κs = omega (arith, c .before .before .before .before .loop .inv .0 .set .small, set-most (c .before .before .before .before .before .before .before .before .before .before .before .before .before .before .before .before .before .before .args .set), c .before .before .before .before .before .before .before .before .before .before .before .before .before .before .before .before .keyword-count .ensures)
 
 words-less : tie.Need-words-less Inv-loop μ-loop Inv-words μ-words
-words-less c = let h = (walk-again (c .before .before .before .before .before .loop .inv .0) (c .before .before .before .before .before .before .before .before .before .before .before .before .before .before .before .before .before .keyword-count .ensures) (c .before .before .before .before .loop-test .taken) (c .before .before .before .set-keyword .ensures) (c .before .before .if2 .taken) _ _ _ refl (c .before .is-lower .ensures) (c .with-flag .ensures)) in omega (arith, h .1, h .0 .at .inside, c .before .before .before .before .before .loop .inv .1)
+words-less c = let h = (walk-again (c .before .before .before .before .before .loop .inv .0) (c .before .before .before .before .before .before .before .before .before .before .before .before .before .before .before .before .before .keyword-count .ensures) (c .before .before .before .before .if2 .left) (c .before .before .before .set-keyword .ensures) (c .before .before .if3 .taken) _ _ _ refl (c .before .is-lower .ensures) (c .with-flag .ensures)) in omega (arith, h .1, h .0 .at .inside, c .before .before .before .before .before .loop .inv .1)
 
 words-again : tie.Need-words-again Inv-loop μ-loop Inv-words μ-words
-words-again c = (walk-again (c .before .before .before .before .before .loop .inv .0) (c .before .before .before .before .before .before .before .before .before .before .before .before .before .before .before .before .before .keyword-count .ensures) (c .before .before .before .before .loop-test .taken) (c .before .before .before .set-keyword .ensures) (c .before .before .if2 .taken) _ _ _ refl (c .before .is-lower .ensures) (c .with-flag .ensures)) .0
+words-again c = (walk-again (c .before .before .before .before .before .loop .inv .0) (c .before .before .before .before .before .before .before .before .before .before .before .before .before .before .before .before .before .keyword-count .ensures) (c .before .before .before .before .if2 .left) (c .before .before .before .set-keyword .ensures) (c .before .before .if3 .taken) _ _ _ refl (c .before .is-lower .ensures) (c .with-flag .ensures)) .0
 
 add-k : tie.Need-add-k Inv-loop μ-loop Inv-words μ-words
 add-k c = search needs
@@ -87,7 +87,7 @@ loop-less : tie.Need-loop-less Inv-loop μ-loop Inv-words μ-words
 loop-less c = search needs
 
 loop-again : tie.Need-loop-again Inv-loop μ-loop Inv-words μ-words
-loop-again c = (walk-more (c .before .before .before .loop .inv .0) (c .before .before .before .before .before .before .before .before .before .before .before .before .before .before .before .keyword-count .ensures) (c .before .before .loop-test .taken) (c .before .set-keyword .ensures) (c .if2 .left), c .before .before .before .loop .inv .1)
+loop-again c = (walk-more (c .before .before .before .loop .inv .0) (c .before .before .before .before .before .before .before .before .before .before .before .before .before .before .before .keyword-count .ensures) (c .before .before .if2 .left) (c .before .set-keyword .ensures) (c .if3 .left), c .before .before .before .loop .inv .1)
 
 returns : tie.Need-returns Inv-loop μ-loop Inv-words μ-words
 returns c = set-no-start (c .before .before .before .before .words .inv) (c .before .before .word-start .result) (c .before .before .before .rest-at .ensures) (c .before .before .word-start .ensures) (c .enum-told .given .1)
@@ -96,7 +96,7 @@ returns-2 : tie.Need-returns-2 Inv-loop μ-loop Inv-words μ-words
 returns-2 c = set-no-initial (c .before .before .before .before .before .before .before .before .before .before .words .inv) (start-took _ (c .before .before .before .before .before .before .before .before .word-start .result) _ (c .before .before .before .before .before .before .before .before .before .rest-at .ensures) (c .before .before .before .before .before .before .before .before .word-start .ensures) (c .before .before .before .before .before .before .s .given .1)) (c .before .before .before .before .rest-at2 .ensures) (ap (λ x. initial x (set-of (c .before .before .before .before .before .before .before .before .before .before .before .before .before .args .set))) (sym (c .before .before .lower-of .ensures ∙ ap lower (c .before .before .before .peek .ensures))) ∙ (sym (c .before .is-initial .ensures) ∙ not-true _ (c .if1 .taken)))
 
 returns-3 : tie.Need-returns-3 Inv-loop μ-loop Inv-words μ-words
-returns-3 c = walk-end (c .before .loop .inv .0) (c .before .before .before .before .before .before .before .before .before .before .before .before .before .keyword-count .ensures) (c .loop-test .left)
+returns-3 c = walk-end (c .before .loop .inv .0) (c .before .before .before .before .before .before .before .before .before .before .before .before .before .keyword-count .ensures) (c .if2 .taken)
 
 pub words-of-set-spec : {M : Type 1} → statement M
 words-of-set-spec =

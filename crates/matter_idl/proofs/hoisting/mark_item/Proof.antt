@@ -1,9 +1,9 @@
 use Rattle.matter_idl.proofs.hoisting.mark_item.Statement.{statement}
 use Rattle.matter_idl.proofs.hoisting.mark_item.Tie as tie
 use Prim.Native.Nat.{_-_}
-use mathlib.Core.Path.{refl, sym, _∙_, ap}
+use mathlib.Core.Path.{sym, _∙_, ap}
 use native.Mathlib.Omega.{arith}
-use Rattle.items.specs.layout.{words-of-kind}
+use Rattle.items.specs.layout.{layout, words-of-kind}
 use Rattle.matter_idl.proofs.hoisting.Marking.{MarkingItem, marking-start, marking-same, marking-end, marking-at, marking-inside, marking-more}
 
 abbrev Inv-loop : tie.InvT-loop
@@ -16,22 +16,22 @@ loop-holds : tie.Need-loop-holds Inv-loop μ-loop
 loop-holds c = λ u. marking-start _ u
 
 mark-at-requires : tie.Need-mark-at-requires Inv-loop μ-loop
-mark-at-requires c κs = (c .before .before .before .before .before .before .before .pre .0, marking-at _ (c .before .before .before .before .before .before .before .pre .1) (c .before .before .before .loop .inv (c .before .before .before .before .before .before .before .pre .1)) (c .before .before .loop-test .taken) (c .before .before .before .before .before .before .before .pre .0) refl)
+mark-at-requires c κs = (c .before .before .before .before .before .before .before .pre .0, marking-at _ (c .before .before .before .before .before .before .before .pre .1) (c .before .before .before .loop .inv (c .before .before .before .before .before .before .before .pre .1)) (c .before .before .loop-test .taken) (c .before .before .before .before .before .before .before .pre .0))
 
 words-of-requires : tie.Need-words-of-requires Inv-loop μ-loop
 words-of-requires c κs = tt
 
 mul-at : tie.Need-mul-at Inv-loop μ-loop
-mul-at c = omega (arith, marking-inside _ (c .before .before .before .before .before .before .before .before .before .before .before .before .before .pre .1) (c .before .before .before .before .before .before .before .before .before .loop .inv (c .before .before .before .before .before .before .before .before .before .before .before .before .before .pre .1)) (c .before .before .before .before .before .before .before .before .loop-test .taken) (c .before .before .before .before .before .before .before .before .before .before .before .before .before .pre .0) refl (c .words-of .ensures ∙ ap words-of-kind (c .before .before .before .before .before .mark-at .ensures .1)) .1)
+mul-at c = omega (arith, marking-inside _ (c .before .before .before .before .before .before .before .before .before .before .before .before .before .pre .1) (c .before .before .before .before .before .before .before .before .before .loop .inv (c .before .before .before .before .before .before .before .before .before .before .before .before .before .pre .1)) (c .before .before .before .before .before .before .before .before .loop-test .taken) (c .before .before .before .before .before .before .before .before .before .before .before .before .before .pre .0) (c .words-of .ensures ∙ ap (words-of-kind layout) (c .before .before .before .before .before .mark-at .ensures .1)) .1)
 
 add-at : tie.Need-add-at Inv-loop μ-loop
-add-at c = omega (arith, marking-inside _ (c .before .before .before .before .before .before .before .before .before .before .before .before .before .pre .1) (c .before .before .before .before .before .before .before .before .before .loop .inv (c .before .before .before .before .before .before .before .before .before .before .before .before .before .pre .1)) (c .before .before .before .before .before .before .before .before .loop-test .taken) (c .before .before .before .before .before .before .before .before .before .before .before .before .before .pre .0) refl (c .words-of .ensures ∙ ap words-of-kind (c .before .before .before .before .before .mark-at .ensures .1)) .1)
+add-at c = omega (arith, marking-inside _ (c .before .before .before .before .before .before .before .before .before .before .before .before .before .pre .1) (c .before .before .before .before .before .before .before .before .before .loop .inv (c .before .before .before .before .before .before .before .before .before .before .before .before .before .pre .1)) (c .before .before .before .before .before .before .before .before .loop-test .taken) (c .before .before .before .before .before .before .before .before .before .before .before .before .before .pre .0) (c .words-of .ensures ∙ ap (words-of-kind layout) (c .before .before .before .before .before .mark-at .ensures .1)) .1)
 
 loop-less : tie.Need-loop-less Inv-loop μ-loop
-loop-less c = let h = marking-inside _ (c .before .before .before .before .before .before .before .before .before .before .before .before .before .pre .1) (c .before .before .before .before .before .before .before .before .before .loop .inv (c .before .before .before .before .before .before .before .before .before .before .before .before .before .pre .1)) (c .before .before .before .before .before .before .before .before .loop-test .taken) (c .before .before .before .before .before .before .before .before .before .before .before .before .before .pre .0) refl (c .words-of .ensures ∙ ap words-of-kind (c .before .before .before .before .before .mark-at .ensures .1)) in omega (arith, h .0, h .1)
+loop-less c = let h = marking-inside _ (c .before .before .before .before .before .before .before .before .before .before .before .before .before .pre .1) (c .before .before .before .before .before .before .before .before .before .loop .inv (c .before .before .before .before .before .before .before .before .before .before .before .before .before .pre .1)) (c .before .before .before .before .before .before .before .before .loop-test .taken) (c .before .before .before .before .before .before .before .before .before .before .before .before .before .pre .0) (c .words-of .ensures ∙ ap (words-of-kind layout) (c .before .before .before .before .before .mark-at .ensures .1)) in omega (arith, h .0, h .1)
 
 loop-again : tie.Need-loop-again Inv-loop μ-loop
-loop-again c = λ u. marking-more _ u (c .before .before .before .before .before .before .before .before .before .loop .inv u) (c .before .before .before .before .before .before .before .before .loop-test .taken) (c .before .before .before .before .before .before .before .before .before .before .before .before .before .pre .0) refl (c .before .before .before .before .before .mark-at .ensures .0) (c .words-of .ensures ∙ ap words-of-kind (c .before .before .before .before .before .mark-at .ensures .1))
+loop-again c = λ u. marking-more _ u (c .before .before .before .before .before .before .before .before .before .loop .inv u) (c .before .before .before .before .before .before .before .before .loop-test .taken) (c .before .before .before .before .before .before .before .before .before .before .before .before .before .pre .0) (c .before .before .before .before .before .mark-at .ensures .0) (c .words-of .ensures ∙ ap (words-of-kind layout) (c .before .before .before .before .before .mark-at .ensures .1))
 
 same-length : tie.Need-same-length Inv-loop μ-loop
 same-length c = marking-same _ (c .before .before .before .before .before .pre .1) (c .before .loop .inv (c .before .before .before .before .before .pre .1))

@@ -2,6 +2,9 @@ use borrow.Author.Needs.{needs}
 use Rattle.matter_idl.proofs.interface.matter_idl_read.Statement.{statement}
 use Rattle.matter_idl.proofs.interface.matter_idl_read.Tie as tie
 use borrow.Author.Tests.{le-leb, lt-leb}
+use mathlib.Core.Path.{refl}
+use Rattle.lexing.specs.outcomes.{text-numbers}
+use Rattle.lexing.proofs.Numbers.{number-less}
 use denote.Ref.{now}
 use native.Mathlib.Omega.{arith}
 use Prim.Native.Nat.{ℕ}
@@ -18,7 +21,7 @@ enum-known-v : tie.Need-enum-known-v
 enum-known-v c = c .match .keys1
 
 packed-requires : tie.Need-packed-requires
-packed-requires c κs = (let r = (told-refused (c .before .before .before .verdict-on .result) (c .before .before .before .before .before .before .args .text .now) (c .before .before .before .verdict-on .ensures) (c .before .v .given .1)) in omega (arith, r .number), let r = (told-refused (c .before .before .before .verdict-on .result) (c .before .before .before .before .before .before .args .text .now) (c .before .before .before .verdict-on .ensures) (c .before .v .given .1)) in omega (arith, r .value))
+packed-requires c κs = (let r = (told-refused (c .before .before .before .verdict-on .result) (c .before .before .before .before .before .before .args .text .now) (c .before .before .before .verdict-on .ensures) (c .before .v .given .1)) in number-less 256 text-numbers refl _ (r .number), let r = (told-refused (c .before .before .before .verdict-on .result) (c .before .before .before .before .before .before .args .text .now) (c .before .before .before .verdict-on .ensures) (c .before .v .given .1)) in omega (arith, r .value))
 
 enum-known-v-2 : tie.Need-enum-known-v-2
 enum-known-v-2 c = c .match .keys2

@@ -32,8 +32,8 @@ returns c = items-ended (c .before .before .before .loop .inv) (c .before .befor
 rest-at-requires-2 : tie.Need-rest-at-requires-2 Inv-loop μ-loop
 rest-at-requires-2 c κs = omega (arith, (blank-took (c .before .before .rest-at .ensures) (c .before .whitespace0 .ensures)) .up, (blank-took (c .before .before .rest-at .ensures) (c .before .whitespace0 .ensures)) .inside, c .before .before .rest-at .ensures .from)
 
-declaration-requires : tie.Need-declaration-requires Inv-loop μ-loop
-declaration-requires c κs = (omega (arith, c .rest-at2 .ensures .size, c .before .before .before .before .before .before .pre), rest-clear (blank-took (c .before .before .before .rest-at .ensures) (c .before .before .whitespace0 .ensures)) (c .rest-at2 .ensures))
+count-declaration-requires : tie.Need-count-declaration-requires Inv-loop μ-loop
+count-declaration-requires c κs = (omega (arith, c .rest-at2 .ensures .size, c .before .before .before .before .before .before .pre), rest-clear (blank-took (c .before .before .before .rest-at .ensures) (c .before .before .whitespace0 .ensures)) (c .rest-at2 .ensures))
 
 enum-known-r : tie.Need-enum-known-r Inv-loop μ-loop
 enum-known-r c = c .match .keys1
@@ -42,16 +42,16 @@ enum-told : tie.Need-enum-told Inv-loop μ-loop
 enum-told c = c .match .keys2
 
 returns-2 : tie.Need-returns-2 Inv-loop μ-loop
-returns-2 c = items-lost (c .before .before .before .before .before .before .before .loop .inv) (c .before .before .before .before .before .before .rest-at .ensures) (c .before .before .before .before .before .whitespace0 .ensures) (c .before .before .before .rest-at2 .ensures) (c .before .before .declaration .ensures) (c .before .before .before .before .if1 .left) (c .enum-told .given .1)
+returns-2 c = items-lost (c .before .before .before .before .before .before .before .loop .inv) (c .before .before .before .before .before .before .rest-at .ensures) (c .before .before .before .before .before .whitespace0 .ensures) (c .before .before .before .rest-at2 .ensures) (c .before .before .count-declaration .ensures) (c .before .before .before .before .if1 .left) (c .enum-told .given .1)
 
 add-n : tie.Need-add-n Inv-loop μ-loop
-add-n c = let s = items-more (c .before .before .before .before .before .before .before .before .loop .inv) (c .before .before .before .before .before .before .before .rest-at .ensures) (c .before .before .before .before .before .before .whitespace0 .ensures) (c .before .before .before .before .rest-at2 .ensures) (c .before .before .before .declaration .ensures) (c .before .r .given .1) in omega (arith, s .0 .few, s .0 .run .inside, c .before .before .before .before .before .before .before .before .before .before .pre)
+add-n c = let s = items-more (c .before .before .before .before .before .before .before .before .loop .inv) (c .before .before .before .before .before .before .before .rest-at .ensures) (c .before .before .before .before .before .before .whitespace0 .ensures) (c .before .before .before .before .rest-at2 .ensures) (c .before .before .before .count-declaration .ensures) (c .before .r .given .1) in omega (arith, s .0 .few, s .0 .run .inside, c .before .before .before .before .before .before .before .before .before .before .pre)
 
 loop-less : tie.Need-loop-less Inv-loop μ-loop
-loop-less c = let s = items-more (c .before .before .before .before .before .before .before .before .loop .inv) (c .before .before .before .before .before .before .before .rest-at .ensures) (c .before .before .before .before .before .before .whitespace0 .ensures) (c .before .before .before .before .rest-at2 .ensures) (c .before .before .before .declaration .ensures) (c .before .r .given .1) in omega (arith, s .1, s .0 .run .inside)
+loop-less c = let s = items-more (c .before .before .before .before .before .before .before .before .loop .inv) (c .before .before .before .before .before .before .before .rest-at .ensures) (c .before .before .before .before .before .before .whitespace0 .ensures) (c .before .before .before .before .rest-at2 .ensures) (c .before .before .before .count-declaration .ensures) (c .before .r .given .1) in omega (arith, s .1, s .0 .run .inside)
 
 loop-again : tie.Need-loop-again Inv-loop μ-loop
-loop-again c = let s = items-more (c .before .before .before .before .before .before .before .before .loop .inv) (c .before .before .before .before .before .before .before .rest-at .ensures) (c .before .before .before .before .before .before .whitespace0 .ensures) (c .before .before .before .before .rest-at2 .ensures) (c .before .before .before .declaration .ensures) (c .before .r .given .1) in s .0
+loop-again c = let s = items-more (c .before .before .before .before .before .before .before .before .loop .inv) (c .before .before .before .before .before .before .before .rest-at .ensures) (c .before .before .before .before .before .before .whitespace0 .ensures) (c .before .before .before .before .rest-at2 .ensures) (c .before .before .before .count-declaration .ensures) (c .before .r .given .1) in s .0
 
 pub count-items-spec : {M : Type 1} → statement M
 count-items-spec =
@@ -65,7 +65,7 @@ count-items-spec =
     whitespace0-requires
     returns
     rest-at-requires-2
-    declaration-requires
+    count-declaration-requires
     enum-known-r
     enum-told
     returns-2

@@ -9,10 +9,10 @@ use Rattle.matter_idl.proofs.Cutting.{section-number}
 use Rattle.matter_idl.proofs.survey.Laws.{CountingSections, more, sections-start, section-ends, sections-more, sections-end}
 
 abbrev Inv-loop : tie.InvT-loop
-Inv-loop text marks₀ i₀ start₀ n₀ marks i start n = CountingSections text i start false n marks
+Inv-loop text marks₀ i₀ start₀ n₀ bits i start n = CountingSections text i start false n bits
 
 abbrev μ-loop : tie.MeasureT-loop
-μ-loop text marks₀ i₀ start₀ n₀ marks i start n = length text - start
+μ-loop text marks₀ i₀ start₀ n₀ bits i start n = length text - start
 
 loop-holds : tie.Need-loop-holds Inv-loop μ-loop
 loop-holds c = sections-start _ (c .before .before .pre .1)
@@ -30,7 +30,7 @@ verdict-at-requires : tie.Need-verdict-at-requires Inv-loop μ-loop
 verdict-at-requires c κs = omega (arith, section-ends ((c .before .before .before .loop .inv) .passed) refl (c .before .before .rest-at .ensures) (c .before .first-section .ensures) (c .section-at .ensures), c .before .first-section .ensures .inside, c .before .before .rest-at .ensures .size, c .before .before .before .before .before .before .pre .0)
 
 remember-requires : tie.Need-remember-requires Inv-loop μ-loop
-remember-requires c κs = ((c .before .before .before .before .before .loop .inv) .true-marks .size, section-number (c .before .before .before .before .before .before .before .before .args .text .now) (c .before .before .before .before .before .before .before .before .pre .0) (more ((c .before .before .before .before .before .loop .inv) .passed) refl))
+remember-requires c κs = ((c .before .before .before .before .before .loop .inv) .true-bits .size, section-number (c .before .before .before .before .before .before .before .before .args .text .now) (c .before .before .before .before .before .before .before .before .pre .0) (more ((c .before .before .before .before .before .loop .inv) .passed) refl))
 
 accepted-words-requires : tie.Need-accepted-words-requires Inv-loop μ-loop
 accepted-words-requires c κs = tt
@@ -42,7 +42,7 @@ add-i : tie.Need-add-i Inv-loop μ-loop
 add-i c = omega (arith, section-number (c .before .before .before .before .before .before .before .before .before .before .before .before .args .text .now) (c .before .before .before .before .before .before .before .before .before .before .before .before .pre .0) (more ((c .before .before .before .before .before .before .before .before .before .loop .inv) .passed) refl))
 
 same-length : tie.Need-same-length Inv-loop μ-loop
-same-length c = (sections-more (c .before .before .before .before .before .before .before .before .before .before .loop .inv) (c .before .before .before .before .before .before .before .before .before .before .before .before .before .pre .0) (c .before .before .before .before .before .before .before .before .before .rest-at .ensures) (c .before .before .before .before .before .before .before .before .first-section .ensures) (c .before .before .before .before .before .before .before .section-at .ensures) (c .before .before .before .before .before .before .verdict-at .result) (c .before .before .before .before .before .before .verdict-at .ensures) (c .before .accepted-words .ensures) (c .before .before .before .before .remember .ensures) refl) .true-marks .size ∙ sym (c .before .before .before .before .before .before .before .before .before .before .before .before .before .pre .1 .size)
+same-length c = (sections-more (c .before .before .before .before .before .before .before .before .before .before .loop .inv) (c .before .before .before .before .before .before .before .before .before .before .before .before .before .pre .0) (c .before .before .before .before .before .before .before .before .before .rest-at .ensures) (c .before .before .before .before .before .before .before .before .first-section .ensures) (c .before .before .before .before .before .before .before .section-at .ensures) (c .before .before .before .before .before .before .verdict-at .result) (c .before .before .before .before .before .before .verdict-at .ensures) (c .before .accepted-words .ensures) (c .before .before .before .before .remember .ensures) refl) .true-bits .size ∙ sym (c .before .before .before .before .before .before .before .before .before .before .before .before .before .pre .1 .size)
 
 returns : tie.Need-returns Inv-loop μ-loop
 returns c = sections-end (sections-more (c .before .before .before .before .before .before .before .before .before .before .loop .inv) (c .before .before .before .before .before .before .before .before .before .before .before .before .before .pre .0) (c .before .before .before .before .before .before .before .before .before .rest-at .ensures) (c .before .before .before .before .before .before .before .before .first-section .ensures) (c .before .before .before .before .before .before .before .section-at .ensures) (c .before .before .before .before .before .before .verdict-at .result) (c .before .before .before .before .before .before .verdict-at .ensures) (c .before .accepted-words .ensures) (c .before .before .before .before .remember .ensures) (c .if1 .taken))

@@ -7,10 +7,10 @@ use native.Mathlib.Omega.{arith}
 use Rattle.matter_idl.proofs.survey.SecondPass.{WritingSections, writing-start, catalogue-same, report-same, catalogue-written, report-written, ends, this-part, this-mark, entry-room, words-room, writing-more}
 
 abbrev Inv-loop : tie.InvT-loop
-Inv-loop text m marks catalogue₀ filter₀ report₀ i₀ start₀ to₀ catalogue filter report i start to = WritingSections text catalogue₀ report₀ i start to catalogue filter report
+Inv-loop text m bits catalogue₀ filter₀ report₀ i₀ start₀ to₀ catalogue filter report i start to = WritingSections text catalogue₀ report₀ i start to catalogue filter report
 
 abbrev μ-loop : tie.MeasureT-loop
-μ-loop text m marks catalogue₀ filter₀ report₀ i₀ start₀ to₀ catalogue filter report i start to = m - i
+μ-loop text m bits catalogue₀ filter₀ report₀ i₀ start₀ to₀ catalogue filter report i start to = m - i
 
 loop-holds : tie.Need-loop-holds Inv-loop μ-loop
 loop-holds c = writing-start _ _ _ (c .before .before .before .before .before .pre .1 .1 .1 .1 .1)

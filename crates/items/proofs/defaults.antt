@@ -1,0 +1,2 @@
+-- Laws of the readers of default values.
+pub mod Laws

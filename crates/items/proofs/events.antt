@@ -1,0 +1,2 @@
+-- Laws of the readers of events.
+pub mod Laws

@@ -1,0 +1,75 @@
+use borrow.Author.Needs.{needs}
+use Rattle.items.proofs.fields.write_struct_fields.Statement.{statement}
+use Rattle.items.proofs.fields.write_struct_fields.Tie as tie
+use mathlib.Core.Path.{refl, sym, ap}
+use native.Mathlib.Omega.{arith}
+use Rattle.lexing.specs.answers.{lostOf}
+use Rattle.lexing.proofs.Slicing.{rest-self, tag-took, told-not}
+use Rattle.lexing.proofs.steps.Laws.{tag-behind-took, skips-lost}
+use Rattle.items.specs.structs.{fields-run, struct-fields}
+use Rattle.items.proofs.Braces.{braces-open, braces-room, braces-close, braces-written}
+use Rattle.items.proofs.writing.Laws.{written-took, written-same}
+use Rattle.items.proofs.fields.Laws.{fields-run-on}
+
+tag-requires : tie.Need-tag-requires
+tag-requires c κs = search needs
+
+enum-known-brace : tie.Need-enum-known-brace
+enum-known-brace c = c .match .keys1
+
+enum-told : tie.Need-enum-told
+enum-told c = c .match .keys2
+
+returns : tie.Need-returns
+unfolding struct-fields
+returns c = absurd (braces-open fields-run (c .before .before .before .before .before .pre .1) (c .enum-told .given .0 .0) (told-not (λ c. tt) _ _ _ _ _ (c .enum-told .given .1) (c .before .before .tag .ensures)))
+
+rest-at-requires : tie.Need-rest-at-requires
+rest-at-requires c κs = omega (arith, (tag-took (rest-self _ _) (c .before .brace .given .1) 123 (c .before .before .before .tag .ensures)) .up, (tag-took (rest-self _ _) (c .before .brace .given .1) 123 (c .before .before .before .tag .ensures)) .inside)
+
+write-fields-requires : tie.Need-write-fields-requires
+unfolding struct-fields
+write-fields-requires c κs = (omega (arith, c .before .rest-at .ensures .size, c .before .before .before .before .before .before .before .before .pre .0), braces-room fields-run (c .before .before .before .before .before .before .before .before .pre .1) fields-run-on (tag-took (rest-self _ _) (c .before .before .before .brace .given .1) 123 (c .before .before .before .before .before .tag .ensures)) (c .before .rest-at .ensures))
+
+tag-behind-requires : tie.Need-tag-behind-requires
+tag-behind-requires c κs = omega (arith, (written-took fields-run-on (c .before .before .before .before .rest-at .ensures) (c .before .before .write-fields .ensures)) .up, (written-took fields-run-on (c .before .before .before .before .rest-at .ensures) (c .before .before .write-fields .ensures)) .inside, c .before .before .before .before .rest-at .ensures .from, c .before .before .before .before .before .before .before .before .before .before .before .pre .0)
+
+enum-known-close : tie.Need-enum-known-close
+enum-known-close c = c .match2 .keys1
+
+enum-told-2 : tie.Need-enum-told-2
+enum-told-2 c = c .match2 .keys2
+
+same-length : tie.Need-same-length
+unfolding struct-fields
+same-length c = written-same (braces-room fields-run (c .before .before .before .before .before .before .before .before .before .before .before .before .before .before .pre .1) fields-run-on (tag-took (rest-self _ _) (c .before .before .before .before .before .before .before .before .before .brace .given .1) 123 (c .before .before .before .before .before .before .before .before .before .before .before .tag .ensures)) (c .before .before .before .before .before .before .before .rest-at .ensures)) (c .before .before .before .before .before .write-fields .ensures) refl
+
+returns-2 : tie.Need-returns-2
+unfolding struct-fields
+returns-2 c = absurd (braces-close fields-run (c .before .before .before .before .before .before .before .before .before .before .before .before .before .before .pre .1) fields-run-on (tag-took (rest-self _ _) (c .before .before .before .before .before .before .before .before .before .brace .given .1) 123 (c .before .before .before .before .before .before .before .before .before .before .before .tag .ensures)) (c .before .before .before .before .before .before .before .rest-at .ensures) (c .before .before .before .before .before .write-fields .ensures) (c .enum-told2 .given .0 .0) (skips-lost (sym (ap lostOf (c .enum-told2 .given .1))) (c .enum-told2 .given .1) (c .before .before .tag-behind .ensures)))
+
+same-length-2 : tie.Need-same-length-2
+unfolding struct-fields
+same-length-2 c = written-same (braces-room fields-run (c .before .before .before .before .before .before .before .before .before .before .before .before .before .before .before .pre .1) fields-run-on (tag-took (rest-self _ _) (c .before .before .before .before .before .before .before .before .before .before .brace .given .1) 123 (c .before .before .before .before .before .before .before .before .before .before .before .before .tag .ensures)) (c .before .before .before .before .before .before .before .before .rest-at .ensures)) (c .before .before .before .before .before .before .write-fields .ensures) refl
+
+returns-3 : tie.Need-returns-3
+unfolding struct-fields
+returns-3 c = braces-written fields-run (c .before .before .before .before .before .before .before .before .before .before .before .before .before .before .before .pre .1) fields-run-on (tag-took (rest-self _ _) (c .before .before .before .before .before .before .before .before .before .before .brace .given .1) 123 (c .before .before .before .before .before .before .before .before .before .before .before .before .tag .ensures)) (c .before .before .before .before .before .before .before .before .rest-at .ensures) (c .before .before .before .before .before .before .write-fields .ensures) (tag-behind-took 125 (c .before .close .given .1) (c .before .before .before .tag-behind .ensures))
+
+pub write-struct-fields-spec : {M : Type 1} → statement M
+write-struct-fields-spec =
+    tie.close
+    (tie.spec
+    tag-requires
+    enum-known-brace
+    enum-told
+    returns
+    rest-at-requires
+    write-fields-requires
+    tag-behind-requires
+    enum-known-close
+    enum-told-2
+    same-length
+    returns-2
+    same-length-2
+    returns-3)

@@ -1,0 +1,3 @@
+-- Laws of the readers of levels.
+pub mod Keywords
+pub mod Laws

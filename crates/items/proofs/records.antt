@@ -1,0 +1,2 @@
+-- Laws of reading records back.
+pub mod Laws

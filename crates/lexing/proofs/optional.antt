@@ -1,2 +1,0 @@
--- Laws of optional parts.
-pub mod Laws

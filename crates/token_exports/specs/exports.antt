@@ -1,0 +1,17 @@
+-- What a call from C answers: an offset, or the largest number where nothing is read.
+use Prim.Native.Nat.{ℕ}
+use mathlib.Core.Bool.{true, false}
+use mathlib.Core.List.{List}
+use Rattle.lexing.specs.reply.{Reply, ok, fail, stop}
+use Rattle.lexing.specs.integers.{u64-max}
+use Rattle.lexing.specs.words.{isKey, keyword}
+
+-- the offset behind what is read
+unfoldable pub behind : {A : Type 0} → Reply A → ℕ
+behind (ok a c u) = c
+behind (fail p) = u64-max
+behind (stop n p) = u64-max
+
+-- the offset behind a keyword at the front of a text; bytes that are no keyword are not looked for
+unfoldable pub behind-keyword : List ℕ → List ℕ → ℕ
+behind-keyword k u = elim (isKey k) [ true ↦ behind (keyword k 0 u) | false ↦ u64-max ]
