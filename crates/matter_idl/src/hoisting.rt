@@ -3,7 +3,7 @@ ghost use mathlib.Core.Path.{_≡_};
 ghost use Prim.Native.Nat.{_+_, _^_, _≤_, _<_};
 ghost use lib.ListN.{length, take, drop};
 ghost use Rattle.lexing.specs.word_sets.{same-bytes};
-ghost use Rattle.items.specs.layout.{kind-field, layout, text-limit};
+ghost use Rattle.items.specs.layout.{kind-field, layout, text-limit, words-of-kind};
 ghost use Rattle.items.specs.stored.{value-at};
 ghost use Rattle.matter_idl.specs.inner.bits.{bits-size};
 ghost use Rattle.matter_idl.specs.inner.hoisting.{NameInside, hits-at, hash-at, unmarked-at, Catalogue, HeldTo, KnownTo, Marking, MarkedTo, MayBeType, Unhoisted, HoistedTo};
@@ -63,6 +63,19 @@ fn is_global(text: &[u8], out: &[u8], at: usize, kind: u8, name: usize, size: us
     same_bytes(text, name, other, size)
 }
 
+// How many words the record at an offset takes, where one of a kind takes as many as own says. After a record of that kind the next offset does not wait for what words_of loads.
+fn words_at(out: &[u8], at: usize, kind: u8, own: usize) -> usize
+    requires { ⌜ at + 8 ≤ length (now out) ⌝ }
+    requires { ⌜ own ≡ words-of-kind layout kind ⌝ }
+    ensures { λ r. ⌜ r ≡ words-of-kind layout (value-at layout kind-field (now (out .entry)) at) ⌝ }
+{
+    let here = kind_at(out, at);
+    if here == kind {
+        return own;
+    }
+    words_of(here)
+}
+
 // Whether a record before an end is that of a global type of a kind, with the id at an offset of the text.
 fn search_records(text: &[u8], out: &[u8], end: usize, kind: u8, name: usize, size: usize) -> bool
     requires { ⌜ length (now text) ≤ text-limit ⌝ }
@@ -70,12 +83,13 @@ fn search_records(text: &[u8], out: &[u8], end: usize, kind: u8, name: usize, si
     requires { ⌜ name + size ≤ length (now text) ⌝ }
     ensures { λ r. ⌜ HeldTo r (now (text .entry)) (now (out .entry)) end kind name size ⌝ }
 {
+    let own = words_of(kind);
     let mut at = 0;
     while at < end {
         if is_global(text, out, at, kind, name, size) {
             return true;
         }
-        at += WORD * words_of(kind_at(out, at));
+        at += WORD * words_at(out, at, kind, own);
     }
     false
 }

@@ -11,7 +11,7 @@ ghost use Rattle.matter_idl.specs.reading.{verdict-at};
 ghost use Rattle.matter_idl.specs.survey.{number-width, items-of, accepted-items, report-entries, report-layout, report-bytes};
 ghost use Rattle.matter_idl.specs.inner.bits.{bits-size};
 ghost use Rattle.matter_idl.specs.inner.reading.{PartOf, HoistedFront};
-ghost use Rattle.matter_idl.specs.inner.survey.{entryWord, verdictWord, entryOf, PlaceFits, wordsOf, AcceptedBits, Remembered, BitTrue, Judged, SectionBehindTo};
+ghost use Rattle.matter_idl.specs.inner.survey.{entryWord, verdictWord, entryOf, PlaceFits, wordsOf, AcceptedBits, Remembered, accepted-alone, Judged, SectionBehindTo};
 use crate::bits::has_bit;
 use crate::bits::set_bit;
 use crate::reading::Verdict;
@@ -127,13 +127,13 @@ pub fn count_accepted(text: &[u8], accepted_bits: &mut [u8]) -> Counted
     }
 }
 
-// The verdict on section i: a refused one is judged once more, for its number and place.
-fn verdict_again(part: &[u8], base: usize, accepted_bits: &[u8], i: usize) -> Verdict
+// The verdict on a section: a refused one is judged once more, for its number and place.
+fn verdict_again(part: &[u8], base: usize, accepted: bool) -> Verdict
     requires { ⌜ base + length (now part) ≤ text-limit ⌝ }
-    requires { ⌜ BitTrue (now «accepted_bits») i base (now part) ⌝ }
+    requires { ⌜ accepted ≡ accepted-alone base (now part) ⌝ }
     ensures { λ r. ⌜ Judged r base (now (part .entry)) ⌝ }
 {
-    if has_bit(accepted_bits, i) {
+    if accepted {
         return Verdict::Accepted(0);
     }
     verdict_at(part, base)
@@ -144,23 +144,23 @@ fn write_accepted(
     text: &[u8],
     part: &[u8],
     base: usize,
-    v: Verdict,
+    accepted: bool,
     catalogue: &mut [u8],
     filter: &mut [u8],
     to: usize,
 ) -> usize
     requires { ⌜ length (now text) ≤ text-limit ⌝ }
     requires { ⌜ PartOf (now text) base (now part) ⌝ }
-    requires { ⌜ Judged v base (now part) ⌝ }
+    requires { ⌜ accepted ≡ accepted-alone base (now part) ⌝ }
     requires { ⌜ to + 8 * word-count layout (hoisted no-ids (items-of (verdict-at base (now part)))) ≤ length (now catalogue) ⌝ }
     requires { ⌜ HoistedFront (now text) (now catalogue) (now filter) to ⌝ }
     ensures { λ r. ⌜ SectionBehindTo (now (catalogue .exit)) (now (filter .exit)) (now (text .entry)) (now (catalogue .entry)) (now (filter .entry)) to base (now (part .entry)) r ⌝ }
 {
-    let Verdict::Accepted(_) = v else {
-        return to;
-    };
-    let wrote = write_items(text, part, base, catalogue, filter, to);
-    wrote.to
+    if accepted {
+        let wrote = write_items(text, part, base, catalogue, filter, to);
+        return wrote.to;
+    }
+    to
 }
 
 // The second pass: each section's entry, and its records if it is accepted.
@@ -188,9 +188,10 @@ pub fn write_sections(
         let s = first_section(rest_at(text, 0, start), start);
         let end = s.end;
         let part = section_at(text, start, end);
-        let v = verdict_again(part, start, accepted_bits, i);
+        let accepted = has_bit(accepted_bits, i);
+        let v = verdict_again(part, start, accepted);
         put_entry(report, ENTRY_SIZE * i, start, end - start, v);
-        to = write_accepted(text, part, start, v, catalogue, filter, to);
+        to = write_accepted(text, part, start, accepted, catalogue, filter, to);
         start = end;
         i += 1;
     }

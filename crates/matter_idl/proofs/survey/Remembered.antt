@@ -1,6 +1,6 @@
--- The verdict on a section in the second pass: by its mark, or taken once more.
-use mathlib.Core.Path.{_≡_, refl, sym, ap, _∙_, subst}
-use mathlib.Core.Bool.{true, false≢true}
+-- The verdict on a section in the second pass: by its bit, or judged once more.
+use mathlib.Core.Path.{_≡_, refl, sym, ap, _∙_}
+use mathlib.Core.Bool.{Bool, true, false, false≢true}
 use mathlib.Core.Option.{Option, none, some}
 use mathlib.Core.List.{List, [], _∷_, _++_, append-nil}
 use Prim.Native.Nat.{ℕ, zero, suc, _+_, _-_, _*_, _≤_}
@@ -25,7 +25,7 @@ use Rattle.matter_idl.specs.survey.{items-of, ReportEntry, sound, spoilt
 use Rattle.matter_idl.specs.answers.reading.{VerdictAtTo}
 use Rattle.matter_idl.specs.inner.reading.{HoistedItemsTo}
 use Rattle.matter_idl.specs.inner.bits.{bits-size, has-bit, BitSet}
-use Rattle.matter_idl.specs.inner.survey.{is-sound, no-entry, AcceptedBits, Remembered, BitTrue, Judged, SectionBehindTo}
+use Rattle.matter_idl.specs.inner.survey.{is-sound, no-entry, AcceptedBits, Remembered, accepted-alone, Judged, SectionBehindTo}
 use Rattle.matter_idl.specs.declared.reading.Verdict.{Verdict}
 use Rattle.matter_idl.specs.declared.reading.Verdict.the-variants.{Accepted, Refused}
 use Rattle.matter_idl.proofs.bits.Laws.{none-set}
@@ -71,23 +71,20 @@ unfolding report-entry
 judged-of (Accepted n) b u h l = record { is = rw (h .is, report-entry) refl; fits = tt }
 judged-of (Refused k p) b u h l = record { is = rw (h .is, report-entry) refl; fits = (number-less 16 part-numbers refl k (h .number), omega (arith, h .inside)) }
 
-pub judged-marked : {bits : List ℕ} {i b : ℕ} {u : List ℕ} → BitTrue bits i b u → has-bit bits i ≡ true → (n : ℕ) → Judged (Accepted n) b u
+pub judged-marked : {a : Bool} {b : ℕ} {u : List ℕ} → a ≡ accepted-alone b u → a ≡ true → (n : ℕ) → Judged (Accepted n) b u
 unfolding report-entry
-judged-marked {b = b} {u = u} m h n = record { is = go (verdict-at b u) (sym (m .mark) ∙ h); fits = tt }
+judged-marked {b = b} {u = u} m h n = record { is = go (verdict-at b u) (sym m ∙ h); fits = tt }
   where
     go : (v : VerdictOf) → is-sound (report-entry b (length u) v) ≡ true → sound b (length u) ≡ report-entry b (length u) v
     go (accepted l) k = refl
     go (turned-down x p) k = absurd (false≢true k)
 
-judged-as : {v w : Verdict} {b : ℕ} {u : List ℕ} → v ≡ w → Judged v b u → Judged w b u
-judged-as {b = b} {u = u} e h = subst (λ (x : Verdict). Judged x b u) e h
-
-refused-items : {k p b : ℕ} {u : List ℕ} → Judged (Refused k p) b u → items-of (verdict-at b u) ≡ []
+refused-items : {a : Bool} (b : ℕ) (u : List ℕ) → a ≡ accepted-alone b u → a ≡ false → items-of (verdict-at b u) ≡ []
 unfolding report-entry items-of
-refused-items {k} {p} {b} {u} h = go (verdict-at b u) (h .is)
+refused-items b u m h = go (verdict-at b u) (sym h ∙ m)
   where
-    go : (v : VerdictOf) → spoilt b (length u) k p ≡ report-entry b (length u) v → items-of v ≡ []
-    go (accepted l) e = let z : _≡_ {A = ℕ} 0 1 = cc in absurd (omega arith)
+    go : (v : VerdictOf) → false ≡ is-sound (report-entry b (length u) v) → items-of v ≡ []
+    go (accepted l) e = absurd (false≢true e)
     go (turned-down x q) e = refl
 
 -- what an accepted section reads
@@ -109,19 +106,23 @@ accepted-reads {n} {b} {u} h = go (utf8-error b u) refl (all-items b u) refl
         let x : items-of (verdict-at b u) ≡ l = rw (e, f, by-utf8, by-reply, items-of) refl in
         (c, rw (x, f, ← y) refl)
 
--- The records of a section behind those before it.
-module _ {v : Verdict} {b : ℕ} {u : List ℕ} (h : Judged v b u) where
-  pub refused-behind : {k p : ℕ} → v ≡ Refused k p → {t out filter : List ℕ} {at : ℕ} → SectionBehindTo out filter t out filter at b u at
+-- The records of a section after those before it.
+module _ {a : Bool} (b : ℕ) (u : List ℕ) (h : a ≡ accepted-alone b u) where
+  pub refused-behind : a ≡ false → {t out filter : List ℕ} {at : ℕ} → SectionBehindTo out filter t out filter at b u at
   refused-behind e {at = at} f =
       let z : at - at ≡ 0 = omega arith in
-      record { front = f; front-items = rw (refused-items (judged-as e h)) (sym (append-nil (f .items))); front-tail = rw z refl }
+      record { front = f; front-items = rw (refused-items b u h e) (sym (append-nil (f .items))); front-tail = rw z refl }
 
-  pub judged-room : {n : ℕ} → v ≡ Accepted n → {at size : ℕ} → at + 8 * word-count layout (hoisted no-ids (items-of (verdict-at b u))) ≤ size → Room (each unhoisted-item) all-items b u at size
-  judged-room e l = let r = accepted-reads (judged-as e h) in record { value = items-of (verdict-at b u); next = r .0; is = r .1; fits = omega (arith, hoisted-words no-ids (items-of (verdict-at b u)), l) }
+  module _ (e : a ≡ true) where
+    reads : (c : ℕ) × (ok (items-of (verdict-at b u)) c (drop (c - b) u) ≡ all-items b u)
+    reads = accepted-reads (judged-marked h e 0)
 
-  pub accepted-behind : {n : ℕ} → v ≡ Accepted n → {new filter t old filter₀ : List ℕ} {at : ℕ} {w : Wrote} → HoistedItemsTo new filter t old filter₀ at b u w → SectionBehindTo new filter t old filter₀ at b u (w .to)
-  accepted-behind e g f =
-      let k = g f in
-      let z = accepted-reads (judged-as e h) .1 ∙ sym (k .is) in
-      let y : k .items ≡ items-of (verdict-at b u) = cc in
-      record { front = k .front; front-items = k .front-items ∙ ap (λ (l : List Item). f .items ++ l) y; front-tail = k .front-tail }
+    pub judged-room : {at size : ℕ} → at + 8 * word-count layout (hoisted no-ids (items-of (verdict-at b u))) ≤ size → Room (each unhoisted-item) all-items b u at size
+    judged-room l = record { value = items-of (verdict-at b u); next = reads .0; is = reads .1; fits = omega (arith, hoisted-words no-ids (items-of (verdict-at b u)), l) }
+
+    pub accepted-behind : {new filter t old filter₀ : List ℕ} {at : ℕ} {w : Wrote} → HoistedItemsTo new filter t old filter₀ at b u w → SectionBehindTo new filter t old filter₀ at b u (w .to)
+    accepted-behind g f =
+        let k = g f in
+        let z = reads .1 ∙ sym (k .is) in
+        let y : k .items ≡ items-of (verdict-at b u) = cc in
+        record { front = k .front; front-items = k .front-items ∙ ap (λ (l : List Item). f .items ++ l) y; front-tail = k .front-tail }

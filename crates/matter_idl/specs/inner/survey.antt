@@ -52,11 +52,15 @@ abbrev pub Remembered : (new old : List ℕ) → ℕ → Verdict → Type 0
 Remembered new old i (Accepted m) = BitSet new old i
 Remembered new old i (Refused k p) = new ≡ old
 
--- section i, its mark among them
+-- whether a section is accepted
+abbrev pub accepted-alone : ℕ → List ℕ → Bool
+accepted-alone b u = is-sound (report-entry b (length u) (verdict-at b u))
+
+-- a section's number has a bit, which says whether it is accepted
 pub record BitTrue (bits : List ℕ) (i b : ℕ) (u : List ℕ) : Type 0 where
   pub size : length bits ≡ bits-size
   pub place : i < 2 ^ 19
-  pub mark : has-bit bits i ≡ is-sound (report-entry b (length u) (verdict-at b u))
+  pub mark : has-bit bits i ≡ accepted-alone b u
 
 -- a verdict that is a section's, whatever its words
 pub record Judged (v : Verdict) (b : ℕ) (u : List ℕ) : Type 0 where
