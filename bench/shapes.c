@@ -39,7 +39,7 @@ static void run(Text *t) {
     keep(&t->survey, now() - between);
 }
 
-/* The piece again and again; %d in it stands for the number of the copy. */
+/* The piece again and again; %d in it is the number of the copy. */
 static size_t repeated(const char *piece, uint8_t *bytes, size_t size) {
     size_t n = 0;
     for (int i = 0;; i++) {
@@ -112,6 +112,6 @@ int main(int count, char **names) {
     same("clusters with one shared id", "cluster C=1{shared enum E:t{}}");
     same("a section a line, accepted", "enum E:t{\n}");
     same("a section a line, spoilt", "x\n}");
-    same("an open /* behind every item", "enum E:t{\n}/*");
+    same("an open /* after every item", "enum E:t{\n}/*");
     return 0;
 }

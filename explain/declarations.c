@@ -6,16 +6,16 @@
 #include <stdio.h>
 #include <string.h>
 
-/* How far the braces behind a cluster's name have been followed. */
+/* How far the braces after a cluster's name have been followed. */
 struct braces {
     size_t at, depth;
     int closed;
 };
 
-/* A declaration at the top, and how many records of each kind stand behind it. */
+/* A declaration at the top, and how many records of each kind it has. */
 struct declaration {
     const uint8_t *record;
-    size_t counts[17], global_types, dropped_types;
+    size_t counts[MATTER_IDL_KINDS + 1], global_types, dropped_types;
     struct braces braces;
 };
 
@@ -23,14 +23,8 @@ static int is_type(unsigned kind) {
     return kind == MATTER_IDL_ENUM || kind == MATTER_IDL_BITMAP || kind == MATTER_IDL_STRUCT;
 }
 
-static int is_shared(uint64_t first) {
-    if (matter_idl_kind(first) == MATTER_IDL_STRUCT)
-        return matter_idl_flags_type(first) == MATTER_IDL_STRUCT_SHARED;
-    return (matter_idl_flags(first) & MATTER_IDL_CHOICE_SHARED) != 0;
-}
-
-/* The offset behind a comment or an annotation's string that starts at `at`, or `at` if none does. */
-static size_t behind_quiet(struct text text, size_t at, size_t to) {
+/* The offset after a comment or an annotation's string that starts at `at`, or `at` if none does. */
+static size_t after_quiet(struct text text, size_t at, size_t to) {
     const uint8_t *b = text.bytes;
     if (b[at] == '"') {
         for (at++; at < to && b[at] != '"'; at++)
@@ -55,9 +49,9 @@ static size_t behind_quiet(struct text text, size_t at, size_t to) {
 /* Follows the braces on to an offset. Each byte is looked at once, so a cluster of many types takes no longer than its text. */
 static void follow(struct text text, struct braces *braces, size_t to) {
     while (!braces->closed && braces->at < to) {
-        size_t behind = behind_quiet(text, braces->at, to);
-        if (behind > braces->at) {
-            braces->at = behind;
+        size_t after = after_quiet(text, braces->at, to);
+        if (after > braces->at) {
+            braces->at = after;
             continue;
         }
         uint8_t byte = text.bytes[braces->at++];
@@ -69,32 +63,32 @@ static void follow(struct text text, struct braces *braces, size_t to) {
 }
 
 /*
- * Whether a record starts a declaration at the top. A type of place 1 behind a cluster is one at the top or a shared one of
- * that cluster; if both are written `shared`, only the text tells: the cluster's brace is closed before the one at the top.
+ * Whether a record starts a declaration at the top. A global type after a cluster is one at the top or a shared one of that
+ * cluster; if both are written `shared`, only the text tells: the cluster's brace is closed before the one at the top.
  */
-static int starts_declaration(struct text text, struct declaration *current, uint64_t first) {
-    unsigned kind = matter_idl_kind(first);
+static int starts_declaration(struct text text, struct declaration *current, const uint8_t *record) {
+    unsigned kind = matter_idl_kind_of(record);
     if (kind == MATTER_IDL_CLUSTER || kind == MATTER_IDL_ENDPOINT)
         return 1;
-    if (!is_type(kind) || matter_idl_place(first) != MATTER_IDL_GLOBAL)
+    if (!is_type(kind) || matter_idl_place_of(record) != MATTER_IDL_GLOBAL)
         return 0;
-    if (!current->record || matter_idl_kind(matter_idl_word(current->record)) != MATTER_IDL_CLUSTER || !is_shared(first))
+    if (!current->record || matter_idl_kind_of(current->record) != MATTER_IDL_CLUSTER || !matter_idl_is_shared(record))
         return 1;
-    follow(text, &current->braces, matter_idl_name_offset(first));
+    follow(text, &current->braces, matter_idl_name(record).offset);
     return current->braces.closed;
 }
 
 static void start(struct declaration *current, const uint8_t *record, struct totals *totals) {
     memset(current, 0, sizeof *current);
     current->record = record;
-    current->braces.at = matter_idl_name_offset(matter_idl_word(record));
+    current->braces.at = matter_idl_name(record).offset;
     totals->declarations++;
 }
 
-static void count(struct declaration *current, uint64_t first, int within, struct totals *totals) {
-    unsigned place = matter_idl_place(first);
+static void count(struct declaration *current, const uint8_t *record, int within, struct totals *totals) {
+    unsigned place = matter_idl_place_of(record);
     if (within)
-        current->counts[matter_idl_kind(first)]++;
+        current->counts[matter_idl_kind_of(record)]++;
     if (place == MATTER_IDL_GLOBAL) {
         totals->global_types++;
         current->global_types += within ? 1 : 0;
@@ -105,13 +99,14 @@ static void count(struct declaration *current, uint64_t first, int within, struc
 }
 
 /* A name is letters, digits and `_` of ASCII, so it can be printed as it is. */
-static void print_name(struct text text, uint64_t first) {
-    fwrite(text.bytes + matter_idl_name_offset(first), 1, matter_idl_name_length(first), stdout);
+static void print_name(struct text text, const uint8_t *record) {
+    struct matter_idl_span name = matter_idl_name(record);
+    fwrite(text.bytes + name.offset, 1, name.length, stdout);
 }
 
-static void print_maturity(uint64_t first) {
+static void print_maturity(const uint8_t *record) {
     static const char *const words[4] = {"", "provisional ", "internal ", "deprecated "};
-    fputs(words[matter_idl_maturity(first)], stdout);
+    fputs(words[matter_idl_maturity_of(record)], stdout);
 }
 
 /* Which kinds of parts are counted, in the order of their telling. */
@@ -143,12 +138,11 @@ static void print_cluster(struct text text, const struct declaration *current) {
         {MATTER_IDL_STRUCT, "struct", "structs"},
         {0, NULL, NULL},
     };
-    uint64_t first = matter_idl_word(current->record);
-    uint64_t revision = matter_idl_word(current->record + 24);
-    print_maturity(first);
+    uint64_t revision = matter_idl_revision(current->record);
+    print_maturity(current->record);
     fputs("cluster ", stdout);
-    print_name(text, first);
-    printf(" = %" PRIu64, matter_idl_word(current->record + 16));
+    print_name(text, current->record);
+    printf(" = %" PRIu64, matter_idl_code(current->record));
     if (revision)
         printf(", revision %" PRIu64, revision);
     print_counts(current, parts);
@@ -163,37 +157,35 @@ static void print_endpoint(const struct declaration *current) {
         {MATTER_IDL_INSTANTIATION, "cluster", "clusters"},
         {0, NULL, NULL},
     };
-    printf("endpoint %" PRIu64, matter_idl_word(current->record + 8));
+    printf("endpoint %" PRIu64, matter_idl_endpoint_id(current->record));
     print_counts(current, parts);
 }
 
 static void print_choice(struct text text, const struct declaration *current) {
     static const struct part parts[] = {{MATTER_IDL_ENTRY, "entry", "entries"}, {0, NULL, NULL}};
-    uint64_t first = matter_idl_word(current->record);
-    print_maturity(first);
-    fputs(is_shared(first) ? "shared " : "", stdout);
-    fputs(matter_idl_kind(first) == MATTER_IDL_ENUM ? "enum " : "bitmap ", stdout);
-    print_name(text, first);
+    print_maturity(current->record);
+    fputs(matter_idl_is_shared(current->record) ? "shared " : "", stdout);
+    fputs(matter_idl_kind_of(current->record) == MATTER_IDL_ENUM ? "enum " : "bitmap ", stdout);
+    print_name(text, current->record);
     print_counts(current, parts);
 }
 
 static void print_struct(struct text text, const struct declaration *current) {
     static const struct part parts[] = {{MATTER_IDL_FIELD, "field", "fields"}, {0, NULL, NULL}};
     static const char *const types[4] = {"", "request ", "response ", "shared "};
-    uint64_t first = matter_idl_word(current->record);
-    unsigned type = matter_idl_flags_type(first);
-    print_maturity(first);
+    unsigned type = matter_idl_struct_type_of(current->record);
+    print_maturity(current->record);
     fputs(types[type], stdout);
     fputs("struct ", stdout);
-    print_name(text, first);
+    print_name(text, current->record);
     if (type == MATTER_IDL_STRUCT_RESPONSE)
-        printf(" = %" PRIu64, matter_idl_word(current->record + 16));
+        printf(" = %" PRIu64, matter_idl_code(current->record));
     print_counts(current, parts);
 }
 
 static void print_declaration(struct text text, const struct declaration *current, const char *lead) {
     printf("%-14s ", lead);
-    switch (matter_idl_kind(matter_idl_word(current->record))) {
+    switch (matter_idl_kind_of(current->record)) {
     case MATTER_IDL_CLUSTER:
         print_cluster(text, current);
         break;
@@ -211,19 +203,17 @@ static void print_declaration(struct text text, const struct declaration *curren
 
 void tell_declarations(struct text text, const uint8_t *records, size_t length, const char *lead, struct totals *totals) {
     struct declaration current;
+    const uint8_t *record;
     memset(&current, 0, sizeof current);
-    for (size_t at = 0; at < length;) {
-        uint64_t first = matter_idl_word(records + at);
-        int starts = starts_declaration(text, &current, first);
-        if (starts) {
-            if (current.record) {
-                print_declaration(text, &current, lead);
-                lead = "";
-            }
-            start(&current, records + at, totals);
+    for (size_t at = 0; (record = matter_idl_record_at(records, length, at)) != NULL; at = matter_idl_next(records, length, at)) {
+        int starts = starts_declaration(text, &current, record);
+        if (starts && current.record) {
+            print_declaration(text, &current, lead);
+            lead = "";
         }
-        count(&current, first, !starts, totals);
-        at += 8 * matter_idl_record_words(matter_idl_kind(first));
+        if (starts)
+            start(&current, record, totals);
+        count(&current, record, !starts, totals);
     }
     if (current.record)
         print_declaration(text, &current, lead);

@@ -5,6 +5,9 @@
 #include <stddef.h>
 #include <stdint.h>
 
+/* What the program is called by, for its messages. */
+extern const char *program;
+
 struct text {
     const uint8_t *bytes;
     size_t length;
@@ -18,13 +21,13 @@ struct totals {
 /* input.c: the whole of a file, or of standard input if the name is NULL. Answers 0 if it can't be had, having said why. */
 int read_input(const char *name, struct text *text);
 
-/* declarations.c: one line for each declaration that a section's records hold, the first one behind `lead`. */
+/* declarations.c: one line for each declaration that a section's records hold, the first one after `lead`. */
 void tell_declarations(struct text text, const uint8_t *records, size_t length, const char *lead, struct totals *totals);
 
-/* place.c: how many characters of its line stand before the place, and 1. */
+/* place.c: how many characters of its line are before the place, and 1. */
 size_t column_of(struct text text, size_t place);
 
-/* place.c: the place's line, or what stands around the place if the line is long, and a caret below. */
+/* place.c: the place's line, or what is around the place if the line is long, and a caret below. */
 void show_place(struct text text, size_t place, size_t line);
 
 #endif

@@ -8,7 +8,7 @@
 #include <string.h>
 
 static int refuse(const char *name, const char *why) {
-    fprintf(stderr, "explain: %s: %s\n", name, why);
+    fprintf(stderr, "%s: %s: %s\n", program, name, why);
     return 0;
 }
 
@@ -35,5 +35,5 @@ int read_input(const char *name, struct text *text) {
     if (!failed && length < room)
         return 1;
     free(bytes);
-    return refuse(shown, failed ? strerror(cause) : "longer than 1,048,575 bytes");
+    return refuse(shown, failed ? strerror(cause) : matter_idl_message(MATTER_IDL_TEXT_TOO_LONG));
 }

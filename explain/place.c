@@ -79,7 +79,7 @@ static size_t columns(uint32_t value) {
     return IN(none, value) ? 0 : IN(two, value) ? 2 : 1;
 }
 
-/* The cell of the character at `at`, which stands in a column of its line (a tab's width depends on it). */
+/* The cell of the character at `at`, in a column of its line (a tab's width depends on it). */
 static struct cell cell_at(struct text text, size_t at, size_t end, size_t column) {
     const uint8_t *b = text.bytes + at;
     struct cell cell = {1, 1, ""};
@@ -115,7 +115,7 @@ static struct line line_of(struct text text, size_t place) {
     return line;
 }
 
-/* How many characters of the line stand before `at`, and how many columns of the terminal they take. */
+/* How many characters of the line are before `at`, and how many columns of the terminal they take. */
 static size_t characters_before(struct text text, struct line line, size_t at, size_t *column) {
     size_t characters = 0;
     *column = 0;
@@ -132,20 +132,20 @@ size_t column_of(struct text text, size_t place) {
     return characters_before(text, line_of(text, place), place, &column) + 1;
 }
 
-/* Prints the cells that stand wholly in columns `from` up to `to`, and blanks for the rest of one that starts before. */
+/* Prints the cells that are wholly in columns `from` up to `to`, and blanks for the rest of one that starts before. */
 static void print_columns(struct text text, struct line line, size_t from, size_t to) {
     size_t column = 0;
     for (size_t i = line.start; i < line.end;) {
         struct cell cell = cell_at(text, i, line.end, column);
-        size_t behind = column + cell.width;
-        if (behind > to)
+        size_t after = column + cell.width;
+        if (after > to)
             break;
         if (column >= from)
             fputs(cell.shown, stdout);
-        else if (behind > from)
-            printf("%*s", (int)(behind - from), "");
+        else if (after > from)
+            printf("%*s", (int)(after - from), "");
         i += cell.bytes;
-        column = behind;
+        column = after;
     }
 }
 

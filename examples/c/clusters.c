@@ -2,8 +2,11 @@
 #include <matter_idl.h>
 
 #include <inttypes.h>
+#include <signal.h>
 #include <stdio.h>
 #include <stdlib.h>
+
+enum status { ALL_ACCEPTED = 0, SOME_REFUSED = 1, FAILED = 2 };
 
 /* The file's bytes, up to one more than the limit, so that a longer file is refused by the survey. NULL if it can't be read. */
 static uint8_t *load(const char *name, size_t *length) {
@@ -21,36 +24,34 @@ static uint8_t *load(const char *name, size_t *length) {
     return text;
 }
 
-static void print_name(const uint8_t *text, uint64_t first) {
-    printf("%.*s", (int)matter_idl_name_length(first), (const char *)text + matter_idl_name_offset(first));
+static void print_name(const uint8_t *text, const uint8_t *record) {
+    struct matter_idl_span name = matter_idl_name(record);
+    fwrite(text + name.offset, 1, name.length, stdout);
 }
 
-/* An attribute's code and name are in the field that follows it at once. */
-static void print_attribute(const uint8_t *text, const uint8_t *record) {
-    static const char *const privileges[4] = {"view", "operate", "manage", "administer"};
-    uint64_t first = matter_idl_word(record);
-    unsigned flags = matter_idl_flags(first);
-    const uint8_t *field = record + 8 * matter_idl_record_words(MATTER_IDL_ATTRIBUTE);
-    printf("  %5" PRIu64 " ", matter_idl_word(field + 16));
-    print_name(text, matter_idl_word(field));
-    if (!(flags & MATTER_IDL_ATTRIBUTE_WRITEONLY))
-        printf(", read: %s", privileges[matter_idl_first_privilege(first)]);
-    if (!(flags & MATTER_IDL_ATTRIBUTE_READONLY))
-        printf(", write: %s", privileges[matter_idl_second_privilege(first)]);
+/* An attribute's code and name are in its field. A writeonly one can't be read, and a readonly one can't be written, whatever
+   privilege its record has for that. */
+static void print_attribute(const uint8_t *text, const uint8_t *attribute, const uint8_t *field) {
+    static const char *const privileges[] = {"view", "operate", "manage", "administer"};
+    printf("  %5" PRIu64 " ", matter_idl_code(field));
+    print_name(text, field);
+    if (!matter_idl_is_writeonly(attribute))
+        printf(", read: %s", privileges[matter_idl_read_privilege(attribute)]);
+    if (!matter_idl_is_readonly(attribute))
+        printf(", write: %s", privileges[matter_idl_write_privilege(attribute)]);
     putchar('\n');
 }
 
 static void print_catalogue(const uint8_t *text, const uint8_t *catalogue, size_t length) {
-    for (size_t at = 0; at < length;) {
-        const uint8_t *record = catalogue + at;
-        uint64_t first = matter_idl_word(record);
-        if (matter_idl_kind(first) == MATTER_IDL_CLUSTER) {
-            print_name(text, first);
-            printf(" = %" PRIu64 "\n", matter_idl_word(record + 16));
-        } else if (matter_idl_kind(first) == MATTER_IDL_ATTRIBUTE) {
-            print_attribute(text, record);
-        }
-        at += 8 * matter_idl_record_words(matter_idl_kind(first));
+    const uint8_t *record;
+    for (size_t at = 0; (record = matter_idl_record_at(catalogue, length, at)) != NULL; at = matter_idl_next(catalogue, length, at)) {
+        const uint8_t *field = matter_idl_attribute_field(catalogue, length, at);
+        if (field)
+            print_attribute(text, record, field);
+        if (matter_idl_kind_of(record) != MATTER_IDL_CLUSTER)
+            continue;
+        print_name(text, record);
+        printf(" = %" PRIu64 "\n", matter_idl_code(record));
     }
 }
 
@@ -58,42 +59,62 @@ static void print_catalogue(const uint8_t *text, const uint8_t *catalogue, size_
 static size_t print_refused(const uint8_t *report, size_t sections) {
     size_t refused = 0;
     for (size_t i = 0; i < sections; i++) {
-        uint64_t entry = matter_idl_word(report + 8 * i);
-        if (matter_idl_section_number(entry) == MATTER_IDL_ACCEPTED)
+        unsigned number = matter_idl_section_number(report, i);
+        if (number == MATTER_IDL_ACCEPTED)
             continue;
-        fprintf(stderr, "section at byte %zu: refused by %u at byte %zu\n", matter_idl_section_start(entry),
-                matter_idl_section_number(entry), matter_idl_section_place(entry));
+        fprintf(stderr, "section at byte %zu: refused by %u at byte %zu: %s\n", matter_idl_section_start(report, i), number,
+                matter_idl_section_place(report, i), matter_idl_message(number));
         refused++;
     }
     return refused;
+}
+
+static enum status survey(const uint8_t *text, size_t length) {
+    size_t sections = matter_idl_sections(text, length);
+    size_t catalogue_length = MATTER_IDL_CATALOGUE_BYTES(length), report_length = MATTER_IDL_REPORT_BYTES(sections);
+    uint8_t *catalogue = malloc(catalogue_length), *report = malloc(report_length);
+    enum status status = FAILED;
+    if (!catalogue || !report) {
+        fputs("clusters: not enough memory\n", stderr);
+    } else {
+        uint64_t result = matter_idl_survey(text, length, catalogue, catalogue_length, report, report_length);
+        if (matter_idl_number(result) == MATTER_IDL_ACCEPTED) {
+            print_catalogue(text, catalogue, (size_t)matter_idl_value(result));
+            status = print_refused(report, sections) ? SOME_REFUSED : ALL_ACCEPTED;
+        } else {
+            fprintf(stderr, "clusters: refused by %u: %s\n", matter_idl_number(result), matter_idl_message(matter_idl_number(result)));
+        }
+    }
+    free(report);
+    free(catalogue);
+    return status;
+}
+
+/* An output that can't be written, as to a full disk, must not pass for success. */
+static enum status finished(enum status status) {
+    int failed = ferror(stdout);
+    if (fclose(stdout) == 0 && !failed)
+        return status;
+    fputs("clusters: standard output can't be written\n", stderr);
+    return FAILED;
 }
 
 int main(int argc, char **argv) {
     size_t length = 0;
     if (argc != 2) {
         fputs("usage: clusters FILE\n", stderr);
-        return 2;
+        return FAILED;
     }
+#ifdef SIGPIPE
+    /* A pipe that nobody reads is then an output that can't be written, and not a silent end. */
+    signal(SIGPIPE, SIG_IGN);
+#endif
     uint8_t *text = load(argv[1], &length);
     if (!text) {
         fprintf(stderr, "clusters: %s can't be read\n", argv[1]);
-        return 2;
+        return FAILED;
     }
-    size_t sections = matter_idl_sections(text, length);
-    size_t catalogue_length = MATTER_IDL_CATALOGUE_BYTES(length), report_length = MATTER_IDL_REPORT_BYTES(sections);
-    uint8_t *catalogue = malloc(catalogue_length + 1), *report = malloc(report_length);
-    int status = 2;
-    if (catalogue && report) {
-        uint64_t result = matter_idl_survey(text, length, catalogue, catalogue_length, report, report_length);
-        if (matter_idl_number(result) == MATTER_IDL_ACCEPTED) {
-            print_catalogue(text, catalogue, (size_t)matter_idl_value(result));
-            status = print_refused(report, sections) ? 1 : 0;
-        } else {
-            fprintf(stderr, "refused by %u, %" PRIu64 "\n", matter_idl_number(result), matter_idl_value(result));
-        }
-    }
-    free(report);
-    free(catalogue);
+    enum status status = survey(text, length);
     free(text);
-    return status;
+    return finished(status);
 }

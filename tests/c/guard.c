@@ -1,7 +1,7 @@
 /*
  * guard COUNT: makes COUNT calls of the library, or a few more, with every buffer lent against pages that can't be touched,
  * on generated and damaged texts. The text's page is read-only during calls. A byte touched outside a buffer ends the program.
- * Results and buffers are checked after each call: refusals change nothing, acceptance nothing behind what it wrote.
+ * Results and buffers are checked after each call: refusals change nothing, acceptance nothing after what it wrote.
  */
 #include "matter_idl.h"
 
@@ -138,7 +138,7 @@ static void put_maturity(struct text *text, uint64_t *s) {
     put(text, PICK(s, "", "", "", "provisional ", "internal ", "deprecated ", "stable "));
 }
 
-/* Now and then the brace stands behind a line feed, where the survey cuts. */
+/* Now and then the brace is right after a line feed, where the survey cuts. */
 static void put_close(struct text *text, uint64_t *s) {
     put(text, PICK(s, "}", "}", " }", "\n}", "\n}", "\n  }\n"));
 }
@@ -313,7 +313,7 @@ static void make_text(struct text *text, uint64_t *s) {
         damage(text, s);
 }
 
-/* What may stand between a default string's quotes, and what may not. */
+/* What is allowed between a default string's quotes, and what is not. */
 static void make_part(struct text *text, uint64_t *s) {
     text->length = 0;
     for (size_t n = below(s, 12); n > 0; n--)
@@ -404,7 +404,7 @@ static uint64_t unlimited(uint64_t result, unsigned too_short) {
     return matter_idl_number(result) == too_short ? matter_idl_value(result) : result;
 }
 
-/* The bytes of two calls on the same text are the same, wherever the buffer stands. */
+/* The bytes of two calls on the same text are the same, wherever the buffer is. */
 static void same_bytes(struct state *state, const struct text *text, const uint8_t *bytes, size_t length) {
     if (state->known && (length != state->kept_length || memcmp(state->kept, bytes, length) != 0))
         fail(text, "two calls on one text wrote different bytes");
@@ -442,14 +442,13 @@ static int check_report(struct state *state, const struct text *text, const uint
     size_t start = 0, refused = 0;
     uint8_t *none = buffer_in(state->catalogue, 0, AT_END);
     for (size_t i = 0; i < sections; i++) {
-        uint64_t entry = matter_idl_word(report + 8 * i);
-        size_t length = matter_idl_section_length(entry);
-        if (matter_idl_section_start(entry) != start || length > text->length - start)
-            fail(text, "a section stands elsewhere");
+        size_t length = matter_idl_section_length(report, i);
+        if (matter_idl_section_start(report, i) != start || length > text->length - start)
+            fail(text, "a section is elsewhere");
         uint64_t alone = unlimited(counted(state, text, matter_idl_read(lent_text + start, length, none, 0)), MATTER_IDL_CATALOGUE_TOO_SHORT);
         unsigned number = matter_idl_number(alone);
         size_t place = number ? start + (size_t)matter_idl_value(alone) : 0;
-        if (matter_idl_section_number(entry) != number || matter_idl_section_place(entry) != place)
+        if (matter_idl_section_number(report, i) != number || matter_idl_section_place(report, i) != place)
             fail(text, "the report says something else of a section than reading does");
         start += length;
         refused += number ? 1 : 0;
@@ -469,14 +468,14 @@ static void try_survey_lengths(struct state *state, const struct text *text, con
     check(text, result, should, &report, needed_report);
     if (matter_idl_number(result))
         return;
-    if (check_report(state, text, lent_text, report.bytes, needed_report / 8)) {
+    if (check_report(state, text, lent_text, report.bytes, matter_idl_sections(text->bytes, text->length))) {
         if (!state->known)
             fail(text, "every section is accepted, and the text is not");
         same_bytes(state, text, catalogue.bytes, (size_t)result);
     }
 }
 
-/* Comes behind the reading of the same text: if every section is accepted, the catalogue is the one that reading wrote. */
+/* Comes after the reading of the same text: if every section is accepted, the catalogue is the one that reading wrote. */
 static void try_survey(struct state *state, const struct text *text) {
     size_t needed = MATTER_IDL_REPORT_BYTES(matter_idl_sections(text->bytes, text->length));
     for (enum side side = AT_END; side <= AT_START; side++) {

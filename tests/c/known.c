@@ -50,7 +50,7 @@ static void expect(int holds, const char *what, const char *text) {
     }
 }
 
-/* The catalogue's bytes behind what is written, and all of them where it is refused, are as they were. */
+/* The catalogue's bytes after what is written, and all of them where it is refused, are as they were. */
 static void reads(const struct known *k, size_t length) {
     uint8_t catalogue[256], expected[256];
     memset(catalogue, 0xa5, sizeof catalogue);

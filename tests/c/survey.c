@@ -23,7 +23,7 @@ static const struct known surveys[] = {
      WORDS(0x000000000b000000, 0x0000b0000c000000, 0x0001700000000000)},
     {"enum A:?{\n}\nenum B:t{\n}", WORDS(0x0240000011000010, 0, 0x0001300001000000),
      WORDS(0x000000000b300007, 0x0000b0000c000000, 0x0001700000000000)},
-    /* An id of an accepted section is known to those behind it, one of a refused section is not. */
+    /* An id of an accepted section is known to those after it, one of a refused section is not. */
     {"cluster C=1{\nshared enum E:t{}\n}cluster D=2{\nshared enum E:t{}\n}",
      WORDS(0x0100000008000010, 0, 1, 0, 0x0244000019000010, 0, 0x0001b00001000000, 0x0100000028000010, 0, 2, 0, 0x0284000039000010, 0, 0x0003b00001000000),
      WORDS(0x0000000020000000, 0x0002000020000000, 0x0004000000000000)},
@@ -82,9 +82,8 @@ static uint8_t catalogue[MATTER_IDL_CATALOGUE_BYTES(MATTER_IDL_TEXT_LIMIT)];
 static uint8_t report[MATTER_IDL_REPORT_BYTES(MATTER_IDL_TEXT_LIMIT / 2 + 1)];
 
 static int entry_is(size_t i, size_t start, size_t length, unsigned number, size_t place) {
-    uint64_t entry = matter_idl_word(report + 8 * i);
-    return matter_idl_section_start(entry) == start && matter_idl_section_length(entry) == length
-        && matter_idl_section_number(entry) == number && matter_idl_section_place(entry) == place;
+    return matter_idl_section_start(report, i) == start && matter_idl_section_length(report, i) == length
+        && matter_idl_section_number(report, i) == number && matter_idl_section_place(report, i) == place;
 }
 
 /* Whether section i is to be accepted, by a rule without a short period. */
@@ -108,12 +107,12 @@ static void mixed_sections(void) {
             continue;
         }
         expect(entry_is(i, at, 11, 0, 0), "an accepted section", "many of both");
-        expect(matter_idl_name_offset(matter_idl_word(catalogue + 8 * written)) == at + 5, "its record", "many of both");
-        written += matter_idl_record_words(MATTER_IDL_ENUM);
+        expect(matter_idl_name(catalogue + written).offset == at + 5, "its record", "many of both");
+        written += matter_idl_record_bytes(MATTER_IDL_ENUM);
         at += 11;
     }
     expect(entry_is(sections, n, sizeof text - n, 0, 0), "the last section", "many of both");
-    expect(result == 8 * written, "result", "many of both");
+    expect(result == written, "result", "many of both");
 }
 
 /* As many sections as a text can have, of which the last is accepted. */

@@ -1,5 +1,5 @@
 // Known answers of declarations: each line of standard input is a text; the line comes back with the answer for the item at its start. An item that is read comes back
-// with its records, one word after the other, and the offset behind it. In a text `\n`, `\t`, `\\` and `\"` stand for LF, TAB, backslash and quote.
+// with its records, one word after the other, and the offset after it. In a text `\n`, `\t`, `\\` and `\"` stand for LF, TAB, backslash and quote.
 ghost use Prim.Native.Nat.{_≤_};
 ghost use lib.ListN.{length};
 ghost use Rattle.items.specs.layout.{text-limit};
@@ -40,7 +40,7 @@ fn print_words(bytes: &[u8]) {
     }
 }
 
-// The records of the declaration behind the blanks at the start of a text.
+// The records of the declaration after the blanks at the start of a text.
 fn print_records(text: &[u8])
     requires { ⌜ length (now text) ≤ text-limit ⌝ }
 {

@@ -1,4 +1,4 @@
--- Alternatives of keywords, each of which stands for a number: the first letter of a text leaves one of them at the most.
+-- Alternatives of keywords, each of which stands for a number: the first letter of a text selects one of them at the most.
 use mathlib.Core.Path.{_≡_, refl, sym, ap, _∙_}
 use mathlib.Core.Bool.{Bool, true, false, _&&_, _||_, false≢true}
 use mathlib.Core.List.{List, [], _∷_}
@@ -20,7 +20,7 @@ use Rattle.items.proofs.Choice.{Past, past-start, or-fail}
 use Rattle.items.proofs.Letters.{all-out, outs-free, or-cases}
 use Rattle.lexing.proofs.Sequences.{then-ok, then-fail}
 
--- one behind the other, and z behind them
+-- one after the other, and z after them
 abbrev pub alternatives : List (List ℕ × ℕ) → Parser ℕ → Parser ℕ
 alternatives [] z = z
 alternatives (t ∷ ts) z = numbered (t .0) (t .1) or alternatives ts z
@@ -85,7 +85,7 @@ module _ (b : ℕ) (u : List ℕ) where
     letter-out : (ks : List (List ℕ)) → all-out ((0, x) ∷ []) [] ks ≡ true → Frees b u ks
     letter-out ks e = outs-free b u ((0, x) ∷ []) (h, tt) [] tt ks e
 
-    -- with something else behind them
+    -- with something else after them
     pub one-left : (k : List ℕ) (v : ℕ) (ts : List (List ℕ × ℕ)) (z : Parser ℕ) → leaves x k v ts ≡ true → Past b (z b u) → alternatives ts z b u ≡ (numbered k v or z) b u
     one-left k v [] z e g = absurd (false≢true e)
     one-left k v (t ∷ ts) z e g = or-cases ((same-bytes (t .0) k && eqb (t .1) v) && all-out ((0, x) ∷ []) [] (keys ts)) _ e here (later (λ q. one-left k v ts z q g))
@@ -104,7 +104,7 @@ module _ (b : ℕ) (u : List ℕ) where
             let past : Past b ((numbered k v or z) b u) = rw (or-either (numbered k v) z) (either-past b _ _ (numbered-past k v) g) in
             or-fail _ _ (numbered-fail (t .0) (t .1) (f .0)) ∙ (ap (no-nearer b) (ih (and-right (all-out ((0, x) ∷ []) [] (t .0 ∷ [])) (leaves x k v ts) q)) ∙ sym (past-start b _ past))
 
-    -- with one more of them behind them
+    -- with one more of them after them
     pub one-of-all : (k : List ℕ) (v : ℕ) (ts : List (List ℕ × ℕ)) (t : List ℕ × ℕ) → leaves x k v ts ≡ true → all-out ((0, x) ∷ []) [] (t .0 ∷ []) ≡ true → alternatives ts (numbered (t .0) (t .1)) b u ≡ numbered k v b u
     one-of-all k v ts t e o =
         let last = numbered-fail (t .0) (t .1) (letter-out (t .0 ∷ []) o .0) in

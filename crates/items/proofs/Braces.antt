@@ -1,4 +1,4 @@
--- What stands between braces: one law for each way through.
+-- What is between braces: one law for each way through.
 use mathlib.Core.Path.{_≡_, refl, sym, ap, _∙_}
 use mathlib.Core.List.{List}
 use Prim.Native.Nat.{ℕ, _-_}
@@ -24,7 +24,7 @@ use Rattle.items.specs.declared.counts.Count.{Count}
 use Rattle.items.specs.declared.counts.Count.the-variants.{Words, NoCount}
 use Rattle.items.specs.declared.writing.Wrote.{Wrote}
 use Rattle.items.proofs.Locality.{close-moves}
-use Rattle.lexing.proofs.steps.Laws.{tag-behind-took, skips-lost}
+use Rattle.lexing.proofs.steps.Laws.{tag-after-took, skips-lost}
 use Rattle.items.proofs.counts.Laws.{Counted, count-took, count-lost, count-is, count-not}
 use Rattle.items.proofs.writing.Laws.{no-room, written-took}
 
@@ -40,7 +40,7 @@ lost-not {m = m} h =
     (λ p e. let z = h ∙ sym e in let y : _≡_ {A = ℕ} 0 1 = cc in omega arith)
     (λ n p e. let z = h ∙ sym e in let y : _≡_ {A = ℕ} 0 1 = cc in omega arith)
 
--- the closing brace behind blanks
+-- the closing brace after blanks
 closing-took : (h : ℕ → Parser (Unit {0})) {b n : ℕ} {u : List ℕ} {v : Unit {0}} {e : ℕ} → Took (whitespace0 >> tag 125) b u n v e → Took (catch (whitespace0 >> tag 125) h) b u n v e
 unfolding catch
 closing-took h t = record { goes = rw (t .goes, catch) refl; up = t .up; inside = t .inside }
@@ -84,7 +84,7 @@ module _ {A : Type 0} (m : Parser A) (b : ℕ) (u : List ℕ) where
   braces-unopened l e = begin (braces m) b u (fall _ _ l (rest-self b u) e)
 
   module _ {c₁ : ℕ} (t₁ : Took (tag 123) b u b tt c₁) where
-    -- what stands between them is lost
+    -- what is between them is lost
     pub braces-lost : (l : Lost) {r : List ℕ} → Rest b u c₁ r → lostReply l ≡ m c₁ r → lostReply l ≡ braces m b u
     unfolding braces enclosed
     braces-lost l q e = begin (braces m) b u (on _ t₁ (lose _ _ l q e))
@@ -124,7 +124,7 @@ taken {A} {B} m k w v e s c r h = go (m c r) refl
     go (fail p) z = let i : ok v e s ≡ fail p = rw (z, _>>=_) at h in let y : _≡_ {A = ℕ} 0 1 = cc in absurd (omega arith)
     go (stop n p) z = let i : ok v e s ≡ stop n p = rw (z, _>>=_) at h in let y : _≡_ {A = ℕ} 0 1 = cc in absurd (omega arith)
 
--- the value behind a step that is dropped
+-- the value after a step that is dropped
 pub then-value : {A B : Type 0} (m : Parser A) (b : B) (v : B) (e : ℕ) (s : List ℕ) (c : ℕ) (r : List ℕ) → ok v e s ≡ (m >> ret b) c r → v ≡ b
 unfolding _>>_ _>>=_ ret
 then-value {A} m b v e s c r h = go (m c r) refl
@@ -151,7 +151,7 @@ leaves b u (stop n p) q = tt
 pub close-on : {S : Type 0} (x : S) → Onward (catch (whitespace0 >> tag 125) (λ p. failAt (where-missing x p)))
 close-on x = record { onward = λ b u. leaves b u (catch (whitespace0 >> tag 125) (λ p. failAt (where-missing x p)) b u) (close-moves where-missing x 0 b u) }
 
--- behind the opening brace
+-- after the opening brace
 module _ {A : Type 0} {m : Parser A} (w : Onward m) {b : ℕ} {u : List ℕ} {c : ℕ} (t : Took (tag 123) b u b tt c) {r : List ℕ} (q : Rest b u c r) where
   pub opened-room : {records : A → List Record} {p n : ℕ} → Room records (tag 123 >> m) b u p n → Room records m c r p n
   opened-room room =
@@ -201,5 +201,5 @@ module _ {A : Type 0} {f : A → List Record} {m : Parser A} (w : Onward m) {b :
       k = count-took w q refl h
 
       go : (y : Answered) → SkipsAt (whitespace0 >> tag 125) y b u e → CountTo f (braces m) (closedCount n y) b u
-      go (Next d) s = let z = tag-behind-took 125 refl s in count-is f (braces m) b u (k .value) n d (k .words) (omega (arith, k .few, k .step .up, t .up, z .up)) (braces-read m b u t (k .step) z)
+      go (Next d) s = let z = tag-after-took 125 refl s in count-is f (braces m) b u (k .value) n d (k .words) (omega (arith, k .few, k .step .up, t .up, z .up)) (braces-read m b u t (k .step) z)
       go (Not l) s = count-not f (braces m) b u l (braces-unclosed m b u t (k .step) l (skips-lost refl refl s))

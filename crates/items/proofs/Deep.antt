@@ -33,7 +33,7 @@ use Rattle.items.proofs.Locality.{close-moves, deep-step-consumes, deep
 use Rattle.items.proofs.RecordWords.{Elementwise, word-count-none, word-count-more}
 use Rattle.lexing.proofs.TextEnd.{brace-first}
 use Rattle.items.proofs.Braces.{lost-not, leaves, close-took, close-caught}
-use Rattle.items.proofs.counts.Laws.{count-is, count-not, count-pass, count-value, count-lost, count-behind}
+use Rattle.items.proofs.counts.Laws.{count-is, count-not, count-pass, count-value, count-lost, count-after}
 
 -- a try: found, failed, and stopped
 module _ {A : Type 0} (q : ℕ) (m : Parser A) (k : ℕ → Parser (TriedOf A)) (b : ℕ) (u : List ℕ) where
@@ -148,11 +148,11 @@ module _ {A : Type 0} (one : A → List Record) (f : ℕ → Parser (TriedOf A))
       tried-is (g (v .value)) k c (v .words) (h .few) (s (got (g (v .value)) c) (mapped-ok g m b u (v .value) c (drop (c - b) u) refl (v .is)))
   tried-by g m (NoCount l) s h = tried-not l (s (lost l) (mapped-not g m b u l (count-lost l refl b u h)))
 
--- where a closing brace stands every try fails
+-- where a closing brace is, every try fails
 abbrev pub Unclosing : {A : Type 0} → (ℕ → Parser (TriedOf A)) → Type 0
 Unclosing f = (q b : ℕ) (u : List ℕ) → (p : ℕ) × (fail p ≡ f q b (125 ∷ u))
 
--- a byte stands where reading is, or its tag fails there
+-- a byte is where reading is, or its tag fails there
 pub tag-cases : (t b : ℕ) (u : List ℕ) → Took (tag t) b u b tt (b + 1) ⊎ (fail b ≡ tag t b u)
 unfolding tag
 tag-cases t b [] = inr refl
@@ -294,7 +294,7 @@ module _ {A : Type 0} {records : List A → List Record} {one : A → List Recor
         let g = subst (λ (x : Count). TriedTo one f x c₁ r) z h in
         count-pass records (deep-rest f) b u a l z (run-lost t v (i .run) s q m (i .near) (tag-missing 125 c₁ r l' o) l (lost-as _ (f c₁) c₁ r l (g .reads)))
 
--- The braces around them: behind the opening one stands the rest.
+-- The braces around them: after the opening one is the rest.
 
 -- the closing one goes on in the text, though a depth less
 deep-close-on : (q : ℕ) → Onward (deep-close q)
@@ -322,4 +322,4 @@ module _ {A : Type 0} (f : ℕ → Parser (TriedOf A)) (b : ℕ) (u : List ℕ) 
   deep-uncounted {records} l e = count-not records (deep-braces f) b u l (deep-unopened l e)
 
   pub deep-counted : {records : List A → List Record} → Onward (deep-run f) → {c : ℕ} → Took (tag 123) b u b tt c → {r : List ℕ} → Rest b u c r → (a : Count) → CountTo records (deep-rest f) a c r → CountTo records (deep-braces f) a b u
-  deep-counted {records} w t q a h = count-behind records (deep-braces f) (deep-rest f) (deep-rest-on f w) a q (deep-opened t) h
+  deep-counted {records} w t q a h = count-after records (deep-braces f) (deep-rest f) (deep-rest-on f w) a q (deep-opened t) h

@@ -1,4 +1,4 @@
--- A declaration that is a head and then a list: its first record, and behind it those of the list. Both passes over it.
+-- A declaration that is a head and then a list: its first record, and after it those of the list. Both passes over it.
 use mathlib.Core.Path.{_≡_, sym, ap, _∙_, subst}
 use mathlib.Core.List.{List, [], _∷_}
 use Prim.Native.Nat.{ℕ, _+_, _-_, _*_, _≤_, _<_}

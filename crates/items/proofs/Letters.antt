@@ -1,4 +1,4 @@
--- Which keywords the letters of a first word leave: one that has another byte at the same place does not stand there.
+-- Which keywords the letters of a first word select: one that has another byte at the same place is not there.
 use mathlib.Core.Path.{_≡_, refl, sym, _∙_}
 use mathlib.Core.Bool.{Bool, true, false, not, _&&_, _||_, true≢false, false≢true}
 use mathlib.Core.List.{List, [], _∷_}
@@ -29,7 +29,7 @@ abbrev pub among : List (List ℕ) → List ℕ → Bool
 among [] k = false
 among (j ∷ js) k = same-bytes k j || among js k
 
--- by letters and keywords that are known not to stand there, none of some keywords does
+-- by letters and keywords that are known not to be there, none of some keywords is there
 abbrev pub all-out : List (ℕ × ℕ) → List (List ℕ) → List (List ℕ) → Bool
 all-out ls js [] = true
 all-out ls js (k ∷ ks) = (unlike ls k || among js k) && all-out ls js ks

@@ -1,15 +1,15 @@
--- Laws of the definitions. A module's own laws, for the proofs of its functions, stand in MODULE/Laws.antt.
+-- Laws of the definitions. A module's own laws, for the proofs of its functions, are in MODULE/Laws.antt.
 
 -- the place moves by the shift of the base; the records of what was moved
 pub mod Shift
 pub mod RecordsMoved
 -- locality under appended text
 pub mod Locality
--- keywords, and which of them the letters of a first word leave
+-- keywords, and which of them the letters of a first word select
 pub mod Keywords
 pub mod Letters
 pub mod Alternatives
--- tries one after the other, and which of them a first word leaves
+-- tries one after the other, and which of them a first word selects
 pub mod Choice
 pub mod Tries
 -- blanks before a parser that begins with blanks
@@ -25,7 +25,7 @@ pub mod Placed
 pub mod WordBetween
 pub mod RecordWords
 pub mod SetSizes
--- parsers that never stop; what is read stands in the text; where it is refused
+-- parsers that never stop; what is read is in the text; where it is refused
 pub mod Truth
 pub mod RefusedPlaces
 -- what was packed comes back; a word comes back from its bytes

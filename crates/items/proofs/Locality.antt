@@ -1,4 +1,4 @@
--- Locality: every production keeps to the chain of its text, and looks at nothing behind a cut. Certificates are found by search over the combinators' rules.
+-- Locality: every production keeps to the chain of its text, and looks at nothing after a cut. Certificates are found by search over the combinators' rules.
 use Prim.Native.Nat.{ℕ, suc, _+_, max}
 use mathlib.Core.Path.{_≡_, refl}
 use mathlib.Core.Bool.{Bool, true, false, _||_, false≢true}
@@ -176,7 +176,7 @@ ruleset token-rules = (local-ret, parse-id-local, keyword-local, any-keyword-loc
 
 ruleset inside-rules = (inside-bind, inside-then, inside-opt, inside-or, inside-catch, inside-many0, inside-local)
 
--- a value that is changed; it may stand behind the last }
+-- a value that is changed; it may be after the last }
 pub mapped-local : {A B : Type 0} {m : Parser A} (f : A → B) → Local m → Local (mapped m f)
 unfolding mapped
 mapped-local f t = local-last t (λ a. blind-ret (f a))
@@ -692,7 +692,7 @@ pub item-consumes : Consumes item
 unfolding item
 item-consumes = search (consumes-or, mapped-consumes, parse-cluster-consumes, endpoint-consumes, with-doc-maturity-consumes, parse-enum-consumes, parse-bitmap-consumes, parse-struct-consumes, consumes-then-left, whitespace1-consumes, chain-ret) depth 16
 
--- declarations, behind the blanks
+-- declarations, after the blanks
 module _ {A : Type 0} {f : ℕ → Parser A} where
   pub after-maturity-local : ((m : ℕ) → Local (f m)) → Local (after-maturity f)
   unfolding after-maturity

@@ -31,7 +31,7 @@ raised d (m ∷ ms) [] = []
 raised d (stays w ∷ ms) (bits v x ∷ l) = bits v x ∷ raised d ms l
 raised d (moves w ∷ ms) (bits v x ∷ l) = bits v (d + x) ∷ raised d ms l
 
--- a word and the word behind the move: the values are all of its 64 bits, and those that move are greater by d
+-- a word and the word after the move: the values are all of its 64 bits, and those that move are greater by d
 pub record WordMoves (d : ℕ) (ms : List Moving) (before after : ℕ) : Type 0 where
   pub full : total (map moving-width ms) ≡ 64
   pub before-fits : before < 2 ^ 64
@@ -46,7 +46,7 @@ WordsMove d (m ∷ ms) [] xs = ⊥
 WordsMove d (m ∷ ms) (w ∷ ws) [] = ⊥
 WordsMove d (m ∷ ms) (w ∷ ws) (x ∷ xs) = WordMoves d m w x × WordsMove d ms ws xs
 
--- bytes, and the bytes behind the move, word by word
+-- bytes, and the bytes after the move, word by word
 pub record BytesMove (d : ℕ) (ms : List (List Moving)) (before after : List ℕ) : Type 0 where
   pub words : List ℕ
   pub words-after : List ℕ

@@ -26,7 +26,7 @@ pow-pos n = one-le-pow n 2 (omega arith)
 nought : (w v : ℕ) → 0 * 2 ^ w + v ≡ v
 nought w v = let z : 0 * 2 ^ w ≡ 0 = zero-mul (2 ^ w) in omega (arith, z)
 
--- what stands above
+-- what is above
 packed-above : (z : ℕ) (l : List Bits) → packed z l ≡ z * 2 ^ width l + packed 0 l
 unfolding packed width
 packed-above z [] = rw (pow-zero 2, mul-one z) (omega arith)
@@ -50,11 +50,11 @@ packed-less (bits w v ∷ l) h =
     sum : (a x p q : ℕ) → x < p → a + p ≤ q → a + x < q
     sum a x p q h k = omega arith
 
--- what stands above the last values l
+-- what is above the last values l
 pub packed-high : (z : ℕ) (l : List Bits) → Fit l → packed z l / 2 ^ width l ≡ z
 packed-high z l h = rw (packed-above z l, mul-add-div-right (pow-pos (width l)) z (packed 0 l), div-eq-of-lt (packed-less l h)) (omega arith)
 
--- a value comes back by a division and a remainder, whatever stands above it
+-- a value comes back by a division and a remainder, whatever is above it
 pub value-back : (z w v : ℕ) (l : List Bits) → v < 2 ^ w → Fit l → packed z (bits w v ∷ l) / 2 ^ width l % 2 ^ w ≡ v
 unfolding packed
 value-back z w v l h k = rw (packed-high (z * 2 ^ w + v) l k, mul-add-mod-self-right z (2 ^ w) v) (mod-eq-of-lt h)
@@ -71,7 +71,7 @@ width-total (bits w v ∷ l) = ap (λ k. w + k) (width-total l)
 
 -- Unpacking is the inverse of packing, both ways, over any widths.
 
--- what was packed comes back, whatever stands above it
+-- what was packed comes back, whatever is above it
 pub unpack-pack : (z : ℕ) (l : List Bits) → Fit l → unpacked (bits-of l) (packed z l) ≡ l
 unfolding packed unpacked
 unpack-pack z [] h = refl

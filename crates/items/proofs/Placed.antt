@@ -69,7 +69,7 @@ module _ {A : Type 0} {records : List A → List Record} {one : A → List Recor
   unfolding iter
   run-grows s t b c u r e = grows (suc (length u)) s t b c u r e
 
--- A loop that writes the records of tries: those of what was found so far stand in the buffer.
+-- A loop that writes the records of tries: those of what was found so far are in the buffer.
 pub record Placing {A : Type 0} (records : List A → List Record) (f : ℕ → Parser (TriedOf A)) (b : ℕ) (u : List ℕ) (c at : ℕ) (old new : List ℕ) (to : ℕ) : Type 0 where
   pub seen : List A
   pub far : ℕ
@@ -79,7 +79,7 @@ pub record Placing {A : Type 0} (records : List A → List Record) (f : ℕ → 
 
 module _ {A : Type 0} {records : List A → List Record} {one : A → List Record} (w : Elementwise records one) {f : ℕ → Parser (TriedOf A)} (t : (q : ℕ) → LocalInside (f q)) (v : (q : ℕ) → Consumes (f q))
     (b : ℕ) (u : List ℕ) (at : ℕ) (old : List ℕ) (room : Room records (deep-rest f) b u at (length old)) where
-  -- the whole text, taken apart: what was read, and the closing brace behind it
+  -- the whole text, taken apart: what was read, and the closing brace after it
   parsed : (s : Deep A) × ((s .read ≡ room .value) × (ok s (room .next) (drop (room .next - b) u) ≡ deep-tail f b u))
   unfolding deep-rest
   parsed = value-as (λ s. s .read) (deep-tail f) b u (room .value) (room .next) (drop (room .next - b) u) (room .is)
@@ -167,7 +167,7 @@ module _ {A : Type 0} {records : List A → List Record} {one : A → List Recor
 pub rest-inner : {b c e : ℕ} {u r s : List ℕ} → Rest b u c r → Rest b u e s → c ≤ e → Rest c r e s
 rest-inner {b} {c} {e} {u} q p h = record { from = h; same = p .same ∙ (sym (rebase b c e u (q .from) h) ∙ ap (drop (e - c)) (sym (q .same))); size = p .size ∙ sym (q .size) }
 
--- The braces around them: in an accepted text the opening one stands where it should.
+-- The braces around them: in an accepted text the opening one is where it should be.
 module _ {A : Type 0} {records : List A → List Record} (f : ℕ → Parser (TriedOf A)) (w : Onward (deep-run f)) {b : ℕ} {u : List ℕ} {p n : ℕ} (room : Room records (deep-braces f) b u p n) where
   pub opened : Took (tag 123) b u b tt (b + 1)
   opened = find (tag-cases 123 b u)
@@ -206,8 +206,8 @@ module _ {A : Type 0} (m₁ m₂ m₃ : Parser A) {b : ℕ} {u : List ℕ} where
   missed m q k h =
       by-lost (λ l. lostReply l ≡ m b u → (p : ℕ) × (fail p ≡ m b u)) (λ p e. (p, e)) (λ n p e. absurd (lost-not h (Stop n p) (stop-at q m k b u n p e)))
 
-  behind : (m : Parser A) (q : ℕ) (k : ℕ → Parser (TriedOf A)) {x : TriedOf A} {c : ℕ} {r : List ℕ} → ok x c r ≡ intercept q m k b u → {p : ℕ} → fail p ≡ m b u → ok x c r ≡ k (max q p) b u
-  behind m q k h {p} e = h ∙ sym (next-at q m k b u p e refl)
+  following : (m : Parser A) (q : ℕ) (k : ℕ → Parser (TriedOf A)) {x : TriedOf A} {c : ℕ} {r : List ℕ} → ok x c r ≡ intercept q m k b u → {p : ℕ} → fail p ≡ m b u → ok x c r ≡ k (max q p) b u
+  following m q k h {p} e = h ∙ sym (next-at q m k b u p e refl)
 
   last-one : (q : ℕ) {x : TriedOf A} {c : ℕ} {r : List ℕ} → ok x c r ≡ intercept q m₃ (λ q. failAt q) b u → ok (x .value) c r ≡ m₃ b u
   unfolding failAt
@@ -229,10 +229,10 @@ module _ {A : Type 0} (m₁ m₂ m₃ : Parser A) {b : ℕ} {u : List ℕ} where
 
     module _ {p : ℕ} (h : fail p ≡ m₁ b u) where
       pub second-missed : (l : Lost) → lostReply l ≡ m₂ b u → (p : ℕ) × (fail p ≡ m₂ b u)
-      second-missed l e = missed m₂ _ _ (behind m₁ _ _ (room .is) h) l e
+      second-missed l e = missed m₂ _ _ (following m₁ _ _ (room .is) h) l e
 
       pub third-room : {p' : ℕ} → fail p' ≡ m₂ b u → Room one m₃ b u at n
-      third-room h' = record { value = room .value .value; next = room .next; is = last-one _ (behind m₂ _ _ (behind m₁ _ _ (room .is) h) h'); fits = room .fits }
+      third-room h' = record { value = room .value .value; next = room .next; is = last-one _ (following m₂ _ _ (following m₁ _ _ (room .is) h) h'); fits = room .fits }
 
       -- the last try by what its own reader writes
       pub third-written : {p' : ℕ} → fail p' ≡ m₂ b u → {w : Wrote} {old new : List ℕ} → Written one m₃ b u at w old new → Written (λ t. one (t .value)) (three-tries m₁ m₂ m₃ q) b u at w old new

@@ -20,7 +20,7 @@ use Rattle.items.proofs.RecordsFit.{ExtentIn, RecordFits, WordFits, Lay
 
 -- Words in bytes.
 
--- words stand in bytes from an offset on
+-- words are in bytes from an offset on
 abbrev pub WordsAt : List ℕ → List ℕ → ℕ → Type 0
 WordsAt [] u o = Unit {0}
 WordsAt (w ∷ ws) u o = (word-at u o ≡ w) × WordsAt ws u (o + 8)
@@ -74,7 +74,7 @@ unfolding width total
 filled-width v [] = refl
 filled-width v (cell w f ∷ row) = ap (λ k. w + k) (filled-width v row)
 
--- the value of a field comes back from a row's word, whatever stands above it
+-- the value of a field comes back from a row's word, whatever is above it
 pub field-back : (v : Field → ℕ) (f : Field) (row : List Cell) (z : ℕ) → has-field f row ≡ true → Fit (filled v row) → field-of f row (packed z (filled v row)) ≡ v f
 unfolding has-field field-of below field-width packed
 field-back v f [] z h k = absurd (false≢true h)
@@ -95,7 +95,7 @@ value-back-in v f (row ∷ rows) u o h k s = go (has-field f row) refl (λ i. va
     go true e r = ap (field-of f row) (s .0) ∙ field-back v f row 0 e (k .0 .fit)
     go false e r = r (subst (λ (b : Bool). (b || somewhere f rows) ≡ true) e h)
 
--- a record of a text of n bytes stands at an offset
+-- a record of a text of n bytes is at an offset
 pub record RecordAt (L : Layout) (n : ℕ) (u : List ℕ) (o : ℕ) : Type 0 where
   pub of : Record
   pub fits : RecordFits n of
@@ -209,7 +209,7 @@ module _ (L : Layout) (u : List ℕ) where
     abbrev pub split-rest : ℕ → Split
     split-rest o = split-from L u (length u) o
 
-    -- a walk from record to record: at the end, over a record, and where none stands
+    -- a walk from record to record: at the end, over a record, and where none is
     pub rest-end : (o : ℕ) → length u ≤ o → split-rest o ≡ whole []
     rest-end o h = split-end (length u) o h
 
@@ -219,7 +219,7 @@ module _ (L : Layout) (u : List ℕ) where
     pub rest-broken : (o : ℕ) → o < length u → stands L u o ≡ false → split-rest o ≡ broken [] o
     rest-broken o h s = split-enough (length u) (suc (length u)) o (omega arith) (omega arith) ∙ split-stop (length u) o h s
 
--- records one behind the other, by their index
+-- records one after the other, by their index
 pub laid-length : (L : Layout) (l : List Record) (o : ℕ) → length (laid-out L o l) ≡ length l
 unfolding laid-out
 laid-length L [] o = refl

@@ -1,4 +1,4 @@
--- Laws of the layout: lengths, and records one behind the other.
+-- Laws of the layout: lengths, and records one after the other.
 use mathlib.Core.Path.{_≡_, refl, ap, _∙_}
 use mathlib.Core.List.{List, [], _∷_, _++_, map, append-assoc, append-nil}
 use Prim.Native.Nat.{ℕ, _+_, _*_, _≤_}
@@ -32,7 +32,7 @@ pub catalogue-bytes-none : (L : Layout) → catalogue-bytes L [] ≡ []
 unfolding catalogue-bytes catalogue-words words-bytes each
 catalogue-bytes-none L = refl
 
--- the records of a list are those of its elements, one behind the other
+-- the records of a list are those of its elements, one after the other
 pub record Elementwise {A : Type 0} (records : List A → List Record) (one : A → List Record) : Type 0 where
   pub nothing : records [] ≡ []
   pub more : (l : List A) (a : A) → records (l ++ (a ∷ [])) ≡ records l ++ one a

@@ -259,7 +259,7 @@ somewhere f (row ∷ rows) = has-field f row || somewhere f rows
 pub record LayoutFits (L : Layout) (n : ℕ) : Type 0 where
   pub first-fit : (r : Record) → RecordFits n r → All WordFits (first-words L r)
   pub span-fits : (e : Extent) → ExtentIn n e → WordFits (span-word L e)
-  -- every field stands in a first word
+  -- every field is in a first word
   pub all-fields : (f : Field) → same-field f no-field ≡ false → somewhere f (L .head) ≡ true
 
 offset-in : {n : ℕ} (e : Extent) → ExtentIn n e → offset e ≤ n

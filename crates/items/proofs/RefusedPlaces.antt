@@ -32,7 +32,7 @@ module _ (s : ℕ) (t : List ℕ) where
   abbrev end : ℕ
   end = s + length t
 
-  -- what stands between braces: g is the place of a missing }
+  -- what is between braces: g is the place of a missing }
   enclosed-in : {A : Type 0} {m : Parser A} (g : A → ℕ → ℕ) → Onward m → Placed s t m → ((a : A) → Read s t end m a → (p : ℕ) → InPart s t p → InPart s t (g a p)) → Placed s t (enclosed m g)
   unfolding enclosed
   enclosed-in g w v k =
@@ -260,10 +260,10 @@ module _ (s : ℕ) (t : List ℕ) where
   endpoint-in = search (placed-rules, parts-in) depth 16
 
   -- items
-  behind-doc : {A : Type 0} {f : Doc → ℕ → Parser A} → ((d : Doc) (m : ℕ) → Placed s t (f d m)) → Placed s t (with-doc-maturity f)
+  after-doc : {A : Type 0} {f : Doc → ℕ → Parser A} → ((d : Doc) (m : ℕ) → Placed s t (f d m)) → Placed s t (with-doc-maturity f)
   unfolding with-doc-maturity
-  behind-doc v = placed-bind (walks whitespace0-chain) blank-in λ d h. placed-then (walks whitespace0-chain) blank-in (placed-bind (walks (chain-local api-maturity-local)) maturity-in λ m k. placed-then (walks whitespace0-chain) blank-in (v d m))
+  after-doc v = placed-bind (walks whitespace0-chain) blank-in λ d h. placed-then (walks whitespace0-chain) blank-in (placed-bind (walks (chain-local api-maturity-local)) maturity-in λ m k. placed-then (walks whitespace0-chain) blank-in (v d m))
 
   pub item-in : Placed s t item
   unfolding item parse-enum-after-doc-maturity parse-bitmap-after-doc-maturity
-  item-in = search (placed-rules, behind-doc, cluster-in, endpoint-in, choice-in, struct-in) depth 16
+  item-in = search (placed-rules, after-doc, cluster-in, endpoint-in, choice-in, struct-in) depth 16

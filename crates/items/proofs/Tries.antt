@@ -1,4 +1,4 @@
--- Which tries a first word leaves: where another keyword stands, a declaration is not there and fails at its start.
+-- Which tries a first word selects: where another keyword is, a declaration is not there and fails at its start.
 use mathlib.Core.Path.{_≡_, refl, sym, ap, _∙_}
 use mathlib.Core.Logic.{inl}
 use mathlib.Core.List.{List, [], _∷_}
@@ -29,7 +29,7 @@ pub mapped-fail : {A B : Type 0} (m : Parser A) (f : A → B) {b p : ℕ} {u : L
 unfolding mapped
 mapped-fail m f e = bind-fail m (λ a. ret (f a)) e
 
--- Where `shared` stands, no other word does: of the words before a struct it is the one.
+-- Where `shared` is, no other word is: of the words before a struct it is the one.
 module _ (b : ℕ) (u : List ℕ) {w : Word} {c : ℕ} {r : List ℕ} (k : keyword (ascii "shared") b u ≡ ok w c r) where
   pub starts-shared : StartsAny (ascii "shared" ∷ []) u
   starts-shared = record { first = ascii "shared"; among = inl refl; starts = starts-of (ascii "shared") b u w c r k }
@@ -40,7 +40,7 @@ module _ (b : ℕ) (u : List ℕ) {w : Word} {c : ℕ} {r : List ℕ} (k : keywo
       let f = starts-free starts-shared b (ascii "request" ∷ ascii "response" ∷ []) refl in
       sym (or-next _ _ b u b w c r (sym (f .0)) (or-next _ _ b u b w c r (sym (f .1 .0)) (or-here _ _ b u w c r (sym k))))
 
--- Where none of its first words stands, a declaration fails at its start.
+-- Where none of its first words is, a declaration fails at its start.
 module _ (b : ℕ) (u : List ℕ) where
   pub revision-elsewhere : Frees b u revision-starts → parse-revision b u ≡ fail b
   unfolding parse-revision

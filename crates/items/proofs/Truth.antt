@@ -1,4 +1,4 @@
--- What is read stands in the text: every name is the text's bytes at its offset, every span lies inside, every number fits its bits.
+-- What is read is in the text: every name is the text's bytes at its offset, every span lies inside, every number fits its bits.
 -- A part t of the text begins at offset s; a declaration is read somewhere in it and ends at an offset `end` or before. For a whole text s is 0.
 use Prim.Native.Nat.{ℕ, _^_, _≤_, _<_}
 use mathlib.Core.Path.{_≡_}
@@ -45,7 +45,7 @@ module _ (s : ℕ) (t : List ℕ) (end : ℕ) where
   unfolding braces
   list-true w v = enclosed-true where-missing (walks (chain-many0 w)) (from (gives-many0 (walks w) (given v)))
 
-  -- Certificates are found by search: the rules of the combinators, what is known of a token's value, what a step leaves behind it.
+  -- Certificates are found by search: the rules of the combinators, what is known of a token's value, what a step leaves after it.
   ruleset gives-rules = (gives-ret, gives-last, gives-bind, gives-then, gives-or, gives-catch, gives-pick, gives-fail, gives-stop, gives-mapped, gives-word, lit<)
 
   ruleset token-rules = (word-true, doc-true, integer-true, signed-true)
@@ -268,7 +268,7 @@ module _ (s : ℕ) (t : List ℕ) (end : ℕ) where
   unfolding cluster-head
   cluster-head-true = from (search (value-rules, true-cluster-head) depth 24)
 
-  -- declarations behind a doc comment and a maturity
+  -- declarations after a doc comment and a maturity
   module _ (d : Doc) (m : ℕ) (doc : DocTrue s t end d) (mature : m < 2 ^ 2) where
     choice-of : (h : ChoiceHead) (l : List Entry) → ChoiceHeadTrue h → All EntryTrue l → ChoiceTrue (record { shared = h .head-shared; doc = d; maturity = m; name = h .head-name; base = h .head-base; entries = l })
     choice-of h l (true-choice-head n b) e = true-choice doc mature n b e
@@ -446,9 +446,9 @@ module _ (s : ℕ) (t : List ℕ) (end : ℕ) where
   ItemTrue (struct-item x) = StructTrue x
   ItemTrue blank-item = Unit {0}
 
-  behind-doc : {A : Type 0} {R : A → Type 0} {f : Doc → ℕ → Parser A} → ((d : Doc) (m : ℕ) → Onward (f d m)) → ((d : Doc) (m : ℕ) → DocTrue s t end d → m < 2 ^ 2 → (a : A) → Read s t end (f d m) a → R a) → (a : A) → Read s t end (with-doc-maturity f) a → R a
+  after-doc : {A : Type 0} {R : A → Type 0} {f : Doc → ℕ → Parser A} → ((d : Doc) (m : ℕ) → Onward (f d m)) → ((d : Doc) (m : ℕ) → DocTrue s t end d → m < 2 ^ 2 → (a : A) → Read s t end (f d m) a → R a) → (a : A) → Read s t end (with-doc-maturity f) a → R a
   unfolding with-doc-maturity
-  behind-doc w v =
+  after-doc w v =
       from
       (gives-bind blank (λ d. onward-then blank (onward-bind maturity λ m. onward-then blank (w d m))) λ d h.
       gives-then blank
@@ -466,9 +466,9 @@ module _ (s : ℕ) (t : List ℕ) (end : ℕ) where
   item-gives =
       gives-or (gives-mapped _ cluster-true)
       (gives-or (gives-mapped _ endpoint-true)
-      (gives-or (gives-mapped _ (behind-doc (λ d m. walks (chain-local (choice-after-doc-maturity-local _ d m))) λ d m h k. choice-true d m h k (ascii "enum")))
-      (gives-or (gives-mapped _ (behind-doc (λ d m. walks (chain-local (choice-after-doc-maturity-local _ d m))) λ d m h k. choice-true d m h k (ascii "bitmap")))
-      (gives-or (gives-mapped _ (behind-doc (λ d m. walks (chain-local (parse-struct-local d m))) struct-true)) (gives-last _ blank-item tt)))))
+      (gives-or (gives-mapped _ (after-doc (λ d m. walks (chain-local (choice-after-doc-maturity-local _ d m))) λ d m h k. choice-true d m h k (ascii "enum")))
+      (gives-or (gives-mapped _ (after-doc (λ d m. walks (chain-local (choice-after-doc-maturity-local _ d m))) λ d m h k. choice-true d m h k (ascii "bitmap")))
+      (gives-or (gives-mapped _ (after-doc (λ d m. walks (chain-local (parse-struct-local d m))) struct-true)) (gives-last _ blank-item tt)))))
 
   -- every item that is read from the part
   pub item-true : {b c : ℕ} {u r : List ℕ} {i : Item} → Rest s t b u → item b u ≡ ok i c r → c ≤ end → ItemTrue i

@@ -1,5 +1,5 @@
 -- The records of what is read take at most a word for each byte of its text.
--- A parser's value has a weight: its certificate says that the value weighs at most the bytes that were read, and n more that stand before them.
+-- A parser's value has a weight: its certificate says that the value weighs at most the bytes that were read, and n more that are before them.
 -- Each token counts as one byte, blanks and optional parts as none, and that is enough.
 use Prim.Native.Nat.{ℕ, zero, suc, _+_, _≤_}
 use mathlib.Core.Path.{_≡_, refl, sym, _∙_, ap}
@@ -74,11 +74,11 @@ takes-none {A} {m} h = record { weighs = λ b u. go b u (m b u) (h .onward b u) 
 takes-any : {A : Type 0} {m : Parser A} → OnChain m → Takes 0 m
 takes-any h = takes-none (walks h)
 
--- what is read behind other bytes
-weight-behind : {A : Type 0} (w : A → ℕ) (k n : ℕ) (r u : List ℕ) → k + length r ≤ n + length u → (x : Reply A) → Weight k w r x → Weight n w u x
-weight-behind w k n r u h (ok a c q) v = omega (arith, h, v)
-weight-behind w k n r u h (fail p) v = tt
-weight-behind w k n r u h (stop i p) v = tt
+-- what is read after other bytes
+weight-after : {A : Type 0} (w : A → ℕ) (k n : ℕ) (r u : List ℕ) → k + length r ≤ n + length u → (x : Reply A) → Weight k w r x → Weight n w u x
+weight-after w k n r u h (ok a c q) v = omega (arith, h, v)
+weight-after w k n r u h (fail p) v = tt
+weight-after w k n r u h (stop i p) v = tt
 
 further-weight : {A : Type 0} (w : A → ℕ) (n : ℕ) (u : List ℕ) (p : ℕ) (x : Reply A) → Weight n w u x → Weight n w u (no-nearer p x)
 unfolding no-nearer
@@ -128,7 +128,7 @@ module _ {A B : Type 0} {w : B → ℕ} {m : Parser A} where
   weighs-bind {n} {v} {k} h g = record { weighs = λ b u. go b u (m b u) refl (h .weighs b u) }
     where
       go : (b : ℕ) (u : List ℕ) (x : Reply A) → m b u ≡ x → Weight 0 v u x → Weight n w u ((m >>= k) b u)
-      go b u (ok a c r) e i = rw (e, _>>=_) (weight-behind w (n + v a) n r u (omega (arith, i)) (k a c r) (g a .weighs c r))
+      go b u (ok a c r) e i = rw (e, _>>=_) (weight-after w (n + v a) n r u (omega (arith, i)) (k a c r) (g a .weighs c r))
       go b u (fail p) e i = rw (e, _>>=_) tt
       go b u (stop j p) e i = rw (e, _>>=_) tt
 
@@ -153,7 +153,7 @@ module _ {S : Type 0} (w : S → ℕ) {f : S → Parser S} {g : ℕ → S → S}
   iter-within (suc n) s = record { weighs = λ b u. go b u (f s b u) refl (v s .weighs b u) (iter-within n) }
     where
       go : (b : ℕ) (u : List ℕ) (x : Reply S) → f s b u ≡ x → Weight (w s) w u x → ((t : S) → Weighs (w t) w (iterWithin n f g t)) → Weight (w s) w u (iterWithin (suc n) f g s b u)
-      go b u (ok t c r) e i ih = rw (e, iterWithin) (weight-behind w (w t) (w s) r u i (iterWithin n f g t c r) (ih t .weighs c r))
+      go b u (ok t c r) e i ih = rw (e, iterWithin) (weight-after w (w t) (w s) r u i (iterWithin n f g t c r) (ih t .weighs c r))
       go b u (fail p) e i ih = rw (e, iterWithin) (omega (arith, k p s))
       go b u (stop j p) e i ih = rw (e, iterWithin) tt
 
@@ -166,10 +166,10 @@ no-records : {A : Type 0} {records : List A → List Record} {one : A → List R
 no-records e = ap (word-count layout) (e .nothing) ∙ word-count-none
 
 module _ {A : Type 0} {records : List A → List Record} {one : A → List Record} (e : Elementwise records one) {m : Parser A} (v : Weighs 0 (λ a. word-count layout (one a)) m) where
-  abbrev behind : List A → List A → ℕ
-  behind l k = word-count layout (records (l ++ k))
+  abbrev following : List A → List A → ℕ
+  following l k = word-count layout (records (l ++ k))
 
-  prepend-weight : (l : List A) (a : A) (r u : List ℕ) → word-count layout (one a) + length r ≤ 0 + length u → (x : Reply (List A)) → Weight (word-count layout (records (l ++ (a ∷ [])))) (behind (l ++ (a ∷ []))) r x → Weight (word-count layout (records l)) (behind l) u (prepend a x)
+  prepend-weight : (l : List A) (a : A) (r u : List ℕ) → word-count layout (one a) + length r ≤ 0 + length u → (x : Reply (List A)) → Weight (word-count layout (records (l ++ (a ∷ [])))) (following (l ++ (a ∷ []))) r x → Weight (word-count layout (records l)) (following l) u (prepend a x)
   unfolding prepend
   prepend-weight l a r u h (ok k c q) i =
       let z : (l ++ (a ∷ [])) ++ k ≡ l ++ (a ∷ k) = append-assoc l (a ∷ []) k in
@@ -177,22 +177,22 @@ module _ {A : Type 0} {records : List A → List Record} {one : A → List Recor
   prepend-weight l a r u h (fail p) i = tt
   prepend-weight l a r u h (stop n p) i = tt
 
-  nothing-more : (l : List A) (u : List ℕ) → behind l [] + length u ≤ word-count layout (records l) + length u
+  nothing-more : (l : List A) (u : List ℕ) → following l [] + length u ≤ word-count layout (records l) + length u
   nothing-more l u = rw (append-nil l) (omega arith)
 
-  many-within : (n : ℕ) (l : List A) → Weighs (word-count layout (records l)) (behind l) (manyWithin n m)
+  many-within : (n : ℕ) (l : List A) → Weighs (word-count layout (records l)) (following l) (manyWithin n m)
   unfolding manyWithin
   many-within zero l = record { weighs = λ b u. nothing-more l u }
   many-within (suc n) l = record { weighs = λ b u. go b u (m b u) refl (v .weighs b u) (many-within n) }
     where
-      go : (b : ℕ) (u : List ℕ) (x : Reply A) → m b u ≡ x → Weight 0 (λ a. word-count layout (one a)) u x → ((l : List A) → Weighs (word-count layout (records l)) (behind l) (manyWithin n m)) → Weight (word-count layout (records l)) (behind l) u (manyWithin (suc n) m b u)
+      go : (b : ℕ) (u : List ℕ) (x : Reply A) → m b u ≡ x → Weight 0 (λ a. word-count layout (one a)) u x → ((l : List A) → Weighs (word-count layout (records l)) (following l) (manyWithin n m)) → Weight (word-count layout (records l)) (following l) u (manyWithin (suc n) m b u)
       go b u (ok a c r) q i ih = rw (q, manyWithin) (prepend-weight l a r u i (manyWithin n m c r) (ih (l ++ (a ∷ [])) .weighs c r))
       go b u (fail p) q i ih = rw (q, manyWithin) (nothing-more l u)
       go b u (stop j p) q i ih = rw (q, manyWithin) tt
 
   weighs-many0 : Weighs 0 (λ l. word-count layout (records l)) (many0 m)
   unfolding many0
-  weighs-many0 = record { weighs = λ b u. weight-behind (behind []) (word-count layout (records [])) 0 u u (omega (arith, no-records e)) (manyWithin (suc (length u)) m b u) (many-within (suc (length u)) [] .weighs b u) }
+  weighs-many0 = record { weighs = λ b u. weight-after (following []) (word-count layout (records [])) 0 u u (omega (arith, no-records e)) (manyWithin (suc (length u)) m b u) (many-within (suc (length u)) [] .weighs b u) }
 
 -- between braces
 weighs-enclosed : {A : Type 0} {w : A → ℕ} {m : Parser A} (g : A → ℕ → ℕ) → Weighs 0 w m → Weighs 0 w (enclosed m g)
@@ -422,9 +422,9 @@ endpoint-weighs : Weighs 0 (λ e. word-count layout (endpoint-records e)) endpoi
 endpoint-weighs = headed-weighs endpoint-headed endpoint-head-takes (deep-braces-weigh (each-elementwise part-records) part-weighs) tt
 
 -- items
-weighs-behind-doc : {A : Type 0} {w : A → ℕ} {f : Doc → ℕ → Parser A} → ((d : Doc) (m : ℕ) → Weighs 0 w (f d m)) → Weighs 0 w (with-doc-maturity f)
+weighs-after-doc : {A : Type 0} {w : A → ℕ} {f : Doc → ℕ → Parser A} → ((d : Doc) (m : ℕ) → Weighs 0 w (f d m)) → Weighs 0 w (with-doc-maturity f)
 unfolding with-doc-maturity
-weighs-behind-doc v = weighs-bind blank λ d. weighs-then blank (weighs-bind maturity λ m. weighs-then blank (v d m))
+weighs-after-doc v = weighs-bind blank λ d. weighs-then blank (weighs-bind maturity λ m. weighs-then blank (v d m))
 
 blank-item-weighs : Weighs 0 (λ i. word-count layout (unhoisted-item i)) (whitespace1 >> ret blank-item)
 unfolding item-records
@@ -435,9 +435,9 @@ unfolding item item-records parse-enum-after-doc-maturity parse-bitmap-after-doc
 item-weighs =
     weighs-or (weighs-mapped cluster-item cluster-weighs) (
     weighs-or (weighs-mapped endpoint-item endpoint-weighs) (
-    weighs-or (weighs-mapped enum-item (weighs-behind-doc (choice-weighs 2 1 (ascii "enum")))) (
-    weighs-or (weighs-mapped bitmap-item (weighs-behind-doc (choice-weighs 3 1 (ascii "bitmap")))) (
-    weighs-or (weighs-mapped struct-item (weighs-behind-doc (struct-weighs 1)))
+    weighs-or (weighs-mapped enum-item (weighs-after-doc (choice-weighs 2 1 (ascii "enum")))) (
+    weighs-or (weighs-mapped bitmap-item (weighs-after-doc (choice-weighs 3 1 (ascii "bitmap")))) (
+    weighs-or (weighs-mapped struct-item (weighs-after-doc (struct-weighs 1)))
     blank-item-weighs))))
 
 -- the items that are read from a text take no more words than the bytes that they are read from

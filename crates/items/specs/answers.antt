@@ -29,7 +29,7 @@ abbrev pub optionOf : {A : Type 0} → Bool → A → Option A
 optionOf true a = some a
 optionOf false a = none
 
--- a maturity and the blanks behind it
+-- a maturity and the blanks after it
 abbrev pub maturity-blank : Parser ℕ
 maturity-blank = do
   m ← api-maturity
@@ -77,7 +77,7 @@ pub record Front : Type 0 where
   pub doc : Doc
   pub maturity : ℕ
 
--- a count that is the same whatever stands before the declaration
+-- a count that is the same whatever is before the declaration
 pub record CountsTo {I A : Type 0} (records : I → A → List Record) (m : I → Parser A) (r : Count) (b : ℕ) (u : List ℕ) : Type 0 where
   pub counts : (i : I) → CountTo (records i) (m i) r b u
 
@@ -94,7 +94,7 @@ pub record Room {A : Type 0} (records : A → List Record) (m : Parser A) (b : �
   pub is : ok value next (drop (next - b) u) ≡ m b u
   pub fits : at + 8 * word-count layout (records value) ≤ n
 
--- its records are written from a place on; the answer is where reading and writing stand then
+-- its records are written from a place on; the answer is where reading and writing are then
 pub record Written {A : Type 0} (records : A → List Record) (m : Parser A) (b : ℕ) (u : List ℕ) (at : ℕ) (w : Wrote) (old new : List ℕ) : Type 0 where
   pub value : A
   pub is : ok value (w .next) (drop (w .next - b) u) ≡ m b u

@@ -15,8 +15,8 @@ use Rattle.items.specs.clusters.{mapped}
 
 -- `DeepestError`, parser.rs line 79, around a loop of tries between braces: the furthest place of any try inside is kept, a number that starts at the current offset.
 -- That one rule is the Rust's in both loops, that of `cluster_instantiation` and that of `endpoint`:
--- the Rust starts with no place, as at depth 0, and keeps one only if it is deeper. It starts behind a `{`, and a try fails where it begins or further on; so the first failure is kept, and it is no nearer than the offset started from here.
--- `cluster_instantiation` intercepts the missing `}` too, so its place counts among the others. `endpoint` does not, and answers the deepest of the tries alone. But `}` is missed where the tries of the last turn begin, behind the same blanks,
+-- the Rust starts with no place, as at depth 0, and keeps one only if it is deeper. It starts after a `{`, and a try fails where it begins or further on; so the first failure is kept, and it is no nearer than the offset started from here.
+-- `cluster_instantiation` intercepts the missing `}` too, so its place counts among the others. `endpoint` does not, and answers the deepest of the tries alone. But `}` is missed where the tries of the last turn begin, after the same blanks,
 -- and all of them failed there or further on; so the furthest of the tries and the missing `}` is that of the tries.
 
 -- what a try gave, with the furthest place so far

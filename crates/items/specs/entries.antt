@@ -15,7 +15,7 @@ unfoldable pub present : {A : Type 0} → Option A → Bool
 present none = false
 present (some a) = true
 
--- what stands between braces; mend says which place a missing } is refused at, by what was read and the place where it is missing
+-- what is between braces; mend says which place a missing } is refused at, by what was read and the place where it is missing
 unfoldable pub enclosed : {A : Type 0} → Parser A → (A → ℕ → ℕ) → Parser A
 enclosed m mend = do
   tag (byte "{")

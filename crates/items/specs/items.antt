@@ -1,4 +1,4 @@
--- Items: what stands at the top of a text.
+-- Items: what is at the top of a text.
 use Prim.Native.Nat.{ℕ}
 use Rattle.lexing.specs.reply.{Parser, ret, _>>=_, _>>_, _or_}
 use Rattle.lexing.specs.blanks.{Doc, whitespace0, whitespace1}

@@ -5,7 +5,7 @@ use lib.ListN.{length}
 use Rattle.lexing.specs.buffers.{each, words-bytes}
 use Rattle.items.specs.records.{Extent, absent, at, Bits, bits, Further, value, spanned, Record, further-of-kind}
 
--- values one behind the other, most significant bit first; z stands above them
+-- values one after the other, most significant bit first; z is above them
 unfoldable pub packed : ℕ → List Bits → ℕ
 packed z [] = z
 packed z (bits w v ∷ l) = packed (z * 2 ^ w + v) l

@@ -69,7 +69,7 @@ value-at L f u o = value-in (L .head) f u o
 unfoldable pub further-at : Layout → List ℕ → ℕ → (k : ℕ) → ℕ
 further-at L u o k = word-at u (o + 8 * (length (L .head) + k))
 
--- the offset behind it
+-- the offset after it
 unfoldable pub next-at : Layout → List ℕ → ℕ → ℕ
 next-at L u o = o + 8 * words-of-kind L (value-at L kind-field u o)
 
@@ -126,7 +126,7 @@ split-from L u (suc n) o = elim (leb (length u) o) [ true ↦ whole [] | false �
 unfoldable pub split : Layout → List ℕ → Split
 split L u = split-from L u (length u) 0
 
--- Records as they stand one behind the other, from an offset on.
+-- Records as they are one after the other, from an offset on.
 
 unfoldable pub stored-record : Layout → ℕ → Record → Stored
 stored-record L o r = record {
@@ -147,6 +147,6 @@ unfoldable pub laid-out : Layout → ℕ → List Record → List Stored
 laid-out L o [] = []
 laid-out L o (r ∷ l) = stored-record L o r ∷ laid-out L (o + 8 * length (record-words L r)) l
 
--- the bytes where the record at an offset, of place 0, has place p; a place stands in the first word
+-- the bytes where the record at an offset, of place 0, has place p; a place is in the first word
 unfoldable pub placed : Layout → ℕ → List ℕ → ℕ → List ℕ
 placed L p u o = put o (big-endian 8 (word-at u o + p * 2 ^ below place-field (getD (L .head) 0 []))) u

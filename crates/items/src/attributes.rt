@@ -39,13 +39,13 @@ use lexing::parts::peek;
 use lexing::parts::rest_at;
 use lexing::steps::blank_at;
 use lexing::steps::gap_at;
-use lexing::steps::tag_behind;
+use lexing::steps::tag_after;
 use lexing::word_sets::ATTRIBUTE_SET;
 use lexing::word_sets::is_lower;
 use lexing::word_sets::keywords_set;
 use lexing::words::keyword;
 
-// The privileges to read and to write, and the offset behind them, or why there are none.
+// The privileges to read and to write, and the offset after them, or why there are none.
 pub enum PrivilegesRead {
     Privileges(u8, u8, usize),
     NoPrivileges(Lost),
@@ -81,7 +81,7 @@ enum Grants {
     RefusedAt(usize),
 }
 
-// What entries have granted, and the offset behind them.
+// What entries have granted, and the offset after them.
 struct AccessEntries {
     grants: Grants,
     next: usize,
@@ -117,7 +117,7 @@ fn access_word(part: &[u8], base: usize) -> OperationRead
     operation_by(part, base, b"write", Operation::Write)
 }
 
-// What is granted with an entry more, whose word stands at an offset.
+// What is granted with an entry more, whose word is at an offset.
 fn grants_with(grants: Grants, operation: Operation, privilege: u8, at: usize) -> Grants
     ensures { λ r. ⌜ r ≡ grantsWith grants operation privilege at ⌝ }
 {
@@ -153,7 +153,7 @@ fn access_entry(part: &[u8], base: usize, grants: Grants) -> AccessEntries
     AccessEntries { grants: more, next }
 }
 
-// AccessEntries with commas between them; there may be none. The blanks behind a comma are those before an entry.
+// Entries with commas between them; there may be none. The blanks after a comma are those before an entry.
 fn access_entries(part: &[u8], base: usize) -> AccessEntries
     requires { ⌜ base + length (now part) ≤ text-limit ⌝ }
     ensures { λ r. ⌜ AccessEntriesTo r base (now (part .entry)) ⌝ }
@@ -168,7 +168,7 @@ fn access_entries(part: &[u8], base: usize) -> AccessEntries
         }
         grants = entry.grants;
         end = entry.next;
-        let comma = tag_behind(part, base, end, b',');
+        let comma = tag_after(part, base, end, b',');
         let Step::Next(next) = comma else {
             return AccessEntries { grants, next: end };
         };
@@ -195,13 +195,13 @@ pub fn attribute_access(part: &[u8], base: usize) -> PrivilegesRead
     let Step::Next(c2) = word else {
         return absent;
     };
-    let opening = tag_behind(part, base, c2, b'(');
+    let opening = tag_after(part, base, c2, b'(');
     let Step::Next(c3) = opening else {
         return absent;
     };
     let c4 = blank_at(part, base, c3);
     let entries = access_entries(rest_at(part, base, c4), c4);
-    let closing = tag_behind(part, base, entries.next, b')');
+    let closing = tag_after(part, base, entries.next, b')');
     let Step::Next(c5) = closing else {
         return absent;
     };

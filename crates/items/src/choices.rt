@@ -35,10 +35,10 @@ use lexing::names::keyword_name;
 use lexing::names::named_lost;
 use lexing::parts::rest_at;
 use lexing::steps::blank_at;
-use lexing::steps::tag_behind;
+use lexing::steps::tag_after;
 use lexing::words::id_at;
 
-// Up to the entries: whether it is shared, and the offsets of its name and of its base type and behind them.
+// Up to the entries: whether it is shared, and the offsets of its name and of its base type and after them.
 pub struct ChoiceHeadParts {
     pub shared: bool,
     pub name: usize,
@@ -52,7 +52,7 @@ pub enum ChoiceHeadRead {
     NoChoiceHead(Lost),
 }
 
-// From behind `shared` on, whose blanks the caller has read.
+// From after `shared` on, whose blanks the caller has read.
 pub fn choice_head(part: &[u8], base: usize, from: usize, key: &[u8]) -> ChoiceHeadRead
     requires { ⌜ base + length (now part) ≤ text-limit ⌝ }
     requires { ⌜ ChoiceFrom from base (now part) ⌝ }
@@ -66,7 +66,7 @@ pub fn choice_head(part: &[u8], base: usize, from: usize, key: &[u8]) -> ChoiceH
         return ChoiceHeadRead::NoChoiceHead(named_lost(named));
     };
     // Read in place.
-    let colon = tag_behind(part, base, c1, b':');
+    let colon = tag_after(part, base, c1, b':');
     let Step::Next(c2) = colon else {
         return ChoiceHeadRead::NoChoiceHead(step_lost(colon));
     };

@@ -49,7 +49,7 @@ use lexing::steps::gap_at;
 use lexing::words::keyword;
 use lexing::words::tag;
 
-// Up to the braces: the offsets of its name and behind it, and its code.
+// Up to the braces: the offsets of its name and after it, and its code.
 pub struct ClusterHeadParts {
     pub name: usize,
     pub code: u64,
@@ -161,7 +161,7 @@ pub fn count_cluster(part: &[u8], base: usize) -> Count
     Count::Words(n + CLUSTER_WORDS, c2)
 }
 
-// The second pass over members and the closing brace behind them.
+// The second pass over members and the closing brace after them.
 fn write_members(part: &[u8], base: usize, out: &mut [u8], at: usize) -> MembersWrote
     requires { ⌜ base + length (now part) ≤ text-limit ⌝ }
     requires { ⌜ Room (each unhoisted) members-rest base (now part) at (length (now out)) ⌝ }

@@ -38,13 +38,13 @@ use lexing::names::colon_type;
 use lexing::names::named_lost;
 use lexing::parts::rest_at;
 use lexing::steps::blank_at;
-use lexing::steps::tag_behind;
+use lexing::steps::tag_after;
 use lexing::word_sets::COMMAND_SET;
 use lexing::word_sets::keywords_set;
 use lexing::words::id_at;
 use lexing::words::keyword;
 
-// Up to a command's name: its flags, the privilege to invoke it, the offsets of its name and behind it.
+// Up to a command's name: its flags, the privilege to invoke it, the offsets of its name and after it.
 pub struct CommandHeadParts {
     pub name: usize,
     pub qualities: u8,
@@ -57,7 +57,7 @@ pub enum CommandHeadRead {
     NoCommandHead(Lost),
 }
 
-// A command's input and output, each by the offset of its name and the one behind it; they are the same where there is no input.
+// A command's input and output, each by the offset of its name and the one after it; they are the same where there is no input.
 pub struct CommandTypesParts {
     pub input: usize,
     pub output: usize,
@@ -118,7 +118,7 @@ pub fn command_head_lost(r: CommandHeadRead) -> Lost
     }
 }
 
-// The offset behind a name that may be absent, from an offset of a part.
+// The offset after a name that may be absent, from an offset of a part.
 fn optional_id(part: &[u8], base: usize, c: usize) -> usize
     requires { ⌜ ((base ≤ c) × (c ≤ base + length (now part))) × (base + length (now part) ≤ text-limit) ⌝ }
     ensures { λ r. ⌜ OptionalIdAt r base (now (part .entry)) c ⌝ }
@@ -135,13 +135,13 @@ pub fn command_types(part: &[u8], base: usize) -> CommandTypesRead
     requires { ⌜ base + length (now part) ≤ text-limit ⌝ }
     ensures { λ r. ⌜ CommandTypesTo r base (now (part .entry)) ⌝ }
 {
-    let opening = tag_behind(part, base, base, b'(');
+    let opening = tag_after(part, base, base, b'(');
     let Step::Next(c1) = opening else {
         return CommandTypesRead::NoCommandTypes(step_lost(opening));
     };
     let input = blank_at(part, base, c1);
     let input_end = optional_id(part, base, input);
-    let closing = tag_behind(part, base, input_end, b')');
+    let closing = tag_after(part, base, input_end, b')');
     let Step::Next(c2) = closing else {
         return CommandTypesRead::NoCommandTypes(step_lost(closing));
     };
@@ -186,7 +186,7 @@ pub fn parse_command_after_doc_maturity(part: &[u8], base: usize) -> CommandRead
     let Number::Value(code, c3) = number else {
         return CommandRead::NoCommand(number_lost(number));
     };
-    let semicolon = tag_behind(part, base, c3, b';');
+    let semicolon = tag_after(part, base, c3, b';');
     let Step::Next(c4) = semicolon else {
         return CommandRead::NoCommand(step_lost(semicolon));
     };

@@ -8,9 +8,9 @@ ghost use Rattle.items.specs.inner.counts.{EndsIn, ClosedTo, lostNoEarli
 use lexing::answers::Lost;
 use lexing::answers::Step;
 use lexing::answers::step_lost;
-use lexing::steps::tag_behind;
+use lexing::steps::tag_after;
 
-// The words needed and the offset behind the declaration, or why there is none.
+// The words needed and the offset after the declaration, or why there is none.
 pub enum Count {
     Words(usize, usize),
     NoCount(Lost),
@@ -35,7 +35,7 @@ pub fn count_end(l: Lost, n: usize, c: usize) -> Count
     Count::NoCount(l)
 }
 
-// A count between braces: behind it stand blanks and the closing brace.
+// A count between braces: after it are blanks and the closing brace.
 pub fn closed(part: &[u8], base: usize, run: Count) -> Count
     requires { ⌜ base + length (now part) ≤ text-limit ⌝ }
     requires { ⌜ EndsIn run base (now part) ⌝ }
@@ -44,7 +44,7 @@ pub fn closed(part: &[u8], base: usize, run: Count) -> Count
     let Count::Words(n, c1) = run else {
         return run;
     };
-    let close = tag_behind(part, base, c1, b'}');
+    let close = tag_after(part, base, c1, b'}');
     let Step::Next(c2) = close else {
         return Count::NoCount(step_lost(close));
     };

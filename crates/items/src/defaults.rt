@@ -20,7 +20,7 @@ use lexing::integers::signed_integer;
 use lexing::parts::rest_at;
 use lexing::steps::blank_at;
 use lexing::steps::gap_at;
-use lexing::steps::tag_behind;
+use lexing::steps::tag_after;
 use lexing::strings::default_string;
 use lexing::words::keyword;
 
@@ -44,7 +44,7 @@ pub enum DefaultRead {
     NoDefault(Lost),
 }
 
-// The value of a default where no number stands. Each try but the last fails at its start, so the place of the last is the furthest.
+// The value of a default where no number is. Each try but the last fails at its start, so the place of the last is the furthest.
 fn word_value(part: &[u8], base: usize) -> DefaultRead
     requires { ⌜ base + length (now part) ≤ text-limit ⌝ }
     requires { ⌜ NoNumberAt base (now part) ⌝ }
@@ -95,7 +95,7 @@ pub fn default_attribute_value(part: &[u8], base: usize) -> DefaultRead
     let Step::Next(c1) = key else {
         return DefaultRead::NoDefault(step_lost(key));
     };
-    let equals = tag_behind(part, base, c1, b'=');
+    let equals = tag_after(part, base, c1, b'=');
     let Step::Next(c2) = equals else {
         return DefaultRead::NoDefault(step_lost(equals));
     };

@@ -48,9 +48,9 @@ use lexing::names::two_keywords_name;
 use lexing::parts::peek;
 use lexing::parts::rest_at;
 use lexing::steps::blank_at;
-use lexing::steps::integer_behind;
-use lexing::steps::keyword_behind;
-use lexing::steps::tag_behind;
+use lexing::steps::integer_after;
+use lexing::steps::keyword_after;
+use lexing::steps::tag_after;
 use lexing::words::tag;
 
 // A device type: where its name starts and ends, its code and its version.
@@ -71,19 +71,19 @@ fn device_version(part: &[u8], base: usize) -> Number
     requires { ⌜ base + length (now part) ≤ text-limit ⌝ }
     ensures { λ r. ⌜ numberReply r base (now (part .entry)) ≡ device-version base (now (part .entry)) ⌝ }
 {
-    let comma = tag_behind(part, base, base, b',');
+    let comma = tag_after(part, base, base, b',');
     let Step::Next(c1) = comma else {
         return Number::NoNumber(step_lost(comma));
     };
-    let key = keyword_behind(part, base, c1, b"version");
+    let key = keyword_after(part, base, c1, b"version");
     let Step::Next(c2) = key else {
         return Number::NoNumber(step_lost(key));
     };
-    let number = integer_behind(part, base, c2);
+    let number = integer_after(part, base, c2);
     let Number::Value(v, c3) = number else {
         return Number::NoNumber(number_lost(number));
     };
-    let semicolon = tag_behind(part, base, c3, b';');
+    let semicolon = tag_after(part, base, c3, b';');
     let Step::Next(c4) = semicolon else {
         return Number::NoNumber(step_lost(semicolon));
     };
@@ -140,7 +140,7 @@ fn count_device_type(part: &[u8], base: usize) -> Count
     }
 }
 
-// The first pass over a part of an endpoint, before which no blank stands: the one try that its first letter leaves; the others fail at their start.
+// The first pass over a part of an endpoint, before which no blank is: the one try that its first letter selects; the others fail at their start.
 fn count_part(part: &[u8], base: usize) -> Count
     requires { ⌜ base + length (now part) ≤ text-limit ⌝ }
     requires { ⌜ whitespace0 base (now part) ≡ ok no-doc base (now part) ⌝ }
@@ -154,7 +154,7 @@ fn count_part(part: &[u8], base: usize) -> Count
     }
 }
 
-// The first pass over parts behind their opening brace, up to the closing one: where that does not stand, there is one more of them.
+// The first pass over parts after their opening brace, up to the closing one: where that is not there, there is one more of them.
 fn count_parts(part: &[u8], base: usize) -> Count
     requires { ⌜ base + length (now part) ≤ text-limit ⌝ }
     ensures { λ r. ⌜ CountTo (each part-records) (deep-rest part-tries) r base (now (part .entry)) ⌝ }
@@ -238,7 +238,7 @@ fn put_endpoint(out: &mut [u8], at: usize, id: u64)
     put_two(out, at, plain_word(ENDPOINT, 0, 0, 0), id);
 }
 
-// The second pass over a part of an endpoint, before which no blank stands. A try that fails here costs no more than its first word.
+// The second pass over a part of an endpoint, before which no blank is. A try that fails here costs no more than its first word.
 fn write_part(part: &[u8], base: usize, out: &mut [u8], at: usize) -> Wrote
     requires { ⌜ base + length (now part) ≤ text-limit ⌝ }
     requires { ⌜ whitespace0 base (now part) ≡ ok no-doc base (now part) ⌝ }
@@ -264,7 +264,7 @@ fn write_part(part: &[u8], base: usize, out: &mut [u8], at: usize) -> Wrote
     write_cluster_instantiation(part, base, out, at)
 }
 
-// The second pass over parts behind their opening brace, up to the closing one: where that does not stand, there is one more of them.
+// The second pass over parts after their opening brace, up to the closing one: where that is not there, there is one more of them.
 fn write_parts(part: &[u8], base: usize, out: &mut [u8], at: usize) -> Wrote
     requires { ⌜ base + length (now part) ≤ text-limit ⌝ }
     requires { ⌜ Room (each part-records) (deep-rest part-tries) base (now part) at (length (now out)) ⌝ }
@@ -285,7 +285,7 @@ fn write_parts(part: &[u8], base: usize, out: &mut [u8], at: usize) -> Wrote
     }
 }
 
-// The second pass over an endpoint: behind its head stands the opening brace.
+// The second pass over an endpoint: after its head is the opening brace.
 pub fn write_endpoint(part: &[u8], base: usize, out: &mut [u8], at: usize) -> Wrote
     requires { ⌜ base + length (now part) ≤ text-limit ⌝ }
     requires { ⌜ Room endpoint-records endpoint base (now part) at (length (now out)) ⌝ }

@@ -36,12 +36,12 @@ use lexing::names::equals_code;
 use lexing::names::named_lost;
 use lexing::parts::rest_at;
 use lexing::steps::blank_at;
-use lexing::steps::tag_behind;
+use lexing::steps::tag_after;
 use lexing::strings::quoted_string;
 use lexing::words::id_at;
 use lexing::words::tag;
 
-// An entry: its maturity, the offsets of its name and behind it, and its code.
+// An entry: its maturity, the offsets of its name and after it, and its code.
 pub struct EntryParts {
     pub maturity: u8,
     pub name: usize,
@@ -69,7 +69,7 @@ pub fn constant_annotation(part: &[u8], base: usize) -> Step
     let Named::Name(_, _, c1) = key else {
         return Step::Not(named_lost(key));
     };
-    let equals = tag_behind(part, base, c1, b'=');
+    let equals = tag_after(part, base, c1, b'=');
     let Step::Next(c2) = equals else {
         return Step::Not(step_lost(equals));
     };
@@ -109,7 +109,7 @@ fn annotations_in_brackets(part: &[u8], base: usize) -> Step
     let Step::Next(c2) = run else {
         return Step::Not(step_lost(run));
     };
-    tag_behind(part, base, c2, b']')
+    tag_after(part, base, c2, b']')
 }
 
 // The annotations of an entry are read and dropped.
@@ -130,7 +130,7 @@ fn entry_end(part: &[u8], base: usize) -> Step
     let Step::Next(c2) = notes else {
         return Step::Not(step_lost(notes));
     };
-    tag_behind(part, base, c2, b';')
+    tag_after(part, base, c2, b';')
 }
 
 pub fn constant_entry(part: &[u8], base: usize) -> EntryRead
@@ -254,7 +254,7 @@ pub fn write_entries_list(part: &[u8], base: usize, out: &mut [u8], at: usize) -
         return nothing;
     };
     let run = write_entries(rest_at(part, base, c1), c1, out, at);
-    let close = tag_behind(part, base, run.next, b'}');
+    let close = tag_after(part, base, run.next, b'}');
     let Step::Next(c2) = close else {
         return nothing;
     };

@@ -56,7 +56,7 @@ pub enum EventQualitiesRead {
     NoEventQualities(Lost),
 }
 
-// An event up to its fields: the offsets of its name and behind it, and its code.
+// An event up to its fields: the offsets of its name and after it, and its code.
 pub struct EventHeadParts {
     pub sensitive: u8,
     pub rank: u8,
@@ -71,7 +71,7 @@ pub enum EventHeadRead {
     NoEventHead(Lost),
 }
 
-// The word `event`, and blanks before and behind it.
+// The word `event`, and blanks before and after it.
 fn event_word(part: &[u8], base: usize, c: usize) -> Step
     requires { ⌜ ((base ≤ c) × (c ≤ base + length (now part))) × (base + length (now part) ≤ text-limit) ⌝ }
     ensures { λ r. ⌜ SkipsAt event-word r base (now (part .entry)) c ⌝ }

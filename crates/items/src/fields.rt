@@ -36,8 +36,8 @@ use lexing::names::gap_word;
 use lexing::names::named_lost;
 use lexing::parts::rest_at;
 use lexing::steps::blank_at;
-use lexing::steps::integer_behind;
-use lexing::steps::tag_behind;
+use lexing::steps::integer_after;
+use lexing::steps::tag_after;
 use lexing::word_sets::FIELD_SET;
 use lexing::word_sets::keywords_set;
 use lexing::words::id_at;
@@ -72,13 +72,13 @@ pub enum StructFieldRead {
     NoStructField(Lost),
 }
 
-// Whether there is a largest length, and which, and the offset behind it.
+// Whether there is a largest length, and which, and the offset after it.
 enum MaxLength {
     Length(bool, u64, usize),
     NoLength(Lost),
 }
 
-// Whether a field is a list, and the offset behind the marker.
+// Whether a field is a list, and the offset after the marker.
 struct Marker {
     list: bool,
     next: usize,
@@ -88,15 +88,15 @@ fn max_length(part: &[u8], base: usize) -> Number
     requires { ⌜ base + length (now part) ≤ text-limit ⌝ }
     ensures { λ r. ⌜ numberReply r base (now (part .entry)) ≡ max-length base (now (part .entry)) ⌝ }
 {
-    let less = tag_behind(part, base, base, b'<');
+    let less = tag_after(part, base, base, b'<');
     let Step::Next(c1) = less else {
         return Number::NoNumber(step_lost(less));
     };
-    let number = integer_behind(part, base, c1);
+    let number = integer_after(part, base, c1);
     let Number::Value(v, c2) = number else {
         return Number::NoNumber(number_lost(number));
     };
-    let greater = tag_behind(part, base, c2, b'>');
+    let greater = tag_after(part, base, c2, b'>');
     let Step::Next(c3) = greater else {
         return Number::NoNumber(step_lost(greater));
     };
@@ -139,7 +139,7 @@ fn list_marker(part: &[u8], base: usize) -> Marker
     let Step::Next(c1) = bracket else {
         return absent;
     };
-    let close = tag_behind(part, base, c1, b']');
+    let close = tag_after(part, base, c1, b']');
     let Step::Next(c2) = close else {
         return absent;
     };
@@ -230,7 +230,7 @@ pub fn struct_field_lost(r: StructFieldRead) -> Lost
     }
 }
 
-// A field of a struct, which reads the blanks before it itself, and the semicolon behind it.
+// A field of a struct, which reads the blanks before it itself, and the semicolon after it.
 pub fn closed_field(part: &[u8], base: usize) -> StructFieldRead
     requires { ⌜ base + length (now part) ≤ text-limit ⌝ }
     ensures { λ r. ⌜ StructFieldTo closed-field r base (now (part .entry)) ⌝ }
@@ -240,7 +240,7 @@ pub fn closed_field(part: &[u8], base: usize) -> StructFieldRead
     let StructFieldRead::StructField(field, c1) = r else {
         return StructFieldRead::NoStructField(struct_field_lost(r));
     };
-    let semicolon = tag_behind(part, base, c1, b';');
+    let semicolon = tag_after(part, base, c1, b';');
     let Step::Next(c2) = semicolon else {
         return StructFieldRead::NoStructField(step_lost(semicolon));
     };
@@ -343,7 +343,7 @@ pub fn write_struct_fields(part: &[u8], base: usize, out: &mut [u8], at: usize) 
         return nothing;
     };
     let run = write_fields(rest_at(part, base, c1), c1, out, at);
-    let close = tag_behind(part, base, run.next, b'}');
+    let close = tag_after(part, base, run.next, b'}');
     let Step::Next(c2) = close else {
         return nothing;
     };

@@ -51,7 +51,7 @@ use lexing::parts::peek;
 use lexing::parts::rest_at;
 use lexing::steps::blank_at;
 use lexing::steps::gap_at;
-use lexing::steps::tag_behind;
+use lexing::steps::tag_after;
 use lexing::words::tag;
 
 // An instance of an attribute: where its name starts and ends, its default, its handling.
@@ -89,7 +89,7 @@ pub fn attribute_instantiation(part: &[u8], base: usize) -> InstanceRead
     let DefaultRead::Read(default, c4) = optional else {
         return InstanceRead::NoInstance(default_lost(optional));
     };
-    let semicolon = tag_behind(part, base, c4, b';');
+    let semicolon = tag_after(part, base, c4, b';');
     let Step::Next(c5) = semicolon else {
         return InstanceRead::NoInstance(step_lost(semicolon));
     };
@@ -129,7 +129,7 @@ fn event_instance(part: &[u8], base: usize) -> InstanceRead
     named_instance(EVENT_INSTANCE, named_after(part, base, b"emits", b"event"))
 }
 
-// An instance, most often that of an attribute. Where it is none, its first letter leaves one try, and the others fail at their start.
+// An instance, most often that of an attribute. Where it is none, its first letter selects one try, and the others fail at their start.
 fn instance(part: &[u8], base: usize) -> InstanceRead
     requires { ⌜ base + length (now part) ≤ text-limit ⌝ }
     ensures { λ r. ⌜ InstanceTo r base (now (part .entry)) ⌝ }
@@ -160,7 +160,7 @@ fn count_instance(part: &[u8], base: usize) -> Count
     }
 }
 
-// The first pass over instances behind their opening brace, up to the closing one: where that does not stand, there is one more of them.
+// The first pass over instances after their opening brace, up to the closing one: where that is not there, there is one more of them.
 fn count_instances(part: &[u8], base: usize) -> Count
     requires { ⌜ base + length (now part) ≤ text-limit ⌝ }
     ensures { λ r. ⌜ CountTo (map instance-record) (deep-rest instance-tries) r base (now (part .entry)) ⌝ }
@@ -293,7 +293,7 @@ fn write_instance(part: &[u8], base: usize, out: &mut [u8], at: usize) -> Wrote
     }
 }
 
-// The second pass over instances behind their opening brace, up to the closing one: where that does not stand, there is one more of them.
+// The second pass over instances after their opening brace, up to the closing one: where that is not there, there is one more of them.
 fn write_instances(part: &[u8], base: usize, out: &mut [u8], at: usize) -> Wrote
     requires { ⌜ base + length (now part) ≤ text-limit ⌝ }
     requires { ⌜ Room (map instance-record) (deep-rest instance-tries) base (now part) at (length (now out)) ⌝ }
@@ -314,7 +314,7 @@ fn write_instances(part: &[u8], base: usize, out: &mut [u8], at: usize) -> Wrote
     }
 }
 
-// The second pass over a cluster instantiation: behind its head stands the opening brace.
+// The second pass over a cluster instantiation: after its head is the opening brace.
 pub fn write_cluster_instantiation(part: &[u8], base: usize, out: &mut [u8], at: usize) -> Wrote
     requires { ⌜ base + length (now part) ≤ text-limit ⌝ }
     requires { ⌜ Room (λ i. part-records (instantiation i)) cluster-instantiation base (now part) at (length (now out)) ⌝ }

@@ -1,4 +1,4 @@
-// Items: what stands at the top of a text, each by the kind that its first word says.
+// Items: what is at the top of a text, each by the kind that its first word says.
 ghost use mathlib.Core.Path.{_≡_};
 ghost use Prim.Native.Nat.{_+_, _≤_, _<_};
 ghost use lib.ListN.{length};
@@ -46,7 +46,7 @@ pub enum DeclarationKind {
     Unknown,
 }
 
-// How a declaration starts: the one try that its first word leaves, the furthest place at which the others fail, its maturity, where the try stands and, behind `shared`, where it goes on.
+// How a declaration starts: the one try that its first word selects, the furthest place at which the others fail, its maturity, where the try is and, after `shared`, where it goes on.
 pub struct DeclarationStart {
     pub kind: DeclarationKind,
     pub others_fail_at: usize,
@@ -68,7 +68,7 @@ fn starts_cluster(part: &[u8], base: usize) -> bool
     starts(part, base, b"cluster")
 }
 
-// Of the kinds of members only types stand at the top.
+// Of the kinds of members only types are at the top.
 fn type_kind(kind: MemberKind) -> DeclarationKind
     ensures { λ r. ⌜ r ≡ typeKind kind ⌝ }
 {
@@ -84,7 +84,7 @@ fn type_kind(kind: MemberKind) -> DeclarationKind
     }
 }
 
-// How a declaration starts, where no blank stands before it. An endpoint has no maturity.
+// How a declaration starts, where no blank is before it. An endpoint has no maturity.
 fn declaration_start(part: &[u8], base: usize) -> DeclarationStart
     requires { ⌜ base + length (now part) ≤ text-limit ⌝ }
     requires { ⌜ whitespace0 base (now part) ≡ ok no-doc base (now part) ⌝ }
@@ -143,7 +143,7 @@ fn count_declaration_of_kind(part: &[u8], s: DeclarationStart) -> Count
     }
 }
 
-// The first pass over a declaration, where no blank stands before it.
+// The first pass over a declaration, where no blank is before it.
 pub fn count_declaration(part: &[u8], base: usize) -> Count
     requires { ⌜ base + length (now part) ≤ text-limit ⌝ }
     requires { ⌜ whitespace0 base (now part) ≡ ok no-doc base (now part) ⌝ }
@@ -154,7 +154,7 @@ pub fn count_declaration(part: &[u8], base: usize) -> Count
     fail_no_earlier(r, s.others_fail_at)
 }
 
-// The first pass over an item: blanks with no declaration behind them are one.
+// The first pass over an item: blanks with no declaration after them are one.
 pub fn count_item(part: &[u8], base: usize) -> Count
     requires { ⌜ base + length (now part) ≤ text-limit ⌝ }
     ensures { λ r. ⌜ CountTo unhoisted-item item r base (now (part .entry)) ⌝ }
@@ -214,7 +214,7 @@ fn write_declaration_of_kind(
     }
 }
 
-// The second pass over a declaration, where no blank stands before it.
+// The second pass over a declaration, where no blank is before it.
 pub fn write_declaration(part: &[u8], base: usize, doc: DocSpan, out: &mut [u8], at: usize) -> Wrote
     requires { ⌜ base + length (now part) ≤ text-limit ⌝ }
     requires { ⌜ whitespace0 base (now part) ≡ ok no-doc base (now part) ⌝ }

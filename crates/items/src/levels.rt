@@ -16,17 +16,17 @@ use lexing::bytes::lower_of;
 use lexing::parts::peek;
 use lexing::parts::rest_at;
 use lexing::steps::blank_at;
-use lexing::steps::tag_behind;
+use lexing::steps::tag_after;
 use lexing::words::keyword;
 use lexing::words::tag;
 
-// The number of a keyword out of at most four and the offset behind it, or why there is none.
+// The number of a keyword out of at most four and the offset after it, or why there is none.
 pub enum Level {
     Chosen(u8, usize),
     NoLevel(Lost),
 }
 
-// The privilege to read an event or to invoke a command, and the offset behind it.
+// The privilege to read an event or to invoke a command, and the offset after it.
 pub struct Privilege {
     pub level: u8,
     pub next: usize,
@@ -49,7 +49,7 @@ pub fn level_by(part: &[u8], base: usize, key: &[u8], level: u8) -> Level
     Level::Chosen(level, c)
 }
 
-// view, operate, manage, administer = 0 to 3; the first letter leaves one of them.
+// view, operate, manage, administer = 0 to 3; the first letter selects one of them.
 pub fn access_privilege(part: &[u8], base: usize) -> Level
     requires { ⌜ base + length (now part) ≤ text-limit ⌝ }
     ensures { λ r. ⌜ LevelTo access-privilege r base (now (part .entry)) ⌝ }
@@ -67,7 +67,7 @@ pub fn access_privilege(part: &[u8], base: usize) -> Level
     }
 }
 
-// critical, info, debug = 0 to 2; the first letter leaves one of them.
+// critical, info, debug = 0 to 2; the first letter selects one of them.
 pub fn event_priority(part: &[u8], base: usize) -> Level
     requires { ⌜ base + length (now part) ≤ text-limit ⌝ }
     ensures { λ r. ⌜ LevelTo event-priority r base (now (part .entry)) ⌝ }
@@ -84,7 +84,7 @@ pub fn event_priority(part: &[u8], base: usize) -> Level
     }
 }
 
-// How an attribute is held: ram, callback, persist = 0 to 2; the first letter leaves one of them.
+// How an attribute is held: ram, callback, persist = 0 to 2; the first letter selects one of them.
 pub fn attribute_handling_type(part: &[u8], base: usize) -> Level
     requires { ⌜ base + length (now part) ≤ text-limit ⌝ }
     ensures { λ r. ⌜ LevelTo attribute-handling-type r base (now (part .entry)) ⌝ }
@@ -122,7 +122,7 @@ pub fn access_opening(part: &[u8], base: usize) -> Step
     let Step::Next(c) = access else {
         return access;
     };
-    tag_behind(part, base, c, b'(')
+    tag_after(part, base, c, b'(')
 }
 
 // `: privilege`
@@ -164,7 +164,7 @@ pub fn access_to(part: &[u8], base: usize, key: &[u8], otherwise: u8) -> Privile
     let Level::Chosen(level, c4) = granted else {
         return absent;
     };
-    let closing = tag_behind(part, base, c4, b')');
+    let closing = tag_after(part, base, c4, b')');
     let Step::Next(next) = closing else {
         return absent;
     };

@@ -22,7 +22,7 @@ pub struct Maturity {
     pub next: usize,
 }
 
-// The maturity that a keyword says, where it stands.
+// The maturity that a keyword says, where it is.
 fn maturity_by(part: &[u8], base: usize, key: &[u8], level: u8) -> Maturity
     requires { ⌜ base + length (now part) ≤ u64-max ⌝ }
     requires { ⌜ level < 4 ⌝ }
@@ -39,7 +39,7 @@ fn maturity_by(part: &[u8], base: usize, key: &[u8], level: u8) -> Maturity
     Maturity { level, next }
 }
 
-// The first letter leaves one keyword.
+// The first letter selects one keyword.
 pub fn api_maturity(part: &[u8], base: usize) -> Maturity
     requires { ⌜ base + length (now part) ≤ u64-max ⌝ }
     ensures { λ r. ⌜ MaturityTo api-maturity r base (now (part .entry)) ⌝ }
@@ -72,7 +72,7 @@ fn is_initial(x: u8) -> bool
     }
 }
 
-// A maturity and the blanks behind it: what is left behind the short front of `maturity_between`.
+// A maturity and the blanks after it: what is left after the short front of `maturity_between`.
 pub fn maturity_blank(part: &[u8], base: usize) -> Maturity
     requires { ⌜ base + length (now part) ≤ u64-max ⌝ }
     ensures { λ r. ⌜ MaturityTo maturity-blank r base (now (part .entry)) ⌝ }
@@ -86,7 +86,7 @@ pub fn maturity_blank(part: &[u8], base: usize) -> Maturity
     }
 }
 
-// A maturity and the blanks around it. Where there is none, as mostly, no blank stands behind the blanks.
+// A maturity and the blanks around it. Where there is none, as mostly, the blanks before it are all.
 pub fn maturity_between(part: &[u8], base: usize) -> Maturity
     requires { ⌜ base + length (now part) ≤ u64-max ⌝ }
     ensures { λ r. ⌜ MaturityTo maturity-between r base (now (part .entry)) ⌝ }

@@ -32,7 +32,7 @@ pub enum MemberKind {
     Unknown,
 }
 
-// The one try that a first word leaves, the furthest place at which the others fail, and where the try goes on: behind `shared` and its blanks, if it is there.
+// The one try that a first word selects, the furthest place at which the others fail, and where the try goes on: after `shared` and its blanks, if it is there.
 pub struct MemberStart {
     pub kind: MemberKind,
     pub others_fail_at: usize,
@@ -65,7 +65,7 @@ fn third_letter_kind(y: u8) -> MemberKind
     MemberKind::Struct
 }
 
-// The kind that a first word leaves, where events start with a keyword and commands with others.
+// The kind that a first word selects, where events start with a keyword and commands with others.
 fn event_or_command(part: &[u8], base: usize, key: &[u8]) -> MemberKind
     requires { ⌜ base + length (now part) ≤ text-limit ⌝ }
     requires { ⌜ isKey (now key) ≡ true ⌝ }
@@ -77,7 +77,7 @@ fn event_or_command(part: &[u8], base: usize, key: &[u8]) -> MemberKind
     MemberKind::Command
 }
 
-// The kind that a first word other than `shared` leaves. Its first letter says it, but for four letters with which words of several kinds begin.
+// The kind that a first word other than `shared` selects. Its first letter says it, but for four letters with which words of several kinds begin.
 fn word_kind(part: &[u8], base: usize) -> MemberKind
     requires { ⌜ base + length (now part) ≤ text-limit ⌝ }
     requires { ⌜ whitespace0 base (now part) ≡ ok no-doc base (now part) ⌝ }
@@ -109,7 +109,7 @@ fn word_kind(part: &[u8], base: usize) -> MemberKind
     }
 }
 
-// The kind behind `shared`, which ends at c1: the word behind it decides.
+// The kind after `shared`, which ends at c1: the word after it decides.
 fn shared_kind(part: &[u8], base: usize, c1: usize) -> MemberStart
     requires { ⌜ base + length (now part) ≤ text-limit ⌝ }
     requires { ⌜ whitespace0 base (now part) ≡ ok no-doc base (now part) ⌝ }
@@ -147,7 +147,7 @@ fn shared_kind(part: &[u8], base: usize, c1: usize) -> MemberStart
     }
 }
 
-// What a member is, where no blank stands before it.
+// What a member is, where no blank is before it.
 pub fn member_kind(part: &[u8], base: usize) -> MemberStart
     requires { ⌜ base + length (now part) ≤ text-limit ⌝ }
     requires { ⌜ whitespace0 base (now part) ≡ ok no-doc base (now part) ⌝ }

@@ -7,7 +7,7 @@ ghost use Rattle.lexing.specs.answers.{docOf};
 ghost use Rattle.lexing.specs.blanks.{no-doc, whitespace0};
 ghost use Rattle.items.specs.layout.{text-limit};
 ghost use Rattle.items.specs.inner.member_kinds.{MemberFrom, member-try};
-ghost use Rattle.items.specs.inner.members.{member-behind, unhoisted, MemberWritten, revisionWrote, RevisionTo, MemberCountTo};
+ghost use Rattle.items.specs.inner.members.{member-after, unhoisted, MemberWritten, revisionWrote, RevisionTo, MemberCountTo};
 ghost use Rattle.items.specs.clusters.{parse-revision, member-tries, parse-cluster-member};
 ghost use Rattle.items.specs.answers.{DocFits, Room};
 use crate::attributes::count_attribute;
@@ -39,9 +39,9 @@ use lexing::integers::Number;
 use lexing::integers::number_lost;
 use lexing::names::keyword_number;
 use lexing::parts::rest_at;
-use lexing::steps::tag_behind;
+use lexing::steps::tag_after;
 
-// Where reading and writing stand, and the last revision so far.
+// Where reading and writing are, and the last revision so far.
 pub struct MembersWrote {
     pub next: usize,
     pub to: usize,
@@ -57,7 +57,7 @@ pub fn parse_revision(part: &[u8], base: usize) -> Number
     let Number::Value(n, c1) = number else {
         return Number::NoNumber(number_lost(number));
     };
-    let semicolon = tag_behind(part, base, c1, b';');
+    let semicolon = tag_after(part, base, c1, b';');
     let Step::Next(c2) = semicolon else {
         return Number::NoNumber(step_lost(semicolon));
     };
@@ -104,7 +104,7 @@ fn count_member_of_kind(
     }
 }
 
-// The one try that a member's first word leaves.
+// The one try that a member's first word selects.
 fn count_member_tries(part: &[u8], base: usize, doc: DocSpan, maturity: u8) -> Count
     requires { ⌜ base + length (now part) ≤ text-limit ⌝ }
     requires { ⌜ whitespace0 base (now part) ≡ ok no-doc base (now part) ⌝ }
@@ -215,7 +215,7 @@ fn write_member_of_kind(
     }
 }
 
-// The second pass over a member behind the blanks before it, which hold its doc comment.
+// The second pass over a member after the blanks before it, which hold its doc comment.
 pub fn write_member(
     part: &[u8],
     base: usize,
@@ -227,8 +227,8 @@ pub fn write_member(
     requires { ⌜ base + length (now part) ≤ text-limit ⌝ }
     requires { ⌜ whitespace0 base (now part) ≡ ok no-doc base (now part) ⌝ }
     requires { ⌜ DocFits doc ⌝ }
-    requires { ⌜ Room unhoisted (member-behind (docOf doc)) base (now part) at (length (now out)) ⌝ }
-    ensures { λ r. ⌜ MemberWritten last (member-behind (docOf doc)) base (now (part .entry)) at r (now (out .entry)) (now (out .exit)) ⌝ }
+    requires { ⌜ Room unhoisted (member-after (docOf doc)) base (now part) at (length (now out)) ⌝ }
+    ensures { λ r. ⌜ MemberWritten last (member-after (docOf doc)) base (now (part .entry)) at r (now (out .entry)) (now (out .exit)) ⌝ }
 {
     let m = maturity_between(part, base);
     let c = m.next;

@@ -41,7 +41,7 @@ use crate::layout::STRUCT_WORDS;
 use crate::layout::WORD;
 use lexing::buffers::put_word;
 
-// How many words a record of a kind takes. It is a match and no table, since the next record's offset would wait for a load from it.
+// How many words a record of a kind takes.
 pub fn words_of(kind: u8) -> usize
     ensures { λ r. ⌜ r ≡ words-of-kind layout kind ⌝ }
 {
@@ -84,7 +84,7 @@ pub fn word_at(bytes: &[u8], at: usize) -> u64
         + wide(bytes[at]) * 0x100_0000_0000_0000
 }
 
-// A kind and a place stand in the first two bytes, which are loaded without the rest: most records are told apart by them.
+// A kind and a place are in the first two bytes, which are loaded without the rest: most records are told apart by them.
 pub fn kind_at(bytes: &[u8], at: usize) -> u8
     requires { ⌜ at + 8 ≤ length (now bytes) ⌝ }
     ensures { λ r. ⌜ r ≡ value-at layout kind-field (now (bytes .entry)) at ⌝ }

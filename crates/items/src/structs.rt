@@ -65,7 +65,7 @@ pub enum StructHeadRead {
     NoHead(Lost),
 }
 
-// The kind that the word before a struct says, and the offset behind it and its blanks.
+// The kind that the word before a struct says, and the offset after it and its blanks.
 struct StructWord {
     kind: StructKind,
     next: usize,
@@ -102,7 +102,7 @@ fn struct_word_by(part: &[u8], base: usize, key: &[u8], kind: StructKind) -> Str
     StructWord { kind: said, next }
 }
 
-// The word before a struct, which may be absent, and its blanks; those of `shared` the caller has read. The third letter leaves one of the others.
+// The word before a struct, which may be absent, and its blanks; those of `shared` the caller has read. The third letter selects one of the others.
 fn struct_word(part: &[u8], base: usize, from: usize) -> StructWord
     requires { ⌜ base + length (now part) ≤ text-limit ⌝ }
     requires { ⌜ StructFrom from base (now part) ⌝ }

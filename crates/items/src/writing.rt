@@ -1,4 +1,4 @@
-// The first words of a record, and what stands before a declaration.
+// The first words of a record, and what is before a declaration.
 ghost use mathlib.Core.Path.{_≡_};
 ghost use Prim.Native.Nat.{_+_, _≤_};
 ghost use lib.ListN.{length};
@@ -33,7 +33,7 @@ pub struct First {
     pub second_privilege: u8,
 }
 
-// Where reading and writing stand.
+// Where reading and writing are.
 pub struct Wrote {
     pub next: usize,
     pub to: usize,
@@ -54,7 +54,7 @@ pub fn first_word(f: First) -> u64
         + f.second_privilege as u64
 }
 
-// What stands before a declaration, and its record's kind and place.
+// What is before a declaration, and its record's kind and place.
 pub struct FrontParts {
     pub kind: u8,
     pub place: u8,

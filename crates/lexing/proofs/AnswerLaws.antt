@@ -39,7 +39,7 @@ module _ {T A : Type 0} {f : ℕ → List ℕ → T → Answer A} {W : ℕ → T
 pub last-lost : {A : Type 0} (m : Parser A) {b n : ℕ} {u r : List ℕ} (l : Lost) → Rest b u n r → lostReply l ≡ m n r → lostReply l ≡ m n (drop (n - b) u)
 last-lost m {b} {n} l q e = e ∙ ap (m n) (q .same)
 
--- what takes a byte ends behind its start
+-- what takes a byte ends after its start
 pub read-on : {A : Type 0} {m : Parser A} → Onward m → Consumes m → {a : A} {b c : ℕ} {u : List ℕ} → ok a c (drop (c - b) u) ≡ m b u → (b < c) × (c ≤ b + length u)
 read-on w v {a} {b} {c} {u} e =
     let p = reads-in w b c u a e in

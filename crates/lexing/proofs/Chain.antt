@@ -1,4 +1,4 @@
--- The chain of a text: the places at which any parser can stand, one behind another, with the depth of braces.
+-- The chain of a text: the places at which any parser can be, one after another, with the depth of braces.
 -- A parser that succeeds ends on the chain of its start. A chain that comes to the end of the text at depth 0 meets no unclosed comment or string.
 use Prim.Native.Nat.{ℕ, suc, _+_, _<_}
 use mathlib.Core.Path.{_≡_, refl, sym}
@@ -16,17 +16,17 @@ use Rattle.lexing.specs.strings.{Escape, allowed, string-with}
 use Rattle.lexing.proofs.Runs.{Cut, Suf, same, skip, suf-trans, suf-cut}
 use Rattle.lexing.proofs.Onward.{Ends, Advances, advances-onward, parse-id-advances, integer-advances, signed-advances, group-advances, string-advances}
 
--- the one step from a place: behind a token, into braces or out of them; none at the end of the text or at a token that is not whole
+-- the one step from a place: after a token, into braces or out of them; none at the end of the text or at a token that is not whole
 pub data Next : Type 0 where
   dead : Next
   goes opens closes : List ℕ → Next
 
-unfoldable pub behind : {A : Type 0} → Reply A → Next
-behind (ok a c r) = goes r
-behind (fail p) = dead
-behind (stop n p) = dead
+unfoldable pub following : {A : Type 0} → Reply A → Next
+following (ok a c r) = goes r
+following (fail p) = dead
+following (stop n p) = dead
 
--- any byte behind a backslash
+-- any byte after a backslash
 unfoldable pub any-escape : ℕ → Escape
 any-escape x = allowed
 
@@ -36,19 +36,19 @@ punctuation x u = elim (eqb x 0x7b) [ true ↦ opens u | false ↦ elim (eqb x 0
 unfoldable pub token : ℕ → List ℕ → Next
 token x u =
     elim (eqb x quote) [
-      | true ↦ behind (string-with any-escape 0 (x ∷ u))
-      | false ↦ elim (eqb x plus || eqb x minus) [ true ↦ behind (signed-integer 0 (x ∷ u)) | false ↦ punctuation x u ]
+      | true ↦ following (string-with any-escape 0 (x ∷ u))
+      | false ↦ elim (eqb x plus || eqb x minus) [ true ↦ following (signed-integer 0 (x ∷ u)) | false ↦ punctuation x u ]
     ]
 
 unfoldable pub next : List ℕ → Next
 next [] = dead
 next (x ∷ u) =
     elim (isLetter x) [
-      | true ↦ behind (parse-id 0 (x ∷ u))
+      | true ↦ following (parse-id 0 (x ∷ u))
       | false ↦
           elim (isDigit x) [
-            | true ↦ behind (positive-integer 0 (x ∷ u))
-            | false ↦ elim (eqb x slash || isSpace x) [ true ↦ behind (whitespace-group 0 (x ∷ u)) | false ↦ token x u ]
+            | true ↦ following (positive-integer 0 (x ∷ u))
+            | false ↦ elim (eqb x slash || isSpace x) [ true ↦ following (whitespace-group 0 (x ∷ u)) | false ↦ token x u ]
           ]
     ]
 
@@ -131,14 +131,14 @@ SufN u (goes v) = Suf v u
 SufN u (opens v) = Suf v u
 SufN u (closes v) = Suf v u
 
-behind-suf : {A : Type 0} (b : ℕ) (u : List ℕ) (x : Reply A) → Ends b u x → SufN u (behind x)
-unfolding behind
-behind-suf b u (ok a c r) e = e .0
-behind-suf b u (fail p) e = tt
-behind-suf b u (stop n p) e = tt
+following-suf : {A : Type 0} (b : ℕ) (u : List ℕ) (x : Reply A) → Ends b u x → SufN u (following x)
+unfolding following
+following-suf b u (ok a c r) e = e .0
+following-suf b u (fail p) e = tt
+following-suf b u (stop n p) e = tt
 
-token-suf : {A : Type 0} {m : Parser A} → Advances m → (u : List ℕ) → SufN u (behind (m 0 u))
-token-suf {A} {m} w u = behind-suf 0 u (m 0 u) (advances-onward w .onward 0 u)
+token-suf : {A : Type 0} {m : Parser A} → Advances m → (u : List ℕ) → SufN u (following (m 0 u))
+token-suf {A} {m} w u = following-suf 0 u (m 0 u) (advances-onward w .onward 0 u)
 
 punctuation-suf : (x : ℕ) (u : List ℕ) → SufN (x ∷ u) (punctuation x u)
 unfolding punctuation

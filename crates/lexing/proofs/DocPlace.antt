@@ -1,4 +1,4 @@
--- The doc comment of a run of blanks stands in the run.
+-- The doc comment of a run of blanks is in the run.
 use mathlib.Core.Path.{_≡_, refl, sym}
 use mathlib.Core.Bool.{Bool, true, false, _&&_}
 use mathlib.Core.List.{List, [], _∷_}

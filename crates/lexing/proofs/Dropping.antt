@@ -38,13 +38,13 @@ keyword-skips k (Not l) h = record { value = no-word; reads = h }
 pub opt-skips : {A : Type 0} {m : Parser A} (a : Step) {b : ℕ} {u : List ℕ} {t : Step} → Skips m a b u → t ≡ optionalStep a b → Skips (opt m) t b u
 opt-skips {A} {m} a {b} {u} {t} h e = subst (λ (x : Step). Skips (opt m) x b u) (sym e) (optional-skips a b u h)
 
--- a part behind blanks
-pub behind : {A : Type 0} {m : Parser A} (w : Onward m) {b n : ℕ} {u r : List ℕ} {d : Doc} (x : Answer A) → Rest b u n r → Took whitespace0 b u b d n → reply x n r ≡ m n r → reply x b u ≡ (whitespace0 >> m) b u
-behind {A} {m} w {b} {n} {u} (got a c) q t h = begin (whitespace0 >> m) b u (on m t (sym (took w q h .goes)))
-behind {A} {m} w {b} {n} {u} (lost l) q t h = begin (whitespace0 >> m) b u (on m t (h ∙ ap (m n) (q .same)))
+-- a part after blanks
+pub following : {A : Type 0} {m : Parser A} (w : Onward m) {b n : ℕ} {u r : List ℕ} {d : Doc} (x : Answer A) → Rest b u n r → Took whitespace0 b u b d n → reply x n r ≡ m n r → reply x b u ≡ (whitespace0 >> m) b u
+following {A} {m} w {b} {n} {u} (got a c) q t h = begin (whitespace0 >> m) b u (on m t (sym (took w q h .goes)))
+following {A} {m} w {b} {n} {u} (lost l) q t h = begin (whitespace0 >> m) b u (on m t (h ∙ ap (m n) (q .same)))
 
-pub skip-behind : {A : Type 0} {m : Parser A} (w : Onward m) {b n : ℕ} {u r : List ℕ} {d : Doc} {a : Step} → Rest b u n r → Took whitespace0 b u b d n → Skips m a n r → Skips (whitespace0 >> m) a b u
-skip-behind w {a = a} q t h = record { value = h .value; reads = behind w (stepAnswer (λ c. h .value) a) q t (h .reads) }
+pub skip-after : {A : Type 0} {m : Parser A} (w : Onward m) {b n : ℕ} {u r : List ℕ} {d : Doc} {a : Step} → Rest b u n r → Took whitespace0 b u b d n → Skips m a n r → Skips (whitespace0 >> m) a b u
+skip-after w {a = a} q t h = record { value = h .value; reads = following w (stepAnswer (λ c. h .value) a) q t (h .reads) }
 
 -- the end of a repetition
 ran : {A : Type 0} (m : Parser A) (b : ℕ) (u : List ℕ) (c : ℕ) (l : List A) (x : Lost) → many0 m b u ≡ manyEnd x l c (drop (c - b) u) → Skips (many0 m) (optionalStep (Not x) c) b u

@@ -1,4 +1,4 @@
--- A text whose first word is a keyword: no other keyword stands there, and no word of a set that lacks it. A keyword that begins with another byte is not there.
+-- A text whose first word is a keyword: no other keyword is there, and no word of a set that lacks it. A keyword that begins with another byte is not there.
 use mathlib.Core.Path.{_≡_, refl, sym, ap, _∙_}
 use mathlib.Core.Bool.{Bool, true, false, not, _&&_, true≢false, false≢true}
 use mathlib.Core.Logic.{_⊎_, inl, inr}
@@ -51,7 +51,7 @@ unfolding flags contains bit
 no-flags [] = refl
 no-flags (k ∷ ks) = let z : 0 * 2 ^ length ks + flags ks [] ≡ flags ks [] = omega arith in z ∙ no-flags ks
 
--- none of several keywords stands at b
+-- none of several keywords is at b
 abbrev pub Frees : ℕ → List ℕ → List (List ℕ) → Type 0
 Frees b u [] = Unit {0}
 Frees b u (j ∷ js) = (keyword j b u ≡ fail b) × Frees b u js
@@ -115,7 +115,7 @@ one-lacks k (j ∷ ks) js (inr o) e = one-lacks k ks js o (and-right (lacks j js
 pub starts-free : {ks : List (List ℕ)} {u : List ℕ} → StartsAny ks u → (b : ℕ) (js : List (List ℕ)) → disjoint ks js ≡ true → Frees b u js
 starts-free {ks} s b js e = lacks-free (s .starts) b js (one-lacks (s .first) ks js (s .among) e)
 
--- no blank stands behind a run of blanks
+-- no blank is after a run of blanks
 one-blank-fails : (d : Doc) (b : ℕ) (u : List ℕ) (p : ℕ) → one-blank d b u ≡ fail p → whitespace-group b u ≡ fail p
 unfolding one-blank _>>=_ ret
 one-blank-fails d b u p e = go (whitespace-group b u) refl
@@ -145,7 +145,7 @@ blank-clear b u d c r e =
     let x = run-ends (suc (length u)) b u no-doc d c r (omega arith) e in
     iter-fail one-blank keep one-blank-consumes no-doc c r (x .0) (rw (x .1, one-blank, _>>=_) refl)
 
--- nor behind a gap
+-- nor after a gap
 pub gap-clear : (b : ℕ) (u : List ℕ) (d : Doc) (c : ℕ) (r : List ℕ) → whitespace1 b u ≡ ok d c r → whitespace0 c r ≡ ok no-doc c r
 unfolding whitespace1 _>>=_ position pick failAt ret
 gap-clear b u d c r h = go (whitespace0 b u) refl

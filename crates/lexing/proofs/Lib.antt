@@ -1,4 +1,4 @@
--- Laws of the definitions. A module's own laws, for the proofs of its functions, stand in MODULE/Laws.antt.
+-- Laws of the definitions. A module's own laws, for the proofs of its functions, are in MODULE/Laws.antt.
 
 -- bytes; tests computed for every byte; runs of bytes and texts that end at a cut; the tokens that are runs; loops that scan a run
 pub mod Tests
@@ -25,7 +25,7 @@ pub mod AnswerLaws
 pub mod Pairs
 pub mod Dropping
 pub mod WordBetween
--- the doc comment of a run of blanks stands in the run
+-- the doc comment of a run of blanks is in the run
 pub mod DocPlace
 -- what a first word rules out
 pub mod FirstWord
@@ -33,7 +33,7 @@ pub mod FirstWord
 pub mod TextEnd
 -- numbers of refusals
 pub mod Numbers
--- parsers that never stop; what is read stands in the text; where it is refused
+-- parsers that never stop; what is read is in the text; where it is refused
 pub mod Calm
 pub mod Truth
 pub mod RefusedPlaces

@@ -1,4 +1,4 @@
--- Certificates of parsers, and how they are put together: a parser keeps to the chain, and looks at nothing behind a cut.
+-- Certificates of parsers, and how they are put together: a parser keeps to the chain, and looks at nothing after a cut.
 use Prim.Native.Nat.{ℕ, zero, suc, _+_, _≤_, _<_}
 use mathlib.Core.Path.{_≡_, refl}
 use mathlib.Core.Bool.{Bool, true, false}
@@ -13,7 +13,7 @@ use Rattle.lexing.proofs.Chain.{To, here, Clean, to-trans, to-suf, resu
 pub record OnChain {A : Type 0} (m : Parser A) : Type 0 where
   pub chain : (k b : ℕ) (u : List ℕ) → Moves k b u (m b u)
 
--- it leaves the last } standing
+-- it leaves the last } in place
 pub record KeepsCut {A : Type 0} (m : Parser A) : Type 0 where
   pub keeps : (b : ℕ) (u : List ℕ) → Cut u → CutRest (m b u)
 
@@ -308,7 +308,7 @@ module _ {A B : Type 0} {m : Parser A} {k : Parser B} where
   unfolding _>>_
   consumes-then-right w v = consumes-right w (λ a. v)
 
--- a step that looks at no text: it may stand after the last }
+-- a step that looks at no text: it may be after the last }
 pub record Blind {A : Type 0} (m : Parser A) : Type 0 where
   pub on-chain : OnChain m
   pub local : (b : ℕ) (u s : List ℕ) → m b (u ++ s) ≡ ext s (m b u)

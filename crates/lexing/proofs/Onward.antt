@@ -52,7 +52,7 @@ advances-catch {A} {m} {h} w v = record { reads = λ b u. go b u (m b u) refl (w
     go b u (fail q) e p = rw (e, catch) (v q .reads b u)
     go b u (stop n q) e p = rw (e, catch) tt
 
--- one parser behind another
+-- one parser after another
 reads-then : {A B : Type 0} (b c : ℕ) (u r : List ℕ) (a : A) → Reads b u (ok a c r) → (x : Reply B) → Ends c r x → Reads b u x
 reads-then b c u r a p (ok d e q) k = (suf-trans (k .0) (p .0), k .1 ∙ p .1, omega (arith, p .2, k .1, suf-length (k .0)))
 reads-then b c u r a p (fail i) k = tt
@@ -240,7 +240,7 @@ string-skip b b' x u (ok e c r) q p = (skip x (p .0), omega (arith, p .1), omega
 string-skip b b' x u (fail p) q h = tt
 string-skip b b' x u (stop n p) q h = tt
 
--- the offset where the byte at hand stands: behind the backslash, where that has been seen
+-- the offset where the byte at hand is: after the backslash, where that has been seen
 abbrev at-byte : Bool → ℕ → ℕ
 at-byte true b = suc b
 at-byte false b = b

@@ -111,7 +111,7 @@ pub ret-first : {A B : Type 0} (a : A) (k : A → Parser B) (n : ℕ) (v : List 
 unfolding _>>=_ ret
 ret-first a k n v = refl
 
--- a step and what stands on both sides of it
+-- a step and what is on both sides of it
 module _ {A B C D : Type 0} (m : Parser A) (p : Parser B) (q : Parser C) (k : B → Parser D) where
   ret-then : (x : B) (n : ℕ) (v : List ℕ) → ((q >> ret x) >>= k) n v ≡ (q >> k x) n v
   ret-then x n v = then-assoc q (ret x) k n v ∙ then-same q (ret x >>= k) (k x) (ret-first x k) n v

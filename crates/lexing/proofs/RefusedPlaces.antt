@@ -49,7 +49,7 @@ module _ (s : ℕ) (t : List ℕ) where
   prepend-in a (fail p) i = i
   prepend-in a (stop n p) i = i
 
-  -- strings: from the byte at hand on, which stands behind the backslash where that has been seen
+  -- strings: from the byte at hand on, which is after the backslash where that has been seen
   abbrev seen-bytes : Bool → ℕ
   seen-bytes true = 1
   seen-bytes false = 0
@@ -181,7 +181,7 @@ module _ {s : ℕ} {t : List ℕ} where
     unfolding _>>_
     placed-then w v l = placed-bind w v (λ a h. l)
 
-    -- nothing is read behind
+    -- nothing is read after
     pub placed-last : (d : B) → Placed s t m → Placed s t (m >> ret d)
     unfolding _>>_ _>>=_ ret
     placed-last d v = record { places = λ b u h. go b u (m b u) refl (v .places b u h) }
@@ -191,7 +191,7 @@ module _ {s : ℕ} {t : List ℕ} where
         go b u (fail p) e i = rw (e, _>>_, _>>=_) i
         go b u (stop n p) e i = rw (e, _>>_, _>>=_) i
 
-  -- tokens: those that fail where they stand
+  -- tokens: those that fail where they are
   pub placed-position : Placed s t position
   unfolding position
   placed-position = record { places = λ b u h. tt }
@@ -277,7 +277,7 @@ module _ {s : ℕ} {t : List ℕ} where
   unfolding decimal-integer
   decimal-in = placed-bind (walks chain-position) placed-position λ p h. placed-bind (advances-onward (run-advances isDigit)) (placed-run isDigit) λ w k. fitting-in p _ (position-in p h)
 
-  -- a parser that is refused in the part wherever it stands in it
+  -- a parser that is refused in the part wherever it is in it
   placed-here : {A : Type 0} {m : Parser A} → ((b : ℕ) (u : List ℕ) → InPart s t b → RefusedIn s t (m b u)) → Placed s t m
   placed-here v = record { places = λ b u h. v b u (here b u h) }
 
@@ -383,7 +383,7 @@ module _ {s : ℕ} {t : List ℕ} where
   unfolding set-flags keywords-set set-step
   set-in ks = placed-made _ (placed-iter Any (set-step ks) keep (λ ws. walks (set-step-chain ks ws)) (λ ws q. placed-made _ (next-word-in ks ws)) (λ x y h q. tt) [] tt)
 
-  -- a string of each kind, and names behind two keywords
+  -- a string of each kind, and names after two keywords
   pub quoted-in : Placed s t quoted-string
   unfolding quoted-string
   quoted-in = string-in _

@@ -52,7 +52,7 @@ pub run-none : (f : ℕ → Bool) (x : ℕ) (u : List ℕ) → f x ≡ false →
 unfolding takeWhile
 run-none f x u e = rw (e, takeWhile)
 
--- the byte behind the run fails, and so does 0, which stands for none
+-- the byte after the run fails, and so does 0, which stands for none
 pub run-stops : (f : ℕ → Bool) → f 0 ≡ false → (u : List ℕ) → f (getD u (length (takeWhile f u)) 0) ≡ false
 unfolding takeWhile
 run-stops f z [] = z
@@ -104,7 +104,7 @@ module _ (f : ℕ → Bool) (u : List ℕ) (i : ℕ) {e : ℕ} (h : RunAt f u e 
       let k : length (takeWhile f (drop i u)) ≡ 0 = rw (drop-of-length-le u le) (ap length (run-nil f)) in
       omega (arith, k, h .left)
 
--- what holds of n places from i on, and of m behind them
+-- what holds of n places from i on, and of m after them
 pub both-runs : (P : ℕ → Type 0) (i n m : ℕ) → ((j : ℕ) → j < n → P (i + j)) → ((j : ℕ) → j < m → P (i + n + j)) → (j : ℕ) → j < n + m → P (i + j)
 both-runs P i n m p q j h = go (ltb j n) refl
   where
@@ -115,7 +115,7 @@ both-runs P i n m p q j h = go (ltb j n) refl
         let z : i + n + (j - n) ≡ i + j = omega arith in
         rw z at (q (j - n) (omega arith))
 
--- what holds at i and is kept by each of n turns holds behind them
+-- what holds at i and is kept by each of n turns holds after them
 pub turns : (P : ℕ → Type 0) (i n : ℕ) → P i → ((j : ℕ) → j < n → P (i + j) → P (i + j + 1)) → P (i + n)
 turns P i zero h f = let z : i ≡ i + 0 = omega arith in subst P z h
 turns P i (suc n) h f = let z : i + n + 1 ≡ i + suc n = omega arith in subst P z (f n (omega arith) (turns P i n h (λ j q. f j (omega arith))))

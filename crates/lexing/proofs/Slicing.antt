@@ -49,7 +49,7 @@ suf-drop {r} (skip x {u = u} s) =
     let z : suc (length u) - length r ≡ suc (length u - length r) = omega (arith, suf-length s) in
     rw z (suf-drop s)
 
--- a step of a sequence that stands at offset n of a part that starts at b, and goes on to c
+-- a step of a sequence that is at offset n of a part that starts at b, and goes on to c
 pub record Took {A : Type 0} (m : Parser A) (b : ℕ) (u : List ℕ) (n : ℕ) (a : A) (c : ℕ) : Type 0 where
   pub goes : m n (drop (n - b) u) ≡ ok a c (drop (c - b) u)
   pub up : n ≤ c

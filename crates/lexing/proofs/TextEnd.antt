@@ -1,4 +1,4 @@
--- At the end of a text, and at a closing brace, stands no word and no blank.
+-- At the end of a text, and at a closing brace, there is no word and no blank.
 use mathlib.Core.Path.{_≡_, refl, sym, ap}
 use mathlib.Core.Bool.{Bool, true, false}
 use mathlib.Core.List.{List, [], _∷_}
@@ -39,7 +39,7 @@ clear-blank {b} {u} e = let z : b - b ≡ 0 = omega arith in record { reads = rw
 pub no-gap : (b : ℕ) → whitespace1 b [] ≡ fail b
 no-gap b = sym (gap-none b [] _ (clear-blank (no-blank b)) refl)
 
--- where a closing brace stands
+-- where a closing brace is
 pub brace-first : (b : ℕ) (u : List ℕ) {c : ℕ} {r : List ℕ} → ok tt c r ≡ tag 125 b u → (v : List ℕ) × (u ≡ 125 ∷ v)
 unfolding tag
 brace-first b [] e = let z : _≡_ {A = ℕ} 0 1 = cc in absurd (omega arith)

@@ -1,4 +1,4 @@
--- The certificates of the tokens: each keeps to the chain and looks at nothing behind a cut.
+-- The certificates of the tokens: each keeps to the chain and looks at nothing after a cut.
 use Prim.Native.Nat.{ℕ, zero, suc, _+_}
 use mathlib.Core.Path.{_≡_, refl, sym, _∙_, ap}
 use mathlib.Core.Bool.{Bool, true, false, _||_, _&&_, true≢false}
@@ -18,7 +18,7 @@ use Rattle.lexing.proofs.Runs.{Cut, cut-tail, skip, suf-length, suf-cut
 use Rattle.lexing.proofs.TokenRuns.{id-nil, id-yes, id-no, digits-nil, digits-yes, digits-no, space-nil, space-yes, space-no, line-text, line-nil, line-one, line-first, line-is, line-no, text-yes, text-no, isHexFront, hex-nil, hex-one, hex-other, hex-two, hex-yes, hex-else}
 use Rattle.lexing.proofs.Onward.{Reads, Advances, parse-id-advances, tag-advances, integer-advances, signed-advances, group-advances, string-advances}
 use Rattle.lexing.proofs.Shift.{shiftReply, Shifts, shift-parse-id, shift-integer, shift-signed, shift-group, shift-string}
-use Rattle.lexing.proofs.Chain.{dead, goes, behind, any-escape, token, next, here, goR, Clean, not-dead, Moves, CutRest, Shorter, ext, to-suf}
+use Rattle.lexing.proofs.Chain.{dead, goes, following, any-escape, token, next, here, goR, Clean, not-dead, Moves, CutRest, Shorter, ext, to-suf}
 use Rattle.lexing.proofs.Locality.{OnChain, KeepsCut, Consumes, Local, chain-ret, keeps-ret, local-ret, chain-bind, keeps-bind, local-bind, chain-then, keeps-then, local-then, consumes-left, consumes-right, consumes-then-right, chain-iter, keeps-iter, local-iter, chain-or, keeps-or, consumes-or, local-or, keeps-catch, chain-position, keeps-position, local-position, chain-pick, keeps-pick, local-pick, chain-fail, keeps-fail, local-fail, catch-ext}
 
 -- From a token's first byte on: it reads what the chain's step reads, at any offset.
@@ -27,20 +27,20 @@ Steps u (ok a c r) = next u ≡ goes r
 Steps u (fail p) = Unit {0}
 Steps u (stop n p) = Unit {0}
 
-steps-of : {A : Type 0} (u : List ℕ) (x : Reply A) → next u ≡ behind x → Steps u x
-unfolding behind
+steps-of : {A : Type 0} (u : List ℕ) (x : Reply A) → next u ≡ following x → Steps u x
+unfolding following
 steps-of u (ok a c r) e = e
 steps-of u (fail p) e = tt
 steps-of u (stop n p) e = tt
 
-behind-shift : {A : Type 0} (d : ℕ) (f : A → A) (x : Reply A) → behind (shiftReply d f x) ≡ behind x
-unfolding behind shiftReply
-behind-shift d f (ok a c r) = refl
-behind-shift d f (fail p) = refl
-behind-shift d f (stop n p) = refl
+following-shift : {A : Type 0} (d : ℕ) (f : A → A) (x : Reply A) → following (shiftReply d f x) ≡ following x
+unfolding following shiftReply
+following-shift d f (ok a c r) = refl
+following-shift d f (fail p) = refl
+following-shift d f (stop n p) = refl
 
-any-offset : {A : Type 0} {f : ℕ → A → A} {m : Parser A} → ((d : ℕ) → Shifts d (f d) m m) → (b : ℕ) (u : List ℕ) → behind (m 0 u) ≡ behind (m b u)
-any-offset {A} {f} {m} s b u = let z : b + 0 ≡ b = omega arith in sym (rw z at (ap behind (s b .shifts 0 u) ∙ behind-shift b (f b) (m 0 u)))
+any-offset : {A : Type 0} {f : ℕ → A → A} {m : Parser A} → ((d : ℕ) → Shifts d (f d) m m) → (b : ℕ) (u : List ℕ) → following (m 0 u) ≡ following (m b u)
+any-offset {A} {f} {m} s b u = let z : b + 0 ≡ b = omega arith in sym (rw z at (ap following (s b .shifts 0 u) ∙ following-shift b (f b) (m 0 u)))
 
 moves-of : {A : Type 0} (k b : ℕ) (u : List ℕ) (x : Reply A) → Steps u x → Reads b u x → Moves k b u x
 moves-of k b u (ok a c r) s e = (goR s here, e .1)
@@ -329,15 +329,15 @@ module _ (m : Bool) (b : ℕ) where
           rw (e, after-sign) (rw (takeWhile-app isDigit (y ∷ v) s h, dropWhile-app isDigit (y ∷ v) s h) (range-ext _ _ _ s))
       go false e = rw (e, after-sign)
 
-next-minus : (u : List ℕ) → next (minus ∷ u) ≡ behind (signed-integer 0 (minus ∷ u))
+next-minus : (u : List ℕ) → next (minus ∷ u) ≡ following (signed-integer 0 (minus ∷ u))
 unfolding next token isLetter isDigit isSpace within
 next-minus u = refl
 
-next-plus : (u : List ℕ) → next (plus ∷ u) ≡ behind (signed-integer 0 (plus ∷ u))
+next-plus : (u : List ℕ) → next (plus ∷ u) ≡ following (signed-integer 0 (plus ∷ u))
 unfolding next token isLetter isDigit isSpace within
 next-plus u = refl
 
-signed-at : (b x : ℕ) (u : List ℕ) → next (x ∷ u) ≡ behind (signed-integer 0 (x ∷ u)) → Steps (x ∷ u) (signed-integer b (x ∷ u))
+signed-at : (b x : ℕ) (u : List ℕ) → next (x ∷ u) ≡ following (signed-integer 0 (x ∷ u)) → Steps (x ∷ u) (signed-integer b (x ∷ u))
 signed-at b x u e = steps-of (x ∷ u) (signed-integer b (x ∷ u)) (e ∙ any-offset shift-signed b (x ∷ u))
 
 signed-steps : (b : ℕ) (u : List ℕ) → Steps u (signed-integer b u)
@@ -573,8 +573,8 @@ unfolding whitespace-group catch isSpace
 open-group b v e = rw (line-no b slash star v refl, catch) (rw (open-block b v e, catch) (space-no b slash (star ∷ v) refl))
 
 open-dead : (v : List ℕ) → until-close v ≡ never → next (slash ∷ star ∷ v) ≡ dead
-unfolding next isLetter isDigit within behind
-open-dead v e = ap behind (open-group 0 v e)
+unfolding next isLetter isDigit within following
+open-dead v e = ap following (open-group 0 v e)
 
 group-ext : (k b : ℕ) (u s : List ℕ) → Clean k u → Cut u → whitespace-group b (u ++ s) ≡ ext s (whitespace-group b u)
 unfolding whitespace-group
@@ -680,19 +680,19 @@ rest-end f (x ∷ u) false b = go (eqb x quote) refl (eqb x backslash) refl (res
     go false e true e' ih = rw (e, e', string-rest) (ih true b)
     go false e false e' ih = rw (e, e', string-rest) (ih false (suc b))
 
-next-quote : (u : List ℕ) → next (quote ∷ u) ≡ behind (string-with any-escape 0 (quote ∷ u))
+next-quote : (u : List ℕ) → next (quote ∷ u) ≡ following (string-with any-escape 0 (quote ∷ u))
 unfolding next token isLetter isDigit isSpace within
 next-quote u = refl
 
-span-steps : (b : ℕ) (v : List ℕ) (x y : Reply ℕ) → SameEnd x y → next v ≡ behind (span-from b y) → Steps v (span-from b x)
-unfolding span-from behind
+span-steps : (b : ℕ) (v : List ℕ) (x y : Reply ℕ) → SameEnd x y → next v ≡ following (span-from b y) → Steps v (span-from b x)
+unfolding span-from following
 span-steps b v (ok e c r) y q h = rw q at h
 span-steps b v (fail p) y q h = tt
 span-steps b v (stop n p) y q h = tt
 
-chain-quote : (b x : ℕ) (u : List ℕ) → eqb x quote ≡ true → next (x ∷ u) ≡ behind (span-from (suc b) (string-rest any-escape false (suc b) u))
+chain-quote : (b x : ℕ) (u : List ℕ) → eqb x quote ≡ true → next (x ∷ u) ≡ following (span-from (suc b) (string-rest any-escape false (suc b) u))
 unfolding string-with
-chain-quote b x u e = (rw (eq-of x quote e) (next-quote u)) ∙ (any-offset (λ d. shift-string d any-escape) b (x ∷ u) ∙ ap behind (rw (e, string-with) refl))
+chain-quote b x u e = (rw (eq-of x quote e) (next-quote u)) ∙ (any-offset (λ d. shift-string d any-escape) b (x ∷ u) ∙ ap following (rw (e, string-with) refl))
 
 string-steps : (f : ℕ → Escape) (b : ℕ) (u : List ℕ) → Steps u (string-with f b u)
 unfolding string-with
@@ -773,7 +773,7 @@ span-ext b w (fail p) = refl
 span-ext b w (stop n p) = refl
 
 string-ext : (f : ℕ → Escape) (k b : ℕ) (u w : List ℕ) → Clean k u → Cut u → string-with f b (u ++ w) ≡ ext w (string-with f b u)
-unfolding string-with ext span-from behind
+unfolding string-with ext span-from following
 string-ext f k b [] w c d = absurd d
 string-ext f k b (x ∷ u) w c d = go (eqb x quote) refl
   where
@@ -782,8 +782,8 @@ string-ext f k b (x ∷ u) w c d = go (eqb x quote) refl
       where
         is : (y : Reply ℕ) → string-rest any-escape false (suc b) u ≡ y → Whole y
         is (ok i a r) q = tt
-        is (fail p) q = not-dead k x u c (chain-quote b x u e ∙ ap (λ y. behind (span-from (suc b) y)) q)
-        is (stop n p) q = not-dead k x u c (chain-quote b x u e ∙ ap (λ y. behind (span-from (suc b) y)) q)
+        is (fail p) q = not-dead k x u c (chain-quote b x u e ∙ ap (λ y. following (span-from (suc b) y)) q)
+        is (stop n p) q = not-dead k x u c (chain-quote b x u e ∙ ap (λ y. following (span-from (suc b) y)) q)
 
     go : (t : Bool) → eqb x quote ≡ t → string-with f b (x ∷ (u ++ w)) ≡ ext w (string-with f b (x ∷ u))
     go true e = rw (e, string-with) (rw (rest-ext f u false (suc b) w (whole e)) (span-ext (suc b) w (string-rest f false (suc b) u)))

@@ -79,7 +79,7 @@ signed-place b (x ∷ u) = go (eqb x minus) refl (eqb x plus) refl
     go false e true d = rw (e, d, signed-integer) (sign-place false b u)
     go false e false d = rw (e, d, signed-integer) refl
 
--- a string ends behind its opening, and fails at its start or behind it
+-- a string ends after its opening, and fails at its start or after it
 abbrev RestPlace : ℕ → Reply ℕ → Type 0
 RestPlace b (ok a c r) = b < c
 RestPlace b (fail p) = b ≤ p

@@ -24,7 +24,7 @@ module _ (f : ℕ → Bool) (b x : ℕ) (u : List ℕ) where
   unfolding take-while1
   run-no e = rw (e, take-while1)
 
--- a run, and one behind it whose test passes the first's bytes too, are one run
+-- a run, and one after it whose test passes the first's bytes too, are one run
 module _ (f g : ℕ → Bool) (h : (x : ℕ) → f x ≡ true → g x ≡ true) where
   two-runs : (u : List ℕ) → takeWhile f u ++ takeWhile g (dropWhile f u) ≡ takeWhile g u
   unfolding takeWhile dropWhile
@@ -105,7 +105,7 @@ module _ (s t b : ℕ) where
   unfolding tag2
   tag2-no x y u e = rw (e, tag2)
 
--- a line comment: two slashes, and what stands behind them
+-- a line comment: two slashes, and what is after them
 abbrev pub line-text : Parser Whitespace
 line-text = take-while1 inLine >> ret plain
 

@@ -1,4 +1,4 @@
--- What is read stands in the text: a word is the text's bytes at its offset, spans lie inside, numbers fit their bits; and the rules by which a production gives what its parts give.
+-- What is read is in the text: a word is the text's bytes at its offset, spans lie inside, numbers fit their bits; and the rules by which a production gives what its parts give.
 -- A part t of the text begins at offset s; a parser reads somewhere in it and ends at an offset `end` or before. For a whole text s is 0.
 use Prim.Native.Nat.{ℕ, zero, suc, _+_, _-_, _^_, _≤_, _<_}
 use mathlib.Core.Path.{_≡_, refl, sym, _∙_, ap, subst}
@@ -192,7 +192,7 @@ module _ (s : ℕ) (t : List ℕ) (end : ℕ) where
   abbrev pub DocTrue : Doc → Type 0
   DocTrue d = DocIn s end d
 
-  -- a word, a doc comment and a string that stand in the part
+  -- a word, a doc comment and a string that are in the part
   word-at : (b : ℕ) (u : List ℕ) → Rest s t b u → (w : Word) (c : ℕ) (r : List ℕ) → parse-id b u ≡ ok w c r → c ≤ end → WordTrue w
   unfolding offsetOf bytesOf
   word-at b [] q w c r e f = fail-no (sym (id-nil b) ∙ e)
@@ -286,7 +286,7 @@ module _ {s : ℕ} {t : List ℕ} {end : ℕ} where
         go (some a) h (fail p) e = let z : ok none (h .base) (h .rest) ≡ ok (some a) (h .next) (h .left) = rw (e, opt) at (h .reads) in let y : _≡_ {A = ℕ} 0 1 = cc in absurd (omega arith)
         go (some a) h (stop n p) e = stop-no (rw (e, opt) at (h .reads))
 
-  -- what a step reads, and the steps behind it, which end no earlier
+  -- what a step reads, and the steps after it, which end no earlier
   first-read : {A B : Type 0} {m : Parser A} {x : Parser B} {a : A} {d : B} {c : ℕ} {r : List ℕ} (h : Read s t end x d) → m (h .base) (h .rest) ≡ ok a c r → c ≤ h .next → Read s t end m a
   first-read {c = c} {r} h q i = record { base = h .base; rest = h .rest; stands = h .stands; next = c; left = r; reads = q; before = omega (arith, i, h .before) }
 
@@ -386,7 +386,7 @@ module _ {s : ℕ} {t : List ℕ} {end : ℕ} where
         go d h (fail p) e = fail-no (rw (e, _>>=_) at (h .reads))
         go d h (stop n p) e = stop-no (rw (e, _>>=_) at (h .reads))
 
-  -- what is read behind the value
+  -- what is read after the value
   pub gives-last : {A B : Type 0} {R : B → Type 0} (m : Parser A) (d : B) → R d → Gives s t end R (m >> ret d)
   unfolding _>>_ _>>=_ ret
   gives-last {A} {B} {R} m d q = record { holds = λ x h. go x h (m (h .base) (h .rest)) refl }

@@ -34,12 +34,12 @@ pub record Rest (b : ℕ) (u : List ℕ) (c : ℕ) (r : List ℕ) : Type 0 where
   pub same : r ≡ drop (c - b) u
   pub size : c + length r ≡ b + length u
 
--- where it is said so, eight bytes stand at i, none of them x. The other answer is free: it says nothing of the bytes
+-- where it is said so, eight bytes are at i, none of them x. The other answer is free: it says nothing of the bytes
 abbrev pub LacksIf : Bool → ℕ → List ℕ → ℕ → Type 0
 LacksIf true x u i = (i + 8 ≤ length u) × ((j : ℕ) → j < 8 → getD u (i + j) 0 ≡ x → ⊥)
 LacksIf false x u i = Unit {0}
 
--- a value and the offset behind it, or why there is none
+-- a value and the offset after it, or why there is none
 pub data Answer (A : Type 0) : Type 0 where
   got : A → ℕ → Answer A
   lost : Lost → Answer A
@@ -128,7 +128,7 @@ abbrev pub docBy : ℕ → ℕ → Doc
 docBy zero n = no-doc
 docBy (suc o) n = doc-at (suc o) n
 
--- a run by the offset behind it and the two numbers of its doc comment
+-- a run by the offset after it and the two numbers of its doc comment
 abbrev pub runOf : ℕ → List ℕ → Run
 runOf n d = record { next = n; doc = getD d 0 0; size = getD d 1 0 }
 
@@ -195,8 +195,8 @@ abbrev pub BlankAt : ℕ → ℕ → List ℕ → ℕ → Type 0
 BlankAt r b u c = SkipsAt whitespace0 (Next r) b u c
 
 -- `preceded` by blanks
-abbrev pub behind-blanks : {A : Type 0} → Parser A → Parser A
-behind-blanks p = whitespace0 >> p
+abbrev pub after-blanks : {A : Type 0} → Parser A → Parser A
+after-blanks p = whitespace0 >> p
 
 -- a word from an offset c of a part
 pub record WordAt (m : Parser Word) (r : Step) (b : ℕ) (u : List ℕ) (c : ℕ) : Type 0 where
@@ -208,7 +208,7 @@ pub record NumberAt (m : Parser ℕ) (r : Number) (b : ℕ) (u : List ℕ) (c : 
   pub at : Rest b u c (drop (c - b) u)
   pub reads : numberReply r c (drop (c - b) u) ≡ m c (drop (c - b) u)
 
--- the answer of an optional part that stands at b
+-- the answer of an optional part that is at b
 abbrev pub optionalStep : Step → ℕ → Step
 optionalStep (Next c) b = Next c
 optionalStep (Not l) b = onLost (λ p. Next b) (λ n p. Not (Stop n p)) l

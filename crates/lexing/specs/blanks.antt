@@ -19,7 +19,7 @@ line-comment = do
   take-while1 inLine
   ret plain
 
--- `take_until("*/")` with the `*/` behind it: how many bytes stand before, and the rest
+-- `take_until("*/")` with the `*/` after it: how many bytes are before, and the rest
 pub data Until : Type 0 where
   found : ℕ → List ℕ → Until
   never : Until
@@ -33,7 +33,7 @@ until-close [] = never
 until-close (x ∷ []) = never
 until-close (x ∷ y ∷ u) = elim (eqb x star && eqb y slash) [ true ↦ found 0 u | false ↦ one-more (until-close (y ∷ u)) ]
 
--- a text of n bytes behind `/*`: a doc comment where it starts with a star
+-- a text of n bytes after `/*`: a doc comment where it starts with a star
 unfoldable pub comment-kind : ℕ → ℕ → List ℕ → Whitespace
 comment-kind b zero v = plain
 comment-kind b (suc n) [] = plain

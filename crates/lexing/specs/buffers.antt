@@ -7,7 +7,7 @@ use lib.ListN.{length, take, drop}
 unfoldable pub put : ℕ → List ℕ → List ℕ → List ℕ
 put at xs l = take at l ++ (xs ++ drop (at + length xs) l)
 
--- what a function makes of each element, one behind the other
+-- what a function makes of each element, one after the other
 unfoldable pub each : {A B : Type 0} → (A → List B) → List A → List B
 each f [] = []
 each f (a ∷ l) = f a ++ each f l

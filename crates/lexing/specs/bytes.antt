@@ -80,7 +80,7 @@ unfoldable pub dropWhile : (ℕ → Bool) → List ℕ → List ℕ
 dropWhile f [] = []
 dropWhile f (x ∷ u) = elim (f x) [ true ↦ dropWhile f u | false ↦ x ∷ u ]
 
--- the value of a digit, and of a run of digits behind those whose value is v
+-- the value of a digit, and of a run of digits after those whose value is v
 unfoldable pub digit : ℕ → ℕ
 digit x = elim (isDigit x) [ true ↦ x - 0x30 | false ↦ elim (within 0x61 0x66 x) [ true ↦ x - 0x61 + 10 | false ↦ x - 0x41 + 10 ] ]
 

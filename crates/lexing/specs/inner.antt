@@ -1,4 +1,4 @@
--- What private functions promise. No public contract rests on it.
+-- What private functions promise, and functions of private modules. No contract that another crate uses rests on it.
 pub mod blanks
 pub mod eights
 pub mod integers

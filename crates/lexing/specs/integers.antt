@@ -47,7 +47,7 @@ largest false = 2 ^ 63 - 1
 unfoldable pub in-range : Bool → ℕ → ℕ → ℕ → List ℕ → Reply Signed
 in-range m b v c r = elim (leb v (largest m)) [ true ↦ ok (signed m v) c r | false ↦ fail b ]
 
--- the digits behind a sign that stands at b
+-- the digits after a sign that is at b
 unfoldable pub after-sign : Bool → ℕ → List ℕ → Reply Signed
 after-sign m b [] = fail b
 after-sign m b (y ∷ v) =
@@ -56,7 +56,7 @@ after-sign m b (y ∷ v) =
       | false ↦ fail b
     ]
 
--- nom's `character::complete::i64` where a sign stands: beyond the 64-bit range it fails. (Without a sign `positive-integer` has been tried before.)
+-- nom's `character::complete::i64` where a sign is: beyond the 64-bit range it fails. (Without a sign `positive-integer` has been tried before.)
 unfoldable pub signed-integer : Parser Signed
 signed-integer b [] = fail b
 signed-integer b (x ∷ u) =

@@ -6,7 +6,7 @@ use Rattle.lexing.specs.reply.{Parser, ret, _>>=_, _>>_}
 use Rattle.lexing.specs.words.{Word, parse-id, keyword, tag}
 use Rattle.lexing.specs.blanks.{whitespace0, whitespace1}
 
--- two keywords and the name behind them
+-- two keywords and the name after them
 unfoldable pub two-keywords-name : List ℕ → List ℕ → Parser Word
 two-keywords-name k j = do
   keyword k

@@ -20,7 +20,7 @@ unfoldable pub returned : Outcome → ℕ × ℕ
 returned (refused number v) = (number, v)
 returned (written l) = (0, length l)
 
--- what the buffer holds afterwards: a refusal leaves it as it was, acceptance leaves what stands behind the bytes written
+-- what the buffer holds afterwards: a refusal leaves it as it was, acceptance keeps what is after the bytes written
 unfoldable pub afterwards : Outcome → List ℕ → List ℕ
 afterwards (refused number v) buffer = buffer
 afterwards (written l) buffer = l ++ drop (length l) buffer

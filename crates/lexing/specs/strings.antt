@@ -6,15 +6,15 @@ use lib.Dec.{eqb}
 use Rattle.lexing.specs.bytes.{quote, backslash}
 use Rattle.lexing.specs.reply.{Reply, ok, fail, stop, Parser}
 
--- the offset of the first byte between the quotes, and how many bytes stand there
+-- the offset of the first byte between the quotes, and how many bytes are there
 pub data Span : Type 0 where
   span : ℕ → ℕ → Span
 
--- how a byte behind a backslash counts; at `panics` the Rust panics
+-- how a byte after a backslash counts; at `panics` the Rust panics
 pub data Escape : Type 0 where
   allowed forbidden panics : Escape
 
--- the rest of a string, from a byte at b on; escaped: the backslash at b has been seen, and the byte behind it comes next.
+-- the rest of a string, from a byte at b on; escaped: the backslash at b has been seen, and the byte after it comes next.
 -- The value is the offset of the closing quote. A forbidden escape and the end of the text fail where the string can't go on.
 unfoldable pub string-rest : (ℕ → Escape) → (escaped : Bool) → ℕ → List ℕ → Reply ℕ
 string-rest f e b [] = fail b

@@ -13,7 +13,7 @@ use Rattle.lexing.specs.declared.unescaping.Unescaping.the-variants.{Wri
 unfoldable pub escapes : List (ℕ × ℕ)
 escapes = (quote, quote) ∷ (backslash, backslash) ∷ (0x6e, lf) ∷ (0x74, tab) ∷ []
 
--- what stands beside y in a table
+-- what is beside y in a table
 unfoldable pub lookup : ℕ → List (ℕ × ℕ) → Option ℕ
 lookup y [] = none
 lookup y (e ∷ l) = elim (eqb y (e .0)) [ true ↦ some (e .1) | false ↦ lookup y l ]

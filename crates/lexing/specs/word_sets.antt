@@ -9,7 +9,7 @@ use Rattle.lexing.specs.reply.{Parser, ret, _>>=_, _>>_, iter, keep}
 use Rattle.lexing.specs.words.{Word, bytesOf, any-keyword}
 use Rattle.lexing.specs.blanks.{whitespace1}
 
--- one word more: a blank stands before each word but the first
+-- one word more: a blank is before each word but the first
 unfoldable pub next-word : List (List ℕ) → List Word → Parser Word
 next-word ks [] = any-keyword ks
 next-word ks (w ∷ ws) = whitespace1 >> any-keyword ks

@@ -22,7 +22,7 @@ pub fn stop_by(number: usize, place: usize) -> Lost
     }
 }
 
-// The offset behind a token.
+// The offset after a token.
 pub enum Step {
     Next(usize),
     Not(Lost),
@@ -37,7 +37,7 @@ pub fn step_lost(r: Step) -> Lost
     }
 }
 
-// The answer of an optional part that stands at an offset: where it fails nothing is read, and a stop goes on.
+// The answer of an optional part that is at an offset: where it fails nothing is read, and a stop goes on.
 pub fn optional(r: Step, base: usize) -> Step
     ensures { λ x. ⌜ x ≡ optionalStep r base ⌝ }
 {

@@ -23,7 +23,7 @@ pub enum DocSpan {
     At(usize, usize),
 }
 
-// A run of blanks: the offset behind it, and the doc comment that counts.
+// A run of blanks: the offset after it, and the doc comment that counts.
 pub struct Blank {
     pub next: usize,
     pub doc: DocSpan,
@@ -49,7 +49,7 @@ enum End {
     Open,
 }
 
-// A run of blanks in plain numbers: the offset behind it, and the offset and the length of the doc comment's text, offset 0 where there is none.
+// A run of blanks in plain numbers: the offset after it, and the offset and the length of the doc comment's text, offset 0 where there is none.
 pub struct Run {
     pub next: usize,
     pub doc: usize,
@@ -62,7 +62,7 @@ enum Turn {
     Done,
 }
 
-// How much white space stands at the front.
+// How much white space is at the front.
 fn white_length(part: &[u8]) -> usize
     ensures { λ r. ⌜ r ≡ length (takeWhile isSpace (now (part .entry))) ⌝ }
 {
@@ -76,7 +76,7 @@ fn white_length(part: &[u8]) -> usize
     i
 }
 
-// How many bytes of a line stand at the front.
+// How many bytes of a line are at the front.
 fn line_length(part: &[u8]) -> usize
     ensures { λ r. ⌜ r ≡ length (takeWhile inLine (now (part .entry))) ⌝ }
 {
@@ -90,7 +90,7 @@ fn line_length(part: &[u8]) -> usize
     i
 }
 
-// Whether `*/` stands at a place.
+// Whether `*/` is at a place.
 fn is_close_at(part: &[u8], i: usize) -> bool
     requires { ⌜ i < length (now part) ⌝ }
     ensures { λ r. ⌜ r ≡ isClose (getD (now (part .entry)) i 0) (getD (now (part .entry)) (i + 1) 0) ⌝ }
@@ -101,7 +101,7 @@ fn is_close_at(part: &[u8], i: usize) -> bool
     peek(part, i + 1) == b'/'
 }
 
-// How many bytes stand before the first `*/`. A turn passes eight bytes without a star, as most are, else one.
+// How many bytes are before the first `*/`. A turn passes eight bytes without a star, as most are, else one.
 fn comment_end(part: &[u8]) -> End
     ensures { λ r. ⌜ endUntil r (now (part .entry)) ≡ until-close (now (part .entry)) ⌝ }
 {
@@ -164,7 +164,7 @@ pub fn whitespace_group(part: &[u8], base: usize) -> Group
     Group::Nothing
 }
 
-// The offset behind the white space at an offset.
+// The offset after the white space at an offset.
 fn skip_white(part: &[u8], base: usize, at: usize) -> usize
     requires { ⌜ base ≤ at ⌝ }
     requires { ⌜ at ≤ base + length (now part) ⌝ }
@@ -175,7 +175,7 @@ fn skip_white(part: &[u8], base: usize, at: usize) -> usize
     at + n
 }
 
-// One more blank, or the end of the run. No white space stands there, so it is a comment.
+// One more blank, or the end of the run. No white space is there, so it is a comment.
 fn one_blank(part: &[u8], base: usize, b: Run) -> Turn
     requires { ⌜ base ≤ b .next ⌝ }
     requires { ⌜ b .next ≤ base + length (now part) ⌝ }
@@ -221,7 +221,7 @@ fn doc_by(doc: usize, size: usize) -> DocSpan
     DocSpan::At(doc, size)
 }
 
-// Blanks from behind the white space at the front on: comments with the white space behind each. The run is carried in plain numbers.
+// Blanks from after the white space at the front on: comments with the white space after each. The run is carried in plain numbers.
 fn more_blanks(part: &[u8], base: usize, from: usize, doc: &mut [usize; 2]) -> usize
     requires { ⌜ base + length (now part) ≤ u64-max ⌝ }
     requires { ⌜ from ≡ base + length (takeWhile isSpace (now part)) ⌝ }
@@ -248,7 +248,7 @@ fn more_blanks(part: &[u8], base: usize, from: usize, doc: &mut [usize; 2]) -> u
     }
 }
 
-// The offset behind any number of blanks at an offset, without a test for the common cases first: `whitespace0` and `steps::blank_at` are its short fronts.
+// The offset after any number of blanks at an offset, without a test for the common cases first: `whitespace0` and `steps::blank_at` are its short fronts.
 // The doc comment's numbers, those of a `Run`, are left in doc, which holds zeros.
 pub fn blank_run(part: &[u8], base: usize, c: usize, doc: &mut [usize; 2]) -> usize
     requires { ⌜ ((base ≤ c) × (c ≤ base + length (now part))) × (base + length (now part) ≤ u64-max) ⌝ }

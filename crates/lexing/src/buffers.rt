@@ -5,7 +5,7 @@ ghost use lib.ListN.{length};
 ghost use mathlib.Core.List.{[], _∷_};
 ghost use Rattle.lexing.specs.buffers.{put, big-endian, words-bytes};
 
-// Words one behind the other, for joined stores: the test between two words always holds, by `requires`.
+// Words one after the other, for joined stores: the test between two words always holds, by `requires`.
 pub fn put_two(out: &mut [u8], at: usize, a: u64, b: u64)
     requires { ⌜ at + 16 ≤ length (now out) ⌝ }
     ensures { λ _. ⌜ now (out .exit) ≡ put at (words-bytes (a ∷ b ∷ [])) (now (out .entry)) ⌝ }

@@ -16,13 +16,13 @@ use crate::bytes::is_hex;
 use crate::parts::after;
 use crate::parts::peek;
 
-// A value and the offset behind it.
+// A value and the offset after it.
 pub enum Number {
     Value(u64, usize),
     NoNumber(Lost),
 }
 
-// Whether a number is negative, its magnitude, and the offset behind it.
+// Whether a number is negative, its magnitude, and the offset after it.
 pub enum SignedNumber {
     Sized(bool, u64, usize),
     NoSigned(Lost),
@@ -116,7 +116,7 @@ fn is_x(x: u8) -> bool
     x == b'X'
 }
 
-// Whether `0x` or `0X` and a hexadecimal digit stand at the front.
+// Whether `0x` or `0X` and a hexadecimal digit are at the front.
 fn is_hex_ahead(part: &[u8]) -> bool
     ensures { λ r. ⌜ r ≡ isHexAhead (now (part .entry)) ⌝ }
 {
@@ -207,7 +207,7 @@ fn largest_of(negative: bool) -> u64
     0x7fff_ffff_ffff_ffff
 }
 
-// The digits behind a sign, which stands at the front.
+// The digits after a sign, which is at the front.
 fn after_sign(part: &[u8], base: usize, negative: bool) -> SignedNumber
     requires { ⌜ base + length (now part) ≤ u64-max ⌝ }
     requires { ⌜ 0 < length (now part) ⌝ }

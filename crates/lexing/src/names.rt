@@ -5,9 +5,9 @@ ghost use Prim.Native.Nat.{_+_, _≤_};
 ghost use lib.ListN.{length};
 ghost use Rattle.lexing.specs.integers.{u64-max};
 ghost use Rattle.lexing.specs.words.{isKey};
-ghost use Rattle.lexing.specs.answers.{numberReply, NumberAt, behind-blanks};
+ghost use Rattle.lexing.specs.answers.{numberReply, NumberAt, after-blanks};
 ghost use Rattle.lexing.specs.names.{two-keywords-name, named-after};
-ghost use Rattle.lexing.specs.answers.names.{namedLost, NamedTo, NamedAt, blank-word, gap-word, keyword-name, keyword-number, type-behind, equals-code};
+ghost use Rattle.lexing.specs.answers.names.{namedLost, NamedTo, NamedAt, blank-word, gap-word, keyword-name, keyword-number, type-after, equals-code};
 use crate::answers::Lost;
 use crate::answers::Step;
 use crate::answers::step_lost;
@@ -17,13 +17,13 @@ use crate::integers::positive_integer;
 use crate::parts::rest_at;
 use crate::steps::blank_at;
 use crate::steps::gap_at;
-use crate::steps::integer_behind;
-use crate::steps::tag_behind;
+use crate::steps::integer_after;
+use crate::steps::tag_after;
 use crate::words::id_at;
 use crate::words::keyword;
 use crate::words::tag;
 
-// Where a name starts and ends, and the offset behind all that was read.
+// Where a name starts and ends, and the offset after all that was read.
 pub enum Named {
     Name(usize, usize, usize),
     NoName(Lost),
@@ -68,7 +68,7 @@ pub fn gap_word(part: &[u8], base: usize, c: usize) -> Named
     Named::Name(c1, c2, c2)
 }
 
-// A keyword and the name behind it.
+// A keyword and the name after it.
 pub fn keyword_name(part: &[u8], base: usize, key: &[u8]) -> Named
     requires { ⌜ base + length (now part) ≤ u64-max ⌝ }
     requires { ⌜ isKey (now key) ≡ true ⌝ }
@@ -91,7 +91,7 @@ pub fn keyword_name(part: &[u8], base: usize, key: &[u8]) -> Named
     Named::Name(c2, c3, c3)
 }
 
-// Two keywords and the name behind them.
+// Two keywords and the name after them.
 pub fn two_keywords_name(part: &[u8], base: usize, first: &[u8], second: &[u8]) -> Named
     requires { ⌜ base + length (now part) ≤ u64-max ⌝ }
     requires { ⌜ (isKey (now first) ≡ true) × (isKey (now second) ≡ true) ⌝ }
@@ -128,14 +128,14 @@ pub fn named_after(part: &[u8], base: usize, first: &[u8], second: &[u8]) -> Nam
     let Named::Name(name, end, c1) = named else {
         return Named::NoName(named_lost(named));
     };
-    let semicolon = tag_behind(part, base, c1, b';');
+    let semicolon = tag_after(part, base, c1, b';');
     let Step::Next(c2) = semicolon else {
         return Named::NoName(step_lost(semicolon));
     };
     Named::Name(name, end, c2)
 }
 
-// A keyword and the number behind it.
+// A keyword and the number after it.
 pub fn keyword_number(part: &[u8], base: usize, key: &[u8]) -> Number
     requires { ⌜ base + length (now part) ≤ u64-max ⌝ }
     requires { ⌜ isKey (now key) ≡ true ⌝ }
@@ -161,10 +161,10 @@ pub fn keyword_number(part: &[u8], base: usize, key: &[u8]) -> Number
 // A colon and the name of a type.
 pub fn colon_type(part: &[u8], base: usize) -> Named
     requires { ⌜ base + length (now part) ≤ u64-max ⌝ }
-    ensures { λ r. ⌜ NamedTo type-behind r base (now (part .entry)) ⌝ }
+    ensures { λ r. ⌜ NamedTo type-after r base (now (part .entry)) ⌝ }
 {
     let part = &part[..];
-    let colon = tag_behind(part, base, base, b':');
+    let colon = tag_after(part, base, base, b':');
     let Step::Next(c1) = colon else {
         return Named::NoName(step_lost(colon));
     };
@@ -185,17 +185,17 @@ pub fn equals_code(part: &[u8], base: usize, c: usize) -> Number
     let Step::Next(c1) = equals else {
         return Number::NoNumber(step_lost(equals));
     };
-    let number = integer_behind(part, base, c1);
+    let number = integer_after(part, base, c1);
     let Number::Value(v, c2) = number else {
         return Number::NoNumber(number_lost(number));
     };
     Number::Value(v, c2)
 }
 
-// The same behind blanks.
+// The same after blanks.
 pub fn blank_equals_code(part: &[u8], base: usize, c: usize) -> Number
     requires { ⌜ ((base ≤ c) × (c ≤ base + length (now part))) × (base + length (now part) ≤ u64-max) ⌝ }
-    ensures { λ r. ⌜ NumberAt (behind-blanks equals-code) r base (now (part .entry)) c ⌝ }
+    ensures { λ r. ⌜ NumberAt (after-blanks equals-code) r base (now (part .entry)) c ⌝ }
 {
     let part = &part[..];
     let n = blank_at(part, base, c);

@@ -15,7 +15,7 @@ pub fn rest_at(part: &[u8], base: usize, c: usize) -> &[u8]
     &part[n..]
 }
 
-// The byte at a place, 0 past the end: no token holds a 0.
+// The byte at a place, 0 past the end. No caller looks for a 0, so one test serves for "ends here" and "another byte".
 pub fn peek(part: &[u8], i: usize) -> u8
     ensures { λ r. ⌜ r ≡ getD (now (part .entry)) i 0 ⌝ }
 {
@@ -25,7 +25,7 @@ pub fn peek(part: &[u8], i: usize) -> u8
     0
 }
 
-// Whether eight bytes stand at a place, none of them x.
+// Whether eight bytes are at a place, none of them x.
 pub fn eight_without(part: &[u8], i: usize, x: u8) -> bool
     requires { ⌜ i ≤ length (now part) ⌝ }
     ensures { λ r. ⌜ LacksIf r x (now (part .entry)) i ⌝ }
@@ -36,7 +36,7 @@ pub fn eight_without(part: &[u8], i: usize, x: u8) -> bool
     bytes_other_than(eight_at(part, i), x) == 0x8080_8080_8080_8080
 }
 
-// What is left behind n bytes; nothing where there are fewer.
+// What is left after n bytes; nothing where there are fewer.
 pub fn after(part: &[u8], n: usize) -> &[u8]
     ensures { λ r. ⌜ now r ≡ drop n (now (part .entry)) ⌝ }
 {

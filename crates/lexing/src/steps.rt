@@ -1,4 +1,4 @@
-// Steps from an offset of a part: blanks, and tokens behind blanks.
+// Steps from an offset of a part: blanks, and tokens after blanks.
 ghost use mathlib.Core.Path.{_≡_};
 ghost use mathlib.Core.Bool.{true};
 ghost use Prim.Native.Nat.{_+_, _≤_};
@@ -6,7 +6,7 @@ ghost use lib.ListN.{length};
 ghost use Rattle.lexing.specs.integers.{u64-max, positive-integer};
 ghost use Rattle.lexing.specs.words.{tag, isKey, keyword};
 ghost use Rattle.lexing.specs.blanks.{whitespace1};
-ghost use Rattle.lexing.specs.answers.{BlankAt, SkipsAt, NumberAt, behind-blanks};
+ghost use Rattle.lexing.specs.answers.{BlankAt, SkipsAt, NumberAt, after-blanks};
 use crate::answers::Lost;
 use crate::answers::Step;
 use crate::answers::step_lost;
@@ -18,7 +18,7 @@ use crate::parts::rest_at;
 use crate::words::keyword;
 use crate::words::tag;
 
-// The offset behind blanks of any kind.
+// The offset after blanks of any kind.
 fn blank_end(part: &[u8], base: usize, c: usize) -> usize
     requires { ⌜ ((base ≤ c) × (c ≤ base + length (now part))) × (base + length (now part) ≤ u64-max) ⌝ }
     ensures { λ r. ⌜ BlankAt r base (now (part .entry)) c ⌝ }
@@ -27,7 +27,7 @@ fn blank_end(part: &[u8], base: usize, c: usize) -> usize
     blank_run(part, base, c, &mut doc)
 }
 
-// The offset behind blanks: `whitespace0` without the doc comment, as a plain number and in place.
+// The offset after blanks: `whitespace0` without the doc comment, as a plain number and in place.
 pub fn blank_at(part: &[u8], base: usize, c: usize) -> usize
     requires { ⌜ ((base ≤ c) × (c ≤ base + length (now part))) × (base + length (now part) ≤ u64-max) ⌝ }
     ensures { λ r. ⌜ BlankAt r base (now (part .entry)) c ⌝ }
@@ -58,19 +58,19 @@ pub fn gap_at(part: &[u8], base: usize, c: usize) -> Step
 }
 
 // Blanks and a byte.
-pub fn tag_behind(part: &[u8], base: usize, c: usize, t: u8) -> Step
+pub fn tag_after(part: &[u8], base: usize, c: usize, t: u8) -> Step
     requires { ⌜ ((base ≤ c) × (c ≤ base + length (now part))) × (base + length (now part) ≤ u64-max) ⌝ }
-    ensures { λ r. ⌜ SkipsAt (behind-blanks (tag t)) r base (now (part .entry)) c ⌝ }
+    ensures { λ r. ⌜ SkipsAt (after-blanks (tag t)) r base (now (part .entry)) c ⌝ }
 {
     let n = blank_at(part, base, c);
     tag(rest_at(part, base, n), n, t)
 }
 
 // Blanks and a keyword.
-pub fn keyword_behind(part: &[u8], base: usize, c: usize, key: &[u8]) -> Step
+pub fn keyword_after(part: &[u8], base: usize, c: usize, key: &[u8]) -> Step
     requires { ⌜ ((base ≤ c) × (c ≤ base + length (now part))) × (base + length (now part) ≤ u64-max) ⌝ }
     requires { ⌜ isKey (now key) ≡ true ⌝ }
-    ensures { λ r. ⌜ SkipsAt (behind-blanks (keyword (now (key .entry)))) r base (now (part .entry)) c ⌝ }
+    ensures { λ r. ⌜ SkipsAt (after-blanks (keyword (now (key .entry)))) r base (now (part .entry)) c ⌝ }
 {
     let part = &part[..];
     let n = blank_at(part, base, c);
@@ -82,9 +82,9 @@ pub fn keyword_behind(part: &[u8], base: usize, c: usize, key: &[u8]) -> Step
 }
 
 // Blanks and an integer.
-pub fn integer_behind(part: &[u8], base: usize, c: usize) -> Number
+pub fn integer_after(part: &[u8], base: usize, c: usize) -> Number
     requires { ⌜ ((base ≤ c) × (c ≤ base + length (now part))) × (base + length (now part) ≤ u64-max) ⌝ }
-    ensures { λ r. ⌜ NumberAt (behind-blanks positive-integer) r base (now (part .entry)) c ⌝ }
+    ensures { λ r. ⌜ NumberAt (after-blanks positive-integer) r base (now (part .entry)) c ⌝ }
 {
     let part = &part[..];
     let n = blank_at(part, base, c);

@@ -11,14 +11,14 @@ use crate::answers::Step;
 use crate::answers::stop_by;
 use crate::parts::rest_at;
 
-// How a byte behind a backslash counts.
+// How a byte after a backslash counts.
 enum Escaped {
     Allowed,
     Forbidden,
     Panics,
 }
 
-// A piece of a string: the offset behind it, or the end of the string.
+// A piece of a string: the offset after it, or the end of the string.
 enum Piece {
     More(usize),
     Last(Step),

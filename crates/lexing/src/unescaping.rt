@@ -19,7 +19,7 @@ enum Meaning {
     Nothing,
 }
 
-// What stands at an offset: one byte or an escape, with the byte that comes out and the offset after it; or a fault.
+// What is at an offset: one byte or an escape, with the byte that comes out and the offset after it; or a fault.
 enum Piece {
     Makes(u8, usize),
     Wrong,

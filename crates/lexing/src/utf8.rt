@@ -95,7 +95,7 @@ fn or_64(part: &[u8], i: usize) -> u8
     or_16(part, i) | or_16(part, i + 16) | or_16(part, i + 32) | or_16(part, i + 48)
 }
 
-// How many bytes a turn passes at an ASCII byte: that byte and the 64 behind it where all are ASCII, as in most texts; else those before the first
+// How many bytes a turn passes at an ASCII byte: that byte and the 64 after it where all are ASCII, as in most texts; else those before the first
 // of eight that is not ASCII. Where fewer than eight are left it passes one.
 fn ascii_step(part: &[u8], i: usize) -> usize
     requires { ⌜ (i < length (now part)) × (getD (now part) i 0 < 0x80) ⌝ }

@@ -29,13 +29,13 @@ pub const COMMAND_SET: u8 = 3;
 
 pub const ATTRIBUTE_SET: u8 = 4;
 
-// The flags of the words that are written in lower case, the first keyword's bit the highest, and the offset behind the last word.
+// The flags of the words that are written in lower case, the first keyword's bit the highest, and the offset after the last word.
 pub struct WordSet {
     pub flags: u8,
     pub next: usize,
 }
 
-// Where the next word of a set may stand.
+// Where the next word of a set may be.
 enum Start {
     Here(usize),
     Nowhere,
@@ -63,7 +63,7 @@ fn keyword_count(set: u8) -> usize
     0
 }
 
-// The offset behind a keyword, or base where it does not stand there: a plain number.
+// The offset after a keyword, or base where it is not there: a plain number.
 fn keyword_end(part: &[u8], base: usize, key: &[u8]) -> usize
     requires { ⌜ base + length (now part) ≤ u64-max ⌝ }
     requires { ⌜ isKey (now key) ≡ true ⌝ }
@@ -213,7 +213,7 @@ pub fn is_lower(part: &[u8], n: usize) -> bool
     true
 }
 
-// The bit of a keyword that others stand behind.
+// The bit of a keyword that so many others follow.
 fn bit_before(others: usize) -> u8
     requires { ⌜ others < 4 ⌝ }
     ensures { λ r. ⌜ r ≡ 2 ^ others ⌝ }
@@ -262,7 +262,7 @@ fn word_start(part: &[u8], base: usize, first: bool) -> Start
     Start::Here(next)
 }
 
-// The words of a set. It ends at the first word that isn't in it: behind the last keyword of the walk, or before the walk where no keyword begins like
+// The words of a set. It ends at the first word that isn't in it: after the last keyword of the walk, or before the walk where no keyword begins like
 // the word.
 fn words_of_set(part: &[u8], base: usize, set: u8) -> WordSet
     requires { ⌜ base + length (now part) ≤ u64-max ⌝ }
@@ -322,7 +322,7 @@ fn eight_flag(set: u8, w: u64) -> u8
     0
 }
 
-// The words of a set, where the first byte may begin one. Most such sets are one keyword of eight bytes in lower case, with a space behind it and
+// The words of a set, where the first byte may begin one. Most such sets are one keyword of eight bytes in lower case, with a space after it and
 // then a byte that begins neither a blank nor a keyword: ten bytes, a short front, tell that without the loop over words.
 fn words_by_front(part: &[u8], base: usize, set: u8) -> WordSet
     requires { ⌜ base + length (now part) ≤ u64-max ⌝ }
@@ -352,8 +352,7 @@ fn words_by_front(part: &[u8], base: usize, set: u8) -> WordSet
     }
 }
 
-// A set by its number. Most sets have no word, which the
-// first byte tells: a short front.
+// A set by its number. Most sets have no word, which the first byte tells: a short front.
 pub fn keywords_set(part: &[u8], base: usize, set: u8) -> WordSet
     requires { ⌜ base + length (now part) ≤ u64-max ⌝ }
     ensures { λ r. ⌜ WordSetTo r set base (now (part .entry)) ⌝ }

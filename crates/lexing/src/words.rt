@@ -16,7 +16,7 @@ use crate::eights::eight_at;
 use crate::eights::non_letters;
 use crate::parts::peek;
 
-// The place behind the letters from a place on, which are passed eight at a time; bytes of a word may follow.
+// The place after the letters from a place on, which are passed eight at a time; bytes of a word may follow.
 fn letters(part: &[u8], from: usize) -> usize
     requires { ⌜ from ≤ length (now part) ⌝ }
     ensures { λ r. ⌜ (r ≤ length (now (part .entry))) × (wordEnd (now (part .entry)) from ≡ wordEnd (now (part .entry)) r) ⌝ }
@@ -32,7 +32,7 @@ fn letters(part: &[u8], from: usize) -> usize
     i
 }
 
-// The place behind the bytes of a word from a place on, which are passed one by one.
+// The place after the bytes of a word from a place on, which are passed one by one.
 fn word_tail(part: &[u8], n: usize) -> usize
     requires { ⌜ n ≤ length (now part) ⌝ }
     ensures { λ r. ⌜ r ≡ wordEnd (now (part .entry)) n ⌝ }
@@ -122,7 +122,7 @@ fn is_key_byte(x: u8, k: u8) -> bool
     (x | 0x20) == k
 }
 
-// How many of a keyword's bytes stand at the front as they are, where eight are compared at once: eight or none.
+// How many of a keyword's bytes are at the front as they are, where eight are compared at once: eight or none.
 fn eight_alike(part: &[u8], key: &[u8]) -> usize
     requires { ⌜ length (now key) ≤ length (now part) ⌝ }
     requires { ⌜ isKey (now key) ≡ true ⌝ }
@@ -137,7 +137,7 @@ fn eight_alike(part: &[u8], key: &[u8]) -> usize
     0
 }
 
-// Whether a keyword's bytes stand at the front. Most are written in lower case.
+// Whether a keyword's bytes are at the front. Most are written in lower case.
 fn has_key(part: &[u8], key: &[u8]) -> bool
     requires { ⌜ isKey (now key) ≡ true ⌝ }
     ensures { λ r. ⌜ HasKey r (now (key .entry)) (now (part .entry)) ⌝ }
@@ -156,7 +156,7 @@ fn has_key(part: &[u8], key: &[u8]) -> bool
 }
 
 // A whole word that is the keyword: its bytes are compared first, since most words differ in the first one. A keyword begins like a word, so
-// that where it stands and no byte of a word follows, it is the word.
+// that where it is and no byte of a word follows, it is the word.
 pub fn keyword(part: &[u8], base: usize, key: &[u8]) -> Step
     requires { ⌜ base + length (now part) ≤ u64-max ⌝ }
     requires { ⌜ isKey (now key) ≡ true ⌝ }

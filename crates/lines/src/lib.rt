@@ -15,7 +15,7 @@ pub fn front(text: &[u8], n: usize) -> &[u8]
     text
 }
 
-// How many bytes stand before the next line feed.
+// How many bytes are before the next line feed.
 pub fn line_length(part: &[u8]) -> usize
     ensures { λ r. ⌜ r ≡ length (line (now (part .entry))) ⌝ }
     ensures { λ r. ⌜ r ≤ length (now (part .entry)) ⌝ }

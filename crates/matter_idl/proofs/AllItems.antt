@@ -1,4 +1,4 @@
--- All items of a text are `many0 item`, behind which the text has ended, or else the next item is lost.
+-- All items of a text are `many0 item`, after which the text has ended, or else the next item is lost.
 use mathlib.Core.Path.{_≡_, refl, sym, ap, _∙_}
 use mathlib.Core.List.{List, [], _∷_}
 use Prim.Native.Nat.{ℕ, zero, suc, _-_, _≤_, _<_}
@@ -25,19 +25,19 @@ use Rattle.items.proofs.Tries.{maturity-words, mapped-fail, maturity-elsewhere,
 use Rattle.items.proofs.items.Laws.{item-is}
 use Rattle.matter_idl.specs.reading.{unless-ended, itemsWithin, all-items}
 
--- At the end of a text stands no declaration and no item.
-behind-maturity : {A B : Type 0} (f : ℕ → Parser A) (g : A → B) (b : ℕ) → f 0 b [] ≡ fail b → mapped (after-maturity f) g b [] ≡ fail b
+-- At the end of a text there is no declaration and no item.
+after-maturity-fails : {A B : Type 0} (f : ℕ → Parser A) (g : A → B) (b : ℕ) → f 0 b [] ≡ fail b → mapped (after-maturity f) g b [] ≡ fail b
 unfolding after-maturity
-behind-maturity f g b e = mapped-fail _ _ (bind-ok _ _ (maturity-elsewhere b [] (no-keywords maturity-words b)) ∙ (then-ok _ _ (no-blank b) ∙ e))
+after-maturity-fails f g b e = mapped-fail _ _ (bind-ok _ _ (maturity-elsewhere b [] (no-keywords maturity-words b)) ∙ (then-ok _ _ (no-blank b) ∙ e))
 
 pub no-declaration : (d : Doc) (b : ℕ) → declaration d b [] ≡ fail b
 unfolding declaration parse-enum-after-doc-maturity parse-bitmap-after-doc-maturity
 no-declaration d b =
-    or-both _ _ (behind-maturity _ _ b (cluster-elsewhere b [] d 0 (no-keywords cluster-starts b))) (
+    or-both _ _ (after-maturity-fails _ _ b (cluster-elsewhere b [] d 0 (no-keywords cluster-starts b))) (
     or-both _ _ (mapped-fail _ _ (endpoint-elsewhere b [] (no-blank b) (no-keyword _ b))) (
-    or-both _ _ (behind-maturity _ _ b (choice-elsewhere b [] d 0 _ (no-keyword _ b) (no-keyword _ b))) (
-    or-both _ _ (behind-maturity _ _ b (choice-elsewhere b [] d 0 _ (no-keyword _ b) (no-keyword _ b)))
-    (behind-maturity _ _ b (struct-elsewhere b [] d 0 (no-blank b) (no-keyword _ b) (no-keywords struct-starts b)))
+    or-both _ _ (after-maturity-fails _ _ b (choice-elsewhere b [] d 0 _ (no-keyword _ b) (no-keyword _ b))) (
+    or-both _ _ (after-maturity-fails _ _ b (choice-elsewhere b [] d 0 _ (no-keyword _ b) (no-keyword _ b)))
+    (after-maturity-fails _ _ b (struct-elsewhere b [] d 0 (no-blank b) (no-keyword _ b) (no-keywords struct-starts b)))
     )))
 
 no-item : (b : ℕ) → item b [] ≡ fail b
@@ -117,7 +117,7 @@ all-is : (b : ℕ) (u : List ℕ) → all-items b u ≡ finished (many0 item b u
 unfolding all-items
 all-is b u = all-within (length u) b u (omega arith)
 
--- an item, and then all items behind it
+-- an item, and then all items after it
 pub all-more : (b : ℕ) (u : List ℕ) (i : Item) (c : ℕ) (r : List ℕ) → item b u ≡ ok i c r → all-items b u ≡ prepend i (all-items c r)
 all-more b u i c r e = all-is b u ∙ (ap finished (many0-more item item-consumes b u i c r e) ∙ (sym (prepend-finished i (many0 item c r)) ∙ ap (prepend i) (sym (all-is c r))))
 
@@ -138,7 +138,7 @@ finished-ok (stop n p) e = let z : _≡_ {A = ℕ} 0 1 = cc in absurd (omega ari
 pub accepted-many : (b : ℕ) (u : List ℕ) {l : List Item} {c : ℕ} {r : List ℕ} → ok l c r ≡ all-items b u → (ok l c r ≡ many0 item b u) × (r ≡ [])
 accepted-many b u e = finished-ok (many0 item b u) (e ∙ all-is b u)
 
--- A loop of the code that stands at c, where the text has ended or an item is lost.
+-- A loop of the code that is at c, where the text has ended or an item is lost.
 finished-end : (l : List Item) (c : ℕ) (r : List ℕ) → r ≡ [] → ok l c r ≡ finished (ok l c r)
 unfolding finished
 finished-end l c r e = rw e refl

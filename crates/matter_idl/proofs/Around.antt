@@ -29,7 +29,7 @@ maybe-as Q R f none h = tt
 maybe-as Q R f (some a) h = f a h
 
 -- from t, which starts at s, to t', which starts no later, where names of the one are names of the other
-module _ (s : ℕ) (t : List ℕ) (e s' : ℕ) (t' : List ℕ) (e' : ℕ) (before : s' ≤ s) (behind : e ≤ e') (word : (w : Word) → WordTrue s t e w → WordTrue s' t' e' w) where
+module _ (s : ℕ) (t : List ℕ) (e s' : ℕ) (t' : List ℕ) (e' : ℕ) (before : s' ≤ s) (following : e ≤ e') (word : (w : Word) → WordTrue s t e w → WordTrue s' t' e' w) where
   doc : (d : Doc) → DocTrue s t e d → DocTrue s' t' e' d
   doc no-doc h = tt
   doc (doc-at o n) h = (omega (arith, h .0), omega (arith, h .1))

@@ -72,15 +72,15 @@ cuts-from p (x ∷ u) = go (cut-after p x) refl (λ q. cuts-from q u)
     go false e ih = rw (e, cut-from) (cuts-longer p x (cut-from (eqb x line-feed) u) (ih (eqb x line-feed)))
 
 -- as the laws of locality say it
-cut-behind : (x : ℕ) (u : List ℕ) → CutFrom (eqb x line-feed) u → Cut (x ∷ u)
-cut-behind x [] c = absurd c
-cut-behind x (y ∷ []) c = (eq-of x line-feed (c .0), c .1)
-cut-behind x (y ∷ z ∷ u) c = cut-behind y (z ∷ u) c
+cut-later : (x : ℕ) (u : List ℕ) → CutFrom (eqb x line-feed) u → Cut (x ∷ u)
+cut-later x [] c = absurd c
+cut-later x (y ∷ []) c = (eq-of x line-feed (c .0), c .1)
+cut-later x (y ∷ z ∷ u) c = cut-later y (z ∷ u) c
 
 cut-of : (s : List ℕ) → CutFrom false s → Cut s
 cut-of [] c = absurd c
 cut-of (x ∷ []) c = absurd (false≢true (c .0))
-cut-of (x ∷ y ∷ u) c = cut-behind x (y ∷ u) c
+cut-of (x ∷ y ∷ u) c = cut-later x (y ∷ u) c
 
 abbrev pub Cuts : List (List ℕ) → Type 0
 Cuts [] = Unit {0}
@@ -100,7 +100,7 @@ pub sections-cut : (u : List ℕ) → Cuts (sections u)
 unfolding sections
 sections-cut u = cuts-of (cut-from false u) (cuts-from false u)
 
--- A text that goes on behind sections: they stay, and what follows is cut as it is alone.
+-- A text that goes on after sections: they stay, and what follows is cut as it is alone.
 abbrev Some : List (List ℕ) → Type 0
 Some [] = ⊥
 Some (s ∷ ss) = Unit {0}
@@ -131,20 +131,20 @@ first p (c ∷ u) x ss h e = go (cut-after p c) refl (λ x. first (eqb c line-fe
         rw q (record { goes-on = λ t. rw (d, cut-from) refl; alone = ap (λ l. cut-from false (joined l)) (sym z) ∙ (ap (cut-from false) (joined-cut false u) ∙ z) })
     go false d ih = first-longer p c x ss d h (cut-from (eqb c line-feed) u) (rw (d, cut-from) at e) ih
 
-some-behind : (before : List (List ℕ)) (s : List ℕ) (behind : List (List ℕ)) → Some (before ++ (s ∷ behind))
-some-behind [] s behind = tt
-some-behind (x ∷ before) s behind = tt
+some-after : (before : List (List ℕ)) (s : List ℕ) (following : List (List ℕ)) → Some (before ++ (s ∷ following))
+some-after [] s following = tt
+some-after (x ∷ before) s following = tt
 
-pub record Continues (before : List (List ℕ)) (s : List ℕ) (behind : List (List ℕ)) : Type 0 where
+pub record Continues (before : List (List ℕ)) (s : List ℕ) (following : List (List ℕ)) : Type 0 where
   pub goes-on : (t : List ℕ) → sections (joined before ++ t) ≡ before ++ sections t
-  pub alone : sections (joined (s ∷ behind)) ≡ s ∷ behind
+  pub alone : sections (joined (s ∷ following)) ≡ s ∷ following
 
-pub continues : (u : List ℕ) (before : List (List ℕ)) (s : List ℕ) (behind : List (List ℕ)) → sections u ≡ before ++ (s ∷ behind) → Continues before s behind
+pub continues : (u : List ℕ) (before : List (List ℕ)) (s : List ℕ) (following : List (List ℕ)) → sections u ≡ before ++ (s ∷ following) → Continues before s following
 unfolding sections joined
-continues u [] s behind e = record { goes-on = λ t. refl; alone = ap (λ l. cut-from false (joined l)) (sym e) ∙ (ap (cut-from false) (joined-cut false u) ∙ e) }
-continues u (x ∷ before) s behind e =
-    let f = first false u x (before ++ (s ∷ behind)) (some-behind before s behind) e in
-    let c = continues (joined (before ++ (s ∷ behind))) before s behind (f .alone) in
+continues u [] s following e = record { goes-on = λ t. refl; alone = ap (λ l. cut-from false (joined l)) (sym e) ∙ (ap (cut-from false) (joined-cut false u) ∙ e) }
+continues u (x ∷ before) s following e =
+    let f = first false u x (before ++ (s ∷ following)) (some-after before s following) e in
+    let c = continues (joined (before ++ (s ∷ following))) before s following (f .alone) in
     record { goes-on = λ t. ap (cut-from false) (append-assoc x (joined before) t) ∙ (f .goes-on (joined before ++ t) ∙ ap (λ l. x ∷ l) (c .goes-on t)); alone = c .alone }
 
 -- A cut takes two bytes, so a text of n bytes has at most n / 2 + 1 sections.
@@ -164,11 +164,11 @@ unfolding cut-from bit
 cuts-count p [] = omega arith
 cuts-count p (x ∷ u) = go (cut-after p x) refl (λ q. cuts-count q u)
   where
-    behind-feed : cut-after p x ≡ true → bit p ≡ 1
-    behind-feed e = ap bit (and-left p (eqb x closing-brace) (unfold cut-after in e))
+    after-feed : cut-after p x ≡ true → bit p ≡ 1
+    after-feed e = ap bit (and-left p (eqb x closing-brace) (unfold cut-after in e))
 
     go : (t : Bool) → cut-after p x ≡ t → ((q : Bool) → 2 * length (cut-from q u) ≤ 2 + (bit q + length u)) → 2 * length (cut-from p (x ∷ u)) ≤ 2 + (bit p + length (x ∷ u))
-    go true e ih = rw (e, cut-from) (omega (arith, behind-feed e, ih false))
+    go true e ih = rw (e, cut-from) (omega (arith, after-feed e, ih false))
     go false e ih = rw (e, cut-from) (first-count x (cut-from (eqb x line-feed) u) (omega arith) (omega (arith, ih (eqb x line-feed), bit-small (eqb x line-feed))))
 
 pub sections-count : (u : List ℕ) → 2 * length (sections u) ≤ 2 + length u

@@ -43,7 +43,7 @@ nothing-of : (s : List ℕ) (k p : ℕ) → verdict s ≡ turned-down k p → (o
 unfolding own-records fed each items-of hoisted
 nothing-of s k p e = rw e (refl, refl)
 
--- the entries of the sections where they stand
+-- the entries of the sections where they are
 entries-now : (u : List ℕ) → length u ≤ text-limit → report-entries 0 (sections u) ≡ entries-alone 0 (sections u)
 entries-now u h = entries-as-alone 0 (sections u) (each-short (sections u) (rw (sections-joined u) h))
 
@@ -66,18 +66,18 @@ module _ (L : Layout) (R : ReportLayout) (u : List ℕ) (h : length u ≤ text-l
   unfolding for-catalogue
   same-bytes n m k e = whole n (k .catalogue) e ∙ sym (ap for-catalogue (accepts n m k))
 
-replacing : (L : Layout) (R : ReportLayout) {u v : List ℕ} {before : List (List ℕ)} {s : List ℕ} {behind : List (List ℕ)} {r : List ℕ} {middle : List (List ℕ)} → Replacement u v before s behind r middle → Replaced L R u v before s behind r middle
+replacing : (L : Layout) (R : ReportLayout) {u v : List ℕ} {before : List (List ℕ)} {s : List ℕ} {following : List (List ℕ)} {r : List ℕ} {middle : List (List ℕ)} → Replacement u v before s following r middle → Replaced L R u v before s following r middle
 unfolding saved-own
-replacing L R {u} {v} {before} {s} {behind} {r} {middle} q =
+replacing L R {u} {v} {before} {s} {following} {r} {middle} q =
     record {
       accepts = λ n m k. accepts L R v (q .short) n m k;
       old-report = old-along q entries-alone entries-along;
       new-report = new-along q entries-alone entries-along;
-      numbers = numbers-same _ _ behind;
-      report = moved-by moved-entry (λ b. entries-alone b behind) (λ d b. entries-moved d b behind) (extent-of before) (length s) (length r);
+      numbers = numbers-same _ _ following;
+      report = moved-by moved-entry (λ b. entries-alone b following) (λ d b. entries-moved d b following) (extent-of before) (length s) (length r);
       old-records = handed-own (sections u) ∙ old-along q saved-own saved-along;
       new-records = handed-own (sections v) ∙ new-along q saved-own saved-along;
-      records = moved-by moved (λ b. saved-own b behind) (λ d b. saved-moved d b behind) (extent-of before) (length s) (length r);
+      records = moved-by moved (λ b. saved-own b following) (λ d b. saved-moved d b following) (extent-of before) (length s) (length r);
     }
 
 pub demand-3 : (L : Layout) (R : ReportLayout) → Demand3Over L R
@@ -93,7 +93,7 @@ demand-3 L R u n m h k =
       ids = handed-ids u h;
       whole = whole L R u h n (k .catalogue);
       same-bytes = same-bytes L R u h n m k;
-      replaced = λ v before s behind r middle q. replacing L R q;
+      replaced = λ v before s following r middle q. replacing L R q;
     }
 
 -- Document 01's layouts: a report has 8 bytes a section.

@@ -61,39 +61,39 @@ module _ (u : List ℕ) (n m : ℕ) (short : length u ≤ text-limit) (catalogue
   same-bytes = demand .same-bytes
 
   -- "Any one section of a text is replaced by any bytes so that cutting the new text finds all other sections unchanged."
-  module _ (v : List ℕ) (before : List (List ℕ)) (s : List ℕ) (behind : List (List ℕ)) (r : List ℕ) (middle : List (List ℕ)) (old : sections u ≡ before ++ (s ∷ behind)) (new : v ≡ joined before ++ (r ++ joined behind)) (unchanged : sections v ≡ before ++ (middle ++ behind)) (within : length v ≤ text-limit) where
-    replaced : Replaced layout report-layout u v before s behind r middle
-    replaced = demand .replaced v before s behind r middle (record { old = old; new = new; unchanged = unchanged; short = within })
+  module _ (v : List ℕ) (before : List (List ℕ)) (s : List ℕ) (following : List (List ℕ)) (r : List ℕ) (middle : List (List ℕ)) (old : sections u ≡ before ++ (s ∷ following)) (new : v ≡ joined before ++ (r ++ joined following)) (unchanged : sections v ≡ before ++ (middle ++ following)) (within : length v ≤ text-limit) where
+    replaced : Replaced layout report-layout u v before s following r middle
+    replaced = demand .replaced v before s following r middle (record { old = old; new = new; unchanged = unchanged; short = within })
 
     replaced-accepts : (n' m' : ℕ) → length (catalogue-for layout v) ≤ n' → length (report-for report-layout v) ≤ m' → survey layout report-layout v n' m' ≡ surveyed (catalogue-for layout v) (report-for report-layout v)
     replaced-accepts n' m' c e = replaced .accepts n' m' (record { catalogue = c; report = e })
 
-    old-report : entries-alone 0 (sections u) ≡ entries-alone 0 before ++ (entries-alone (extent-of before) (s ∷ []) ++ entries-alone (extent-of before + length s) behind)
+    old-report : entries-alone 0 (sections u) ≡ entries-alone 0 before ++ (entries-alone (extent-of before) (s ∷ []) ++ entries-alone (extent-of before + length s) following)
     old-report = replaced .old-report
 
-    new-report : entries-alone 0 (sections v) ≡ entries-alone 0 before ++ (entries-alone (extent-of before) middle ++ entries-alone (extent-of before + length r) behind)
+    new-report : entries-alone 0 (sections v) ≡ entries-alone 0 before ++ (entries-alone (extent-of before) middle ++ entries-alone (extent-of before + length r) following)
     new-report = replaced .new-report
 
     -- "Then each of those is accepted, or refused by the same number, as before"
-    numbers : map number-of (entries-alone (extent-of before + length r) behind) ≡ map number-of (entries-alone (extent-of before + length s) behind)
+    numbers : map number-of (entries-alone (extent-of before + length r) following) ≡ map number-of (entries-alone (extent-of before + length s) following)
     numbers = replaced .numbers
 
     -- "offsets behind the change move by the change in length, in catalogue and report"
-    report-grown : (d : ℕ) → length r ≡ d + length s → entries-alone (extent-of before + length r) behind ≡ map (moved-entry d) (entries-alone (extent-of before + length s) behind)
+    report-grown : (d : ℕ) → length r ≡ d + length s → entries-alone (extent-of before + length r) following ≡ map (moved-entry d) (entries-alone (extent-of before + length s) following)
     report-grown = replaced .report .grown
 
-    report-shrunk : (d : ℕ) → length s ≡ d + length r → entries-alone (extent-of before + length s) behind ≡ map (moved-entry d) (entries-alone (extent-of before + length r) behind)
+    report-shrunk : (d : ℕ) → length s ≡ d + length r → entries-alone (extent-of before + length s) following ≡ map (moved-entry d) (entries-alone (extent-of before + length r) following)
     report-shrunk = replaced .report .shrunk
 
     -- "the survey hands out its records as before, save place marks"
-    old-records : save-places (handed-out (sections u)) ≡ save-places (own-moved 0 before) ++ (save-places (own-moved (extent-of before) (s ∷ [])) ++ save-places (own-moved (extent-of before + length s) behind))
+    old-records : save-places (handed-out (sections u)) ≡ save-places (own-moved 0 before) ++ (save-places (own-moved (extent-of before) (s ∷ [])) ++ save-places (own-moved (extent-of before + length s) following))
     old-records = replaced .old-records
 
-    new-records : save-places (handed-out (sections v)) ≡ save-places (own-moved 0 before) ++ (save-places (own-moved (extent-of before) middle) ++ save-places (own-moved (extent-of before + length r) behind))
+    new-records : save-places (handed-out (sections v)) ≡ save-places (own-moved 0 before) ++ (save-places (own-moved (extent-of before) middle) ++ save-places (own-moved (extent-of before + length r) following))
     new-records = replaced .new-records
 
-    records-grown : (d : ℕ) → length r ≡ d + length s → save-places (own-moved (extent-of before + length r) behind) ≡ map (moved d) (save-places (own-moved (extent-of before + length s) behind))
+    records-grown : (d : ℕ) → length r ≡ d + length s → save-places (own-moved (extent-of before + length r) following) ≡ map (moved d) (save-places (own-moved (extent-of before + length s) following))
     records-grown = replaced .records .grown
 
-    records-shrunk : (d : ℕ) → length s ≡ d + length r → save-places (own-moved (extent-of before + length s) behind) ≡ map (moved d) (save-places (own-moved (extent-of before + length r) behind))
+    records-shrunk : (d : ℕ) → length s ≡ d + length r → save-places (own-moved (extent-of before + length s) following) ≡ map (moved d) (save-places (own-moved (extent-of before + length r) following))
     records-shrunk = replaced .records .shrunk

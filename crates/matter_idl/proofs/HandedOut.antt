@@ -50,7 +50,7 @@ alike-own t b (s ∷ ss) =
     rw (hoisted-append t (map (shiftItem b) l) (moved-items (b + length s) ss), hoisted-moved b t l)
     (alike-append (alike-moved b (alike-tables t no-ids l)) (alike-own (after-items t (map (shiftItem b) l)) (b + length s) ss))
 
--- the place marks do not depend on where the sections stand
+-- the place marks do not depend on where the sections are
 places-fed : (t : Tables) (b : ℕ) (ss : List (List ℕ)) → map place-of (hoisted t (moved-items b ss)) ≡ map place-of (hoisted t (fed ss))
 unfolding moved-items fed each hoisted
 places-fed t b [] = refl

@@ -1,4 +1,4 @@
--- Items that are read one behind the other. A text that ends at a cut and is accepted is read so whatever stands behind it.
+-- Items that are read one after the other. A text that ends at a cut and is accepted is read so whatever is after it.
 use Prim.Native.Nat.{ℕ, zero, suc, _+_, _≤_, _<_}
 use mathlib.Core.Path.{_≡_, refl, sym, _∙_, ap}
 use mathlib.Core.List.{List, [], _∷_, _++_}
@@ -63,7 +63,7 @@ pub reads-ends : {b e : ℕ} {u v : List ℕ} {l : List Item} → Reads e v b u 
 reads-ends none = refl
 reads-ends (more {b = b} {u = u} q k) = let p = rw q at (item-local .on-chain .chain 0 b u) in reads-ends k ∙ p .1
 
--- items and then those behind them
+-- items and then those after them
 before-prepend : (i : Item) (l : List Item) (x : Reply (List Item)) → prepend i (before l x) ≡ before (i ∷ l) x
 unfolding prepend
 before-prepend i l (ok k c r) = refl
@@ -97,7 +97,7 @@ cut-rest : (r : List ℕ) {u : List ℕ} → Suf r u → Cut u → CutOrEmpty r
 cut-rest [] f c = tt
 cut-rest (y ∷ r) f c = suf-cut y r f c
 
--- so it is read whatever stands behind it
+-- so it is read whatever is after it
 continued : {b e : ℕ} {u : List ℕ} {l : List Item} (s : List ℕ) → Reads e [] b u l → Clean 0 u → CutOrEmpty u → Reads e s b (u ++ s) l
 unfolding ext
 continued s none c d = none
@@ -113,7 +113,7 @@ pub reads-continued : {b e : ℕ} {u : List ℕ} {l : List Item} (s : List ℕ) 
 reads-continued {u = []} s d k = absurd d
 reads-continued {u = x ∷ u} s d k = continued s k (reads-clean k) d
 
--- Two texts, the first ended by a cut and accepted: reading them together is reading them one behind the other.
+-- Two texts, the first ended by a cut and accepted: reading them together is reading them one after the other.
 pub joined-reading : (b : ℕ) (u s : List ℕ) (l : List Item) (c : ℕ) (r : List ℕ) → Cut u → all-items b u ≡ ok l c r → all-items b (u ++ s) ≡ before l (all-items (b + length u) s)
 joined-reading b u s l c r d e =
     let k = accepted-reads b u l c r e in

@@ -10,9 +10,9 @@ pub mod Places
 pub mod Around
 -- cutting a text into sections
 pub mod Cutting
--- texts one behind the other
+-- texts one after the other
 pub mod Join
--- a section alone and where it stands
+-- a section alone and where it is
 pub mod SectionsAlone
 -- a text and its sections
 pub mod Whole

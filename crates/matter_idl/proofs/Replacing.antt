@@ -39,7 +39,7 @@ module _ {A : Type 0} (f : ℕ → List (List ℕ) → List A) (a : Along f) whe
       ∙ (sym (append-assoc (f b (s ∷ [])) (f (b + length s) xs) (f (b + extent-of (s ∷ xs)) ys))
       ∙ ap (λ l. l ++ f (b + extent-of (s ∷ xs)) ys) (sym (a .more b s xs))))
 
-  -- in front, a part of n bytes, and behind it
+  -- in front, a part of n bytes, and after it
   along-three : (xs ys zs : List (List ℕ)) (n : ℕ) → extent-of ys ≡ n → f 0 (xs ++ (ys ++ zs)) ≡ f 0 xs ++ (f (extent-of xs) ys ++ f (extent-of xs + n) zs)
   along-three xs ys zs n e =
       let z : 0 + extent-of xs ≡ extent-of xs = omega arith in
@@ -77,7 +77,7 @@ numbers-moved d (spoilt b n k p ∷ l) = rw (numbers-moved d l)
 numbers-alone : (b : ℕ) (ss : List (List ℕ)) → map number-of (entries-alone b ss) ≡ map number-of (entries-alone 0 ss)
 numbers-alone b ss = let z : b + 0 ≡ b = omega arith in ap (map number-of) (rw z at (entries-moved b 0 ss)) ∙ numbers-moved b (entries-alone 0 ss)
 
--- wherever the sections stand
+-- wherever the sections are
 pub numbers-same : (b c : ℕ) (ss : List (List ℕ)) → map number-of (entries-alone b ss) ≡ map number-of (entries-alone c ss)
 numbers-same b c ss = numbers-alone b ss ∙ sym (numbers-alone c ss)
 
@@ -122,13 +122,13 @@ pub saved-moved : (d b : ℕ) (ss : List (List ℕ)) → saved-own (d + b) ss �
 unfolding saved-own
 saved-moved d b ss = ap save-places (own-moved-on d b ss) ∙ save-moved d (own-moved b ss)
 
-module _ {u v : List ℕ} {before : List (List ℕ)} {s : List ℕ} {behind : List (List ℕ)} {r : List ℕ} {middle : List (List ℕ)} (R : Replacement u v before s behind r middle) where
+module _ {u v : List ℕ} {before : List (List ℕ)} {s : List ℕ} {following : List (List ℕ)} {r : List ℕ} {middle : List (List ℕ)} (R : Replacement u v before s following r middle) where
   -- the sections that cutting finds in the new bytes are those bytes
   middle-joined : joined middle ≡ r
   middle-joined =
-      let e : joined before ++ (joined middle ++ joined behind) ≡ joined before ++ (r ++ joined behind) =
-      ap (λ l. joined before ++ l) (sym (joined-append middle behind)) ∙ (sym (joined-append before (middle ++ behind)) ∙ (ap joined (sym (R .unchanged)) ∙ (sections-joined v ∙ R .new))) in
-      append-cancel-right (joined middle) r (joined behind) (append-cancel-left (joined before) (joined middle ++ joined behind) (r ++ joined behind) e)
+      let e : joined before ++ (joined middle ++ joined following) ≡ joined before ++ (r ++ joined following) =
+      ap (λ l. joined before ++ l) (sym (joined-append middle following)) ∙ (sym (joined-append before (middle ++ following)) ∙ (ap joined (sym (R .unchanged)) ∙ (sections-joined v ∙ R .new))) in
+      append-cancel-right (joined middle) r (joined following) (append-cancel-left (joined before) (joined middle ++ joined following) (r ++ joined following) e)
 
   middle-extent : extent-of middle ≡ length r
   unfolding extent-of
@@ -139,11 +139,11 @@ module _ {u v : List ℕ} {before : List (List ℕ)} {s : List ℕ} {behind : Li
   one-extent = ap length (append-nil s)
 
   module _ {A : Type 0} (f : ℕ → List (List ℕ) → List A) (a : Along f) where
-    pub old-along : f 0 (sections u) ≡ f 0 before ++ (f (extent-of before) (s ∷ []) ++ f (extent-of before + length s) behind)
-    old-along = ap (f 0) (R .old) ∙ along-three f a before (s ∷ []) behind (length s) one-extent
+    pub old-along : f 0 (sections u) ≡ f 0 before ++ (f (extent-of before) (s ∷ []) ++ f (extent-of before + length s) following)
+    old-along = ap (f 0) (R .old) ∙ along-three f a before (s ∷ []) following (length s) one-extent
 
-    pub new-along : f 0 (sections v) ≡ f 0 before ++ (f (extent-of before) middle ++ f (extent-of before + length r) behind)
-    new-along = ap (f 0) (R .unchanged) ∙ along-three f a before middle behind (length r) middle-extent
+    pub new-along : f 0 (sections v) ≡ f 0 before ++ (f (extent-of before) middle ++ f (extent-of before + length r) following)
+    new-along = ap (f 0) (R .unchanged) ∙ along-three f a before middle following (length r) middle-extent
 
 -- Which replacements there are. For the last section: any bytes.
 module _ (u r : List ℕ) (before : List (List ℕ)) (s : List ℕ) where
@@ -152,22 +152,22 @@ module _ (u r : List ℕ) (before : List (List ℕ)) (s : List ℕ) where
   last-replaced e h = record { old = e; new = refl; unchanged = rw (append-nil r, append-nil (sections r)) (continues u before s [] e .goes-on r); short = h }
 
   -- for any other: bytes that are empty or end at a cut, that is, whose last section is empty
-  module _ (t : List ℕ) (behind middle : List (List ℕ)) (e : sections u ≡ before ++ (s ∷ (t ∷ behind))) (c : sections r ≡ middle ++ ([] ∷ [])) where
+  module _ (t : List ℕ) (following middle : List (List ℕ)) (e : sections u ≡ before ++ (s ∷ (t ∷ following))) (c : sections r ≡ middle ++ ([] ∷ [])) where
     bytes-of : joined middle ≡ r
     unfolding joined
     bytes-of = sym (append-nil (joined middle)) ∙ (sym (joined-append middle ([] ∷ [])) ∙ (ap joined (sym c) ∙ sections-joined r))
 
-    behind-alone : sections (joined (t ∷ behind)) ≡ t ∷ behind
-    behind-alone = continues u (before ++ (s ∷ [])) t behind (e ∙ sym (append-assoc before (s ∷ []) (t ∷ behind))) .alone
+    after-alone : sections (joined (t ∷ following)) ≡ t ∷ following
+    after-alone = continues u (before ++ (s ∷ [])) t following (e ∙ sym (append-assoc before (s ∷ []) (t ∷ following))) .alone
 
     middle-found : (z : List ℕ) → sections (r ++ z) ≡ middle ++ sections z
     middle-found z = ap (λ x. sections (x ++ z)) (sym bytes-of) ∙ continues r middle [] [] c .goes-on z
 
-    pub replaced-by : length (joined before ++ (r ++ joined (t ∷ behind))) ≤ text-limit → Replacement u (joined before ++ (r ++ joined (t ∷ behind))) before s (t ∷ behind) r middle
+    pub replaced-by : length (joined before ++ (r ++ joined (t ∷ following))) ≤ text-limit → Replacement u (joined before ++ (r ++ joined (t ∷ following))) before s (t ∷ following) r middle
     replaced-by h =
         record {
           old = e;
           new = refl;
-          unchanged = continues u before s (t ∷ behind) e .goes-on (r ++ joined (t ∷ behind)) ∙ ap (λ l. before ++ l) (middle-found (joined (t ∷ behind)) ∙ ap (λ l. middle ++ l) behind-alone);
+          unchanged = continues u before s (t ∷ following) e .goes-on (r ++ joined (t ∷ following)) ∙ ap (λ l. before ++ l) (middle-found (joined (t ∷ following)) ∙ ap (λ l. middle ++ l) after-alone);
           short = h;
         }

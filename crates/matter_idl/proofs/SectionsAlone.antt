@@ -1,4 +1,4 @@
--- A section that is read where it stands is the section read alone, moved by its start.
+-- A section read in its place is the section read alone, moved by its start.
 use Prim.Native.Nat.{ℕ, zero, suc, _+_, _≤_}
 use mathlib.Core.Path.{_≡_, refl, sym, _∙_, ap}
 use mathlib.Core.Option.{Option, none, some}

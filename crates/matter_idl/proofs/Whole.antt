@@ -50,31 +50,31 @@ accepted-at b s l h = go (utf8-error b s) refl h
     go none e k = record { well-formed = e; reads = read-at b s l (all-items b s) refl k }
     go (some p) e k = let z : _≡_ {A = ℕ} 0 1 = cc in absurd (omega arith)
 
--- it is read so with the sections behind it
+-- it is read so with the sections after it
 section-reads : (b : ℕ) (s : List ℕ) (ss : List (List ℕ)) (l : List Item) → Cuts (s ∷ ss) → verdict-at b s ≡ accepted l → Reads (b + length s) (joined ss) b (s ++ joined ss) l
 unfolding joined
 section-reads b s [] l c h = rw (append-nil s) (accepted-at b s l h .reads)
 section-reads b s (t ∷ ss) l c h = reads-continued (t ++ joined ss) (c .0) (accepted-at b s l h .reads)
 
 -- What accepted sections hold is true of the text.
-rest-behind : (p z : List ℕ) → Rest 0 (p ++ z) (length p) z
-rest-behind p z = rw (drop-at p z (length p) refl) at (rest-whole (p ++ z) (length p) (omega (arith, length-append p z)))
+rest-after : (p z : List ℕ) → Rest 0 (p ++ z) (length p) z
+rest-after p z = rw (drop-at p z (length p) refl) at (rest-whole (p ++ z) (length p) (omega (arith, length-append p z)))
 
 items-true : (p s : List ℕ) (ss : List (List ℕ)) → Cuts (s ∷ ss) → (v : Verdict) → verdict-at (length p) s ≡ v → All (ItemTrue 0 (p ++ (s ++ joined ss)) (length (p ++ (s ++ joined ss)))) (items-of v)
 unfolding items-of
-items-true p s ss c (accepted l) e = reads-true 0 (p ++ (s ++ joined ss)) _ (omega arith) (rest-behind p (s ++ joined ss)) (section-reads (length p) s ss l c e)
+items-true p s ss c (accepted l) e = reads-true 0 (p ++ (s ++ joined ss)) _ (omega arith) (rest-after p (s ++ joined ss)) (section-reads (length p) s ss l c e)
 items-true p s ss c (turned-down k q) e = tt
 
-behind-true : (p : List ℕ) (ss : List (List ℕ)) → Cuts ss → All (ItemTrue 0 (p ++ joined ss) (length (p ++ joined ss))) (accepted-items (length p) ss)
+after-true : (p : List ℕ) (ss : List (List ℕ)) → Cuts ss → All (ItemTrue 0 (p ++ joined ss) (length (p ++ joined ss))) (accepted-items (length p) ss)
 unfolding accepted-items joined
-behind-true p [] c = tt
-behind-true p (s ∷ ss) c =
+after-true p [] c = tt
+after-true p (s ∷ ss) c =
     let e : (p ++ s) ++ joined ss ≡ p ++ (s ++ joined ss) = append-assoc p s (joined ss) in
     let n : length (p ++ s) ≡ length p + length s = length-append p s in
-    all-append (ItemTrue 0 (p ++ (s ++ joined ss)) (length (p ++ (s ++ joined ss)))) (items-of (verdict-at (length p) s)) (accepted-items (length p + length s) ss) (items-true p s ss c (verdict-at (length p) s) refl) (rw (e, n) at (behind-true (p ++ s) ss (cuts-tail s ss c)))
+    all-append (ItemTrue 0 (p ++ (s ++ joined ss)) (length (p ++ (s ++ joined ss)))) (items-of (verdict-at (length p) s)) (accepted-items (length p + length s) ss) (items-true p s ss c (verdict-at (length p) s) refl) (rw (e, n) at (after-true (p ++ s) ss (cuts-tail s ss c)))
 
 pub survey-true : (u : List ℕ) → All (ItemTrue 0 u (length u)) (accepted-items 0 (sections u))
-survey-true u = rw (sections-joined u) at (behind-true [] (sections u) (sections-cut u))
+survey-true u = rw (sections-joined u) at (after-true [] (sections u) (sections-cut u))
 
 -- what an accepted text holds is true of it
 pub accepted-true : (u : List ℕ) (l : List Item) → verdict u ≡ accepted l → (length u ≤ text-limit) × All (ItemTrue 0 u (length u)) l
@@ -82,7 +82,7 @@ unfolding verdict
 accepted-true u l h = go (leb (length u) text-limit) refl h
   where
     go : (b : Bool) → leb (length u) text-limit ≡ b → elim b [ true ↦ verdict-at 0 u | false ↦ turned-down 1 text-limit ] ≡ accepted l → (length u ≤ text-limit) × All (ItemTrue 0 u (length u)) l
-    go true e k = (leb-true (length u) text-limit e, reads-true 0 u (length u) (omega arith) (rest-behind [] u) (accepted-at 0 u l k .reads))
+    go true e k = (leb-true (length u) text-limit e, reads-true 0 u (length u) (omega arith) (rest-after [] u) (accepted-at 0 u l k .reads))
     go false e k = let z : _≡_ {A = ℕ} 0 1 = cc in absurd (omega arith)
 
 -- If each section is accepted, the text is read to its end.

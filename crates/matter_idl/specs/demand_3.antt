@@ -142,37 +142,37 @@ unfoldable pub number-of : ReportEntry → ℕ
 number-of (sound b n) = 0
 number-of (spoilt b n k p) = k
 
--- what stands behind a change from one length to another is moved by the difference
+-- what is after a change from one length to another is moved by the difference
 pub record MovedBy {A : Type 0} (move : ℕ → A → A) (from to : ℕ) (before after : List A) : Type 0 where
   pub grown : (d : ℕ) → to ≡ d + from → after ≡ map (move d) before
   pub shrunk : (d : ℕ) → from ≡ d + to → before ≡ map (move d) after
 
--- where the section behind these starts
+-- where the section after these starts
 unfoldable pub extent-of : List (List ℕ) → ℕ
 extent-of ss = length (joined ss)
 
 -- One section s of the text u is replaced by any bytes r, none too; the new text is v. In r cutting finds the sections `middle`, none, one or more, and all other sections unchanged.
-pub record Replacement (u v : List ℕ) (before : List (List ℕ)) (s : List ℕ) (behind : List (List ℕ)) (r : List ℕ) (middle : List (List ℕ)) : Type 0 where
-  pub old : sections u ≡ before ++ (s ∷ behind)
-  pub new : v ≡ joined before ++ (r ++ joined behind)
-  pub unchanged : sections v ≡ before ++ (middle ++ behind)
+pub record Replacement (u v : List ℕ) (before : List (List ℕ)) (s : List ℕ) (following : List (List ℕ)) (r : List ℕ) (middle : List (List ℕ)) : Type 0 where
+  pub old : sections u ≡ before ++ (s ∷ following)
+  pub new : v ≡ joined before ++ (r ++ joined following)
+  pub unchanged : sections v ≡ before ++ (middle ++ following)
   pub short : length v ≤ text-limit
 
-pub record Replaced (L : Layout) (R : ReportLayout) (u v : List ℕ) (before : List (List ℕ)) (s : List ℕ) (behind : List (List ℕ)) (r : List ℕ) (middle : List (List ℕ)) : Type 0 where
+pub record Replaced (L : Layout) (R : ReportLayout) (u v : List ℕ) (before : List (List ℕ)) (s : List ℕ) (following : List (List ℕ)) (r : List ℕ) (middle : List (List ℕ)) : Type 0 where
   -- the survey accepts the new text too
   pub accepts : (n m : ℕ) → LongEnough L R v n m → survey L R v n m ≡ surveyed (catalogue-for L v) (report-for R v)
   -- the old report and the new one: in front of the change they are the same
-  pub old-report : entries-alone 0 (sections u) ≡ entries-alone 0 before ++ (entries-alone (extent-of before) (s ∷ []) ++ entries-alone (extent-of before + length s) behind)
-  pub new-report : entries-alone 0 (sections v) ≡ entries-alone 0 before ++ (entries-alone (extent-of before) middle ++ entries-alone (extent-of before + length r) behind)
-  -- behind it each section is accepted, or refused by the same number, as before
-  pub numbers : map number-of (entries-alone (extent-of before + length r) behind) ≡ map number-of (entries-alone (extent-of before + length s) behind)
+  pub old-report : entries-alone 0 (sections u) ≡ entries-alone 0 before ++ (entries-alone (extent-of before) (s ∷ []) ++ entries-alone (extent-of before + length s) following)
+  pub new-report : entries-alone 0 (sections v) ≡ entries-alone 0 before ++ (entries-alone (extent-of before) middle ++ entries-alone (extent-of before + length r) following)
+  -- after it each section is accepted, or refused by the same number, as before
+  pub numbers : map number-of (entries-alone (extent-of before + length r) following) ≡ map number-of (entries-alone (extent-of before + length s) following)
   -- and its offsets move by the change in length
-  pub report : MovedBy moved-entry (length s) (length r) (entries-alone (extent-of before + length s) behind) (entries-alone (extent-of before + length r) behind)
+  pub report : MovedBy moved-entry (length s) (length r) (entries-alone (extent-of before + length s) following) (entries-alone (extent-of before + length r) following)
   -- the old records and the new ones, save place marks: in front of the change they are the same
-  pub old-records : save-places (handed-out (sections u)) ≡ save-places (own-moved 0 before) ++ (save-places (own-moved (extent-of before) (s ∷ [])) ++ save-places (own-moved (extent-of before + length s) behind))
-  pub new-records : save-places (handed-out (sections v)) ≡ save-places (own-moved 0 before) ++ (save-places (own-moved (extent-of before) middle) ++ save-places (own-moved (extent-of before + length r) behind))
-  -- behind it their offsets move by the change in length
-  pub records : MovedBy moved (length s) (length r) (save-places (own-moved (extent-of before + length s) behind)) (save-places (own-moved (extent-of before + length r) behind))
+  pub old-records : save-places (handed-out (sections u)) ≡ save-places (own-moved 0 before) ++ (save-places (own-moved (extent-of before) (s ∷ [])) ++ save-places (own-moved (extent-of before + length s) following))
+  pub new-records : save-places (handed-out (sections v)) ≡ save-places (own-moved 0 before) ++ (save-places (own-moved (extent-of before) middle) ++ save-places (own-moved (extent-of before + length r) following))
+  -- after it their offsets move by the change in length
+  pub records : MovedBy moved (length s) (length r) (save-places (own-moved (extent-of before + length s) following)) (save-places (own-moved (extent-of before + length r) following))
 
 -- Demand 3 of a text u, a catalogue of n bytes and a report of m bytes that are long enough. Each field has the sentence that it says, and the surveys that it rules out.
 pub record Demand3 (L : Layout) (R : ReportLayout) (u : List ℕ) (n m : ℕ) : Type 0 where
@@ -196,7 +196,7 @@ pub record Demand3 (L : Layout) (R : ReportLayout) (u : List ℕ) (n m : ℕ) : 
   pub global : globals (handed-out (sections u)) ≡ globals (hoisted no-ids (accepted-items 0 (sections u)))
   pub types : EachType (globals (handed-out (sections u)))
   -- .. and their ids, which are the names' bytes in the text, are those in hoisting's tables at the end.
-  -- Rules out a survey whose globals have offsets at which other bytes stand, or that keeps the ids of a refused section.
+  -- Rules out a survey whose globals have offsets at which other bytes are, or that keeps the ids of a refused section.
   pub ids : GlobalIds u (handed-out (sections u)) (after-items no-ids (fed (sections u)))
   -- "If each section is accepted alone, reading accepts the whole ..
   -- Rules out a survey that accepts what reading refuses, as a comment or a declaration that is cut in two.
@@ -204,8 +204,8 @@ pub record Demand3 (L : Layout) (R : ReportLayout) (u : List ℕ) (n m : ℕ) : 
   -- .. and writes the same bytes as the survey."
   pub same-bytes : EachAccepted (sections u) → reading L u n ≡ for-catalogue (survey L R u n m)
   -- "Any one section of a text is replaced by any bytes so that cutting the new text finds all other sections unchanged. Then each of those is accepted, or refused by the same number, as before; the survey hands out its records as before, save place marks; and offsets behind the change move by the change in length, in catalogue and report."
-  -- Rules out a survey that gives up behind the first refused section, or whose answer for one section leans on the bytes of another.
-  pub replaced : (v : List ℕ) (before : List (List ℕ)) (s : List ℕ) (behind : List (List ℕ)) (r : List ℕ) (middle : List (List ℕ)) → Replacement u v before s behind r middle → Replaced L R u v before s behind r middle
+  -- Rules out a survey that gives up after the first refused section, or whose answer for one section leans on the bytes of another.
+  pub replaced : (v : List ℕ) (before : List (List ℕ)) (s : List ℕ) (following : List (List ℕ)) (r : List ℕ) (middle : List (List ℕ)) → Replacement u v before s following r middle → Replaced L R u v before s following r middle
 
 -- for every text within the limit and buffers long enough
 abbrev pub Demand3Over : Layout → ReportLayout → Type 0

@@ -70,7 +70,7 @@ unfoldable pub after-members : Tables → Tables → List Member → Tables
 after-members t a [] = a
 after-members t a (m ∷ ms) = after-members t (after-member t a m) ms
 
--- a type at the top joins at once, the types of a cluster behind it
+-- a type at the top joins at once, the types of a cluster after it
 unfoldable pub after-item : Tables → Item → Tables
 after-item t (cluster-item c) = after-members t t (c .members)
 after-item t (endpoint-item e) = t
@@ -79,7 +79,7 @@ after-item t (bitmap-item c) = record { enums = t .enums; bitmaps = choice-id c 
 after-item t (struct-item s) = record { enums = t .enums; bitmaps = t .bitmaps; structs = struct-id s ∷ t .structs }
 after-item t blank-item = t
 
--- the tables behind items
+-- the tables after items
 unfoldable pub after-items : Tables → List Item → Tables
 after-items t [] = t
 after-items t (i ∷ l) = after-items (after-item t i) l

@@ -21,3 +21,7 @@ result o = returned o .0 * number-unit + returned o .1
 -- unescaping: a part whose length is no value, and so longer than any machine can lend, is refused by 1
 unfoldable pub unescaping : List ℕ → ℕ → Outcome
 unescaping u n = elim (leb (length u) value-limit) [ true ↦ outcome u n | false ↦ refused 1 value-limit ]
+
+-- the number of the layouts that catalogue and report are in
+abbrev pub format : ℕ
+format = 1

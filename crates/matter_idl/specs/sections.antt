@@ -10,7 +10,7 @@ line-feed = 10
 abbrev pub closing-brace : ℕ
 closing-brace = 125
 
--- document 01's cut: it stands after a byte x that is } and whose preceding byte is LF; p says of the preceding byte whether it is
+-- document 01's cut: it is after a byte x that is } and whose preceding byte is LF; p says of the preceding byte whether it is
 unfoldable pub cut-after : Bool → ℕ → Bool
 cut-after p x = p && eqb x closing-brace
 
@@ -26,7 +26,7 @@ cut-from p (x ∷ u) = elim (cut-after p x) [ true ↦ (x ∷ []) ∷ cut-from f
 unfoldable pub sections : List ℕ → List (List ℕ)
 sections u = cut-from false u
 
--- sections one behind the other
+-- sections one after the other
 unfoldable pub joined : List (List ℕ) → List ℕ
 joined [] = []
 joined (s ∷ ss) = s ++ joined ss

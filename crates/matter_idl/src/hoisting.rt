@@ -112,7 +112,7 @@ fn is_unmarked(out: &[u8], at: usize) -> bool
     }
 }
 
-// The hash of the id of the type whose record stands at an offset.
+// The hash of the id of the type whose record is at an offset.
 fn id_hash(text: &[u8], out: &[u8], at: usize) -> u64
     requires { ⌜ at + 8 ≤ length (now out) ⌝ }
     requires { ⌜ NameInside (now out) at (length (now text)) ⌝ }
@@ -127,7 +127,7 @@ fn id_hash(text: &[u8], out: &[u8], at: usize) -> u64
     )
 }
 
-// Whether a record before an end holds the id of the type whose record stands at an offset, which has the hash h. They are searched only if the filter may hold it.
+// Whether a record before an end holds the id of the type whose record is at an offset, which has the hash h. They are searched only if the filter may hold it.
 fn is_known(text: &[u8], out: &[u8], filter: &[u8], end: usize, at: usize, h: u64) -> bool
     requires { ⌜ length (now text) ≤ text-limit ⌝ }
     requires { ⌜ Catalogue (length (now text)) (now out) end ⌝ }
@@ -207,7 +207,7 @@ fn mark_at(text: &[u8], out: &mut [u8], filter: &mut [u8], start: usize, at: usi
     kind
 }
 
-// Marks the types of an item whose records stand from start to end, behind those of the items before.
+// Marks the types of an item whose records are from start to end, after those of the items before.
 pub fn mark_item(text: &[u8], out: &mut [u8], filter: &mut [u8], start: usize, end: usize)
     requires { ⌜ length (now text) ≤ text-limit ⌝ }
     requires { ⌜ Unhoisted (now text) (now out) (now filter) start end ⌝ }

@@ -6,7 +6,7 @@ ghost use Rattle.lexing.specs.outcomes.{afterwards};
 ghost use Rattle.items.specs.layout.{layout};
 ghost use Rattle.matter_idl.specs.reading.{reading};
 ghost use Rattle.matter_idl.specs.survey.{report-layout, for-catalogue, for-report, survey};
-ghost use Rattle.matter_idl.specs.interface.{value-limit, number-unit, result, unescaping};
+ghost use Rattle.matter_idl.specs.interface.{format, value-limit, number-unit, result, unescaping};
 use crate::reading::Verdict;
 use crate::reading::verdict_on;
 use crate::reading::write_items;
@@ -96,4 +96,15 @@ pub extern "C" fn matter_idl_unescape(part: &[u8], output: &mut [u8]) -> u64
         Unescaping::Fault(p) => packed(9, p),
         Unescaping::Short(n) => packed(10, n),
     }
+}
+
+// The format of catalogue and report.
+const FORMAT: u64 = 1;
+
+// The format, which the function's name says too: a program compiled with the header of another format does not link.
+#[no_mangle]
+pub extern "C" fn matter_idl_format_1() -> u64
+    ensures { λ r. ⌜ r ≡ format ⌝ }
+{
+    FORMAT
 }

@@ -86,7 +86,7 @@ pub fn verdict_on(text: &[u8]) -> Verdict
     verdict_at(text, 0)
 }
 
-// The second pass over all items of a part of the text, behind the records of earlier items: each item's records are marked as soon as they are written.
+// The second pass over all items of a part of the text, after the records of earlier items: each item's records are marked as soon as they are written.
 pub fn write_items(
     text: &[u8],
     part: &[u8],

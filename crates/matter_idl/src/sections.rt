@@ -1,17 +1,17 @@
-// Sections of a text: a cut stands behind a } whose preceding byte is LF.
+// Sections of a text: a cut is after a } whose preceding byte is LF.
 ghost use mathlib.Core.Path.{_≡_};
 ghost use Prim.Native.Nat.{_+_, _-_, _≤_, _<_};
 ghost use lib.ListN.{length, take, drop};
 ghost use Rattle.items.specs.layout.{text-limit};
 ghost use Rattle.matter_idl.specs.inner.sections.{cut-at, Cutless, Uncut, FirstSection};
 
-// A section of a part: the offset behind it, and whether it is the text's last, with no cut behind it.
+// A section of a part: the offset after it, and whether it is the text's last, with no cut after it.
 pub struct Section {
     pub end: usize,
     pub last: bool,
 }
 
-// Whether a cut stands behind the byte at i.
+// Whether a cut is after the byte at i.
 fn is_cut(text: &[u8], i: usize) -> bool
     requires { ⌜ 1 ≤ i ⌝ }
     requires { ⌜ i < length (now text) ⌝ }
@@ -20,7 +20,7 @@ fn is_cut(text: &[u8], i: usize) -> bool
     (text[i - 1] == b'\n') & (text[i] == b'}')
 }
 
-// Whether a cut stands behind one of four bytes.
+// Whether a cut is after one of four bytes.
 fn cut_4(part: &[u8], i: usize) -> bool
     requires { ⌜ 1 ≤ i ⌝ }
     requires { ⌜ i + 4 ≤ length (now part) ⌝ }
@@ -29,7 +29,7 @@ fn cut_4(part: &[u8], i: usize) -> bool
     is_cut(part, i) | is_cut(part, i + 1) | is_cut(part, i + 2) | is_cut(part, i + 3)
 }
 
-// Whether a cut stands behind one of sixteen bytes.
+// Whether a cut is after one of sixteen bytes.
 fn cut_16(part: &[u8], i: usize) -> bool
     requires { ⌜ 1 ≤ i ⌝ }
     requires { ⌜ i + 16 ≤ length (now part) ⌝ }
@@ -38,7 +38,7 @@ fn cut_16(part: &[u8], i: usize) -> bool
     cut_4(part, i) | cut_4(part, i + 4) | cut_4(part, i + 8) | cut_4(part, i + 12)
 }
 
-// Whether a cut stands behind one of sixty-four bytes, which the compiler compares by vectors.
+// Whether a cut is after one of sixty-four bytes, which the compiler compares by vectors.
 fn cut_64(part: &[u8], i: usize) -> bool
     requires { ⌜ 1 ≤ i ⌝ }
     requires { ⌜ i + 64 ≤ length (now part) ⌝ }
@@ -47,7 +47,7 @@ fn cut_64(part: &[u8], i: usize) -> bool
     cut_16(part, i) | cut_16(part, i + 16) | cut_16(part, i + 32) | cut_16(part, i + 48)
 }
 
-// How many bytes are passed 64 at a time with no cut among them; the first is passed too, since no cut stands behind it.
+// How many bytes are passed 64 at a time with no cut among them; the first is passed too, since no cut is after it.
 fn cutless(part: &[u8]) -> usize
     requires { ⌜ length (now part) ≤ text-limit ⌝ }
     ensures { λ r. ⌜ Uncut (now (part .entry)) r ⌝ }

@@ -11,7 +11,7 @@ ghost use Rattle.matter_idl.specs.reading.{verdict-at};
 ghost use Rattle.matter_idl.specs.survey.{number-width, items-of, accepted-items, report-entries, report-layout, report-bytes};
 ghost use Rattle.matter_idl.specs.inner.bits.{bits-size};
 ghost use Rattle.matter_idl.specs.inner.reading.{PartOf, HoistedFront};
-ghost use Rattle.matter_idl.specs.inner.survey.{entryWord, verdictWord, entryOf, PlaceFits, wordsOf, AcceptedBits, Remembered, accepted-alone, Judged, SectionBehindTo};
+ghost use Rattle.matter_idl.specs.inner.survey.{entryWord, verdictWord, entryOf, PlaceFits, wordsOf, AcceptedBits, Remembered, accepted-alone, Judged, SectionAfterTo};
 use crate::bits::has_bit;
 use crate::bits::set_bit;
 use crate::reading::Verdict;
@@ -24,7 +24,7 @@ use items::layout::WORD;
 use lexing::buffers::put_word;
 use lexing::parts::rest_at;
 
-// The bytes of an entry of the report: one word. In it stand, from the top, a start, a length, a number and a place.
+// The bytes of an entry of the report: one word. In it are, from the top, a start, a length, a number and a place.
 pub const ENTRY_SIZE: usize = WORD;
 
 const START_UNIT: u64 = LENGTH_UNIT * OFFSETS as u64;
@@ -139,7 +139,7 @@ fn verdict_again(part: &[u8], base: usize, accepted: bool) -> Verdict
     verdict_at(part, base)
 }
 
-// The records of a section, if it is accepted, behind those before it.
+// The records of a section, if it is accepted, after those before it.
 fn write_accepted(
     text: &[u8],
     part: &[u8],
@@ -154,7 +154,7 @@ fn write_accepted(
     requires { ⌜ accepted ≡ accepted-alone base (now part) ⌝ }
     requires { ⌜ to + 8 * word-count layout (hoisted no-ids (items-of (verdict-at base (now part)))) ≤ length (now catalogue) ⌝ }
     requires { ⌜ HoistedFront (now text) (now catalogue) (now filter) to ⌝ }
-    ensures { λ r. ⌜ SectionBehindTo (now (catalogue .exit)) (now (filter .exit)) (now (text .entry)) (now (catalogue .entry)) (now (filter .entry)) to base (now (part .entry)) r ⌝ }
+    ensures { λ r. ⌜ SectionAfterTo (now (catalogue .exit)) (now (filter .exit)) (now (text .entry)) (now (catalogue .entry)) (now (filter .entry)) to base (now (part .entry)) r ⌝ }
 {
     if accepted {
         let wrote = write_items(text, part, base, catalogue, filter, to);

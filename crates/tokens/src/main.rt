@@ -132,7 +132,7 @@ fn print_answer(reader: u8, part: &[u8], base: usize)
     }
 }
 
-// A letter from A to Z hands the reader the part behind the text's first three bytes.
+// A letter from A to Z hands the reader the part after the text's first three bytes.
 fn print_part(letter: u8, text: &[u8]) {
     if lexing::bytes::is_between(b'A', b'Z', letter) {
         if 3 <= text.len() {

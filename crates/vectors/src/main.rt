@@ -8,7 +8,7 @@ const OUT: i32 = 1;
 // What a catalogue holds before the call, to see which bytes are written.
 const FILL: u8 = 0xa5;
 
-// The value of a hexadecimal digit in lower case; no other byte stands in the lines.
+// The value of a hexadecimal digit in lower case; no other byte is in the lines.
 fn digit(b: u8) -> u8
     ensures { λ r. ⌜ r ≤ 15 ⌝ }
 {
@@ -38,7 +38,7 @@ fn decode(digits: &[u8], out: &mut [u8]) -> usize {
     n
 }
 
-// How many digits stand at the front: up to the sign behind a text or a catalogue.
+// How many digits are at the front: up to the sign after a text or a catalogue.
 fn digits_length(line: &[u8]) -> usize
     ensures { λ r. ⌜ r ≤ length (now (line .entry)) ⌝ }
 {
@@ -58,8 +58,8 @@ fn digits_length(line: &[u8]) -> usize
     i
 }
 
-// What stands behind the digits at the front and the sign.
-fn behind_digits(line: &[u8]) -> &[u8] {
+// What is after the digits at the front and the sign.
+fn after_digits(line: &[u8]) -> &[u8] {
     lexing::parts::after(lexing::parts::after(line, digits_length(line)), 1)
 }
 
@@ -88,7 +88,7 @@ fn is_untouched(bytes: &[u8]) -> bool {
     true
 }
 
-// Whether a text was accepted with the wanted catalogue, and nothing behind it is written.
+// Whether a text was accepted with the wanted catalogue, and nothing after it is written.
 fn is_accepted(result: u64, catalogue: &[u8], wanted: &[u8]) -> bool {
     let n = wanted.len();
     if result != n as u64 {
@@ -133,7 +133,7 @@ fn is_surveyed(text: &[u8], digits: &[u8]) -> bool {
     if !is_accepted(result, &catalogue, lines::front(&wanted, n)) {
         return false;
     }
-    let m = decode(behind_digits(digits), &mut wanted);
+    let m = decode(after_digits(digits), &mut wanted);
     is_accepted(m as u64, &report, lines::front(&wanted, m))
 }
 
@@ -144,11 +144,11 @@ fn holds(line: &[u8]) -> bool {
     let at = digits_length(line);
     let size = decode(lines::front(line, at), &mut text);
     let sign = lexing::parts::peek(line, at);
-    let behind = behind_digits(line);
+    let following = after_digits(line);
     if sign == b'@' {
-        return is_surveyed(lines::front(&text, size), behind);
+        return is_surveyed(lines::front(&text, size), following);
     }
-    let n = decode(behind, &mut wanted);
+    let n = decode(following, &mut wanted);
     is_read(lines::front(&text, size), sign, lines::front(&wanted, n))
 }
 

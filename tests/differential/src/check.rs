@@ -1,4 +1,4 @@
-//! The answer that document 01's table gives for what the Rust says of a text, and the checks that stand behind it.
+//! The answer that document 01's table gives for what the Rust says of a text, and the checks of it.
 use crate::catalogue::{decode, encode, Kind, Record, Span, Value};
 use crate::locate::{hoist, locate, read};
 use crate::outcome::{rust_outcome, Outcome};
@@ -53,7 +53,7 @@ pub fn check_panic(text: &[u8], number: u64, place: usize) -> Result<(), String>
     let fits = match number {
         // Inside the integer's digits.
         4 => text.get(place + 2..end).is_some_and(|digits| digits.iter().all(u8::is_ascii_hexdigit)),
-        // Behind the backslash and the r.
+        // After the backslash and the r.
         5 => end == place + 2 && text[place..end] == *b"\\r",
         // At the list's end.
         6 => place < end && text[end - 1] == b')',
@@ -126,7 +126,7 @@ pub fn each_span(r: &mut Record, f: &mut impl FnMut(&mut Span)) {
     }
 }
 
-/// Puts other bytes at a span, and moves the spans behind it.
+/// Puts other bytes at a span, and moves the spans after it.
 fn put(records: &[Record], text: &[u8], span: Span, word: &[u8]) -> (Vec<Record>, Vec<u8>) {
     let mut records = records.to_vec();
     for r in &mut records {

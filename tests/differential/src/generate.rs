@@ -238,7 +238,7 @@ impl Short {
 
 // The Rust's own examples.
 
-/// The string literals of a source, its doc comments too, each alone and where a part of a declaration can stand.
+/// The string literals of a source, its doc comments too, each alone and where a part of a declaration can be.
 pub fn examples(source: &str) -> Vec<Vec<u8>> {
     const AROUND: [(&str, &str); 8] = [
         ("", ""),

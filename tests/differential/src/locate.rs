@@ -101,7 +101,7 @@ impl<'a> Reader<'a> {
         &self.text[self.at..]
     }
 
-    /// A try: a failure leaves the reader as it was.
+    /// A try: after a failure the reader is as it was.
     fn attempt<T>(&mut self, step: impl FnOnce(&mut Self) -> Step<T>) -> Step<T> {
         let (at, len) = (self.at, self.records.len());
         let result = step(self);

@@ -52,7 +52,7 @@ pub fn each_text(seed: u64, count: usize, f: &mut dyn FnMut(&'static str, &[u8])
     }
 }
 
-/// Accepted texts, one behind another, with blanks and an enum up to a length.
+/// Accepted texts, one after another, with blanks and an enum up to a length.
 fn long(random: &mut Random, len: usize) -> Vec<u8> {
     let end = b"enum Last:t{}";
     let mut text = Vec::new();

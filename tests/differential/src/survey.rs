@@ -13,7 +13,7 @@ pub struct Survey {
     pub report: Vec<u64>,
 }
 
-/// A cut stands after every } whose preceding byte is LF.
+/// A cut is after every } whose preceding byte is LF.
 pub fn sections(text: &[u8]) -> Vec<Range<usize>> {
     let mut start = 0;
     let mut all = Vec::new();
@@ -95,7 +95,7 @@ pub fn many(random: &mut Random) -> Vec<u8> {
 }
 
 #[cfg(feature = "library")]
-/// A section is replaced by other bytes; where all others are found unchanged, the number of those in front, of new ones, and of those behind.
+/// A section is replaced by other bytes; where all others are found unchanged, the number of those before it, of new ones, and of those after it.
 fn replaced(random: &mut Random, text: &[u8], other: &[u8]) -> Option<(Vec<u8>, [usize; 3])> {
     let old = sections(text);
     let i = random.below(old.len());
@@ -108,15 +108,15 @@ fn replaced(random: &mut Random, text: &[u8], other: &[u8]) -> Option<(Vec<u8>, 
     };
     let changed = [&text[..section.start], &new, &text[section.end..]].concat();
     let found = sections(&changed);
-    let behind = old.len() - i - 1;
+    let back = old.len() - i - 1;
     let kept = |all: &[Range<usize>], text: &[u8]| all.iter().map(|s| text[s.clone()].to_vec()).collect::<Vec<_>>();
-    let same = found.len() >= i + behind
+    let same = found.len() >= i + back
         && kept(&old[..i], text) == kept(&found[..i], &changed)
-        && kept(&old[i + 1..], text) == kept(&found[found.len() - behind..], &changed)
-        && (changed.len() - (text.len() - section.len())) == found[i..found.len() - behind].iter().map(Range::len).sum::<usize>();
+        && kept(&old[i + 1..], text) == kept(&found[found.len() - back..], &changed)
+        && (changed.len() - (text.len() - section.len())) == found[i..found.len() - back].iter().map(Range::len).sum::<usize>();
     (same && changed.len() <= crate::outcome::LIMIT).then(|| {
-        let middle = found.len() - i - behind;
-        (changed, [i, middle, behind])
+        let middle = found.len() - i - back;
+        (changed, [i, middle, back])
     })
 }
 
@@ -248,7 +248,7 @@ pub mod library {
         Ok(())
     }
 
-    /// Of each section its number, its place and its records, save place marks, as if it stood at 0. It has as many records as reading it alone gives.
+    /// Of each section its number, its place and its records, save place marks, as if it began at 0. It has as many records as reading it alone gives.
     fn per_section(text: &[u8], got: &Survey) -> Vec<(u64, u64, Vec<Record>)> {
         let mut records = decode(&got.catalogue).unwrap().into_iter();
         let mut all = Vec::new();
@@ -266,12 +266,12 @@ pub mod library {
 
     /// One section replaced: all others are reported and handed out as before, moved by the change in length.
     fn replacement(random: &mut Random, text: &[u8], other: &[u8], before: &Survey) -> Result<bool, String> {
-        let Some((changed, [front, middle, behind])) = replaced(random, text, other) else {
+        let Some((changed, [front, middle, back])) = replaced(random, text, other) else {
             return Ok(false);
         };
         let after = surveyed(&changed, &survey(&changed))?;
         let (old, new) = (per_section(text, before), per_section(&changed, &after));
-        if old[..front] != new[..front] || old[front + 1..] != new[front + middle..] || old.len() != front + 1 + behind {
+        if old[..front] != new[..front] || old[front + 1..] != new[front + middle..] || old.len() != front + 1 + back {
             return Err(format!("replaced, \"{}\": other sections changed", changed.escape_ascii()));
         }
         Ok(true)

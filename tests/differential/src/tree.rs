@@ -5,7 +5,7 @@ use crate::idl::parser::*;
 type Nested<T> = Result<T, String>;
 
 pub fn tree(records: &[Record], text: &[u8]) -> Nested<Idl> {
-    let mut nest = Nest { text, idl: Idl::default(), open: Open::Nothing, behind: 0 };
+    let mut nest = Nest { text, idl: Idl::default(), open: Open::Nothing, end: 0 };
     for (i, r) in records.iter().enumerate() {
         nest.add(r).map_err(|e| format!("record {i}: {e}: {r:?}"))?;
     }
@@ -29,7 +29,7 @@ enum Open {
     Instantiation,
 }
 
-/// Where a type stands: in its cluster, hoisted from it, at the top level, or dropped.
+/// Where a type is: in its cluster, hoisted from it, at the top level, or dropped.
 #[derive(Clone, Copy, PartialEq)]
 enum Home {
     Cluster,
@@ -43,7 +43,7 @@ struct Nest<'a> {
     idl: Idl,
     open: Open,
     /// Where the last name ends: names follow each other as in the text.
-    behind: usize,
+    end: usize,
 }
 
 fn maturity(n: u64) -> ApiMaturity {
@@ -111,7 +111,7 @@ impl Nest<'_> {
         }
     }
 
-    /// Where a type goes, by its place. Of a shared type behind a cluster, records don't tell whether the cluster has ended.
+    /// Where a type goes, by its place. Of a shared type after a cluster, records don't tell whether the cluster has ended.
     fn home(&mut self, place: u64, shared: bool) -> Nested<Home> {
         match (place, shared) {
             (0, false) => self.cluster().map(|_| Home::Cluster),
@@ -137,14 +137,14 @@ impl Nest<'_> {
             return Err("a place of what is no type".into());
         }
         if self.open == Open::Attribute && !matches!(r.kind, Kind::Field { .. }) {
-            return Err("no field behind an attribute".into());
+            return Err("no field after an attribute".into());
         }
         let id = self.option(r.name)?.unwrap_or_default();
         if let Some(name) = r.name {
-            if name.at < self.behind || name.len == 0 {
+            if name.at < self.end || name.len == 0 {
                 return Err("a name out of order".into());
             }
-            self.behind = name.at + name.len;
+            self.end = name.at + name.len;
         }
         let doc_comment = self.option(r.doc)?;
         let maturity = maturity(r.maturity);

@@ -1,7 +1,7 @@
 //! The stored list of short texts with the Rust's answers.
 //!
 //! A line is a text's bytes in hexadecimal, then `=` and the catalogue's bytes in hexadecimal, or `!` and the result of a refusal as 16
-//! hexadecimal digits: number * 2^56 + place. Surveys stand behind them. Digits are in lower case; every line ends in a line feed.
+//! hexadecimal digits: number * 2^56 + place. Surveys come after them. Digits are in lower case; every line ends in a line feed.
 use crate::catalogue::{decode, encode, Record};
 use crate::check::{answer, Answer};
 use crate::generate::*;
@@ -97,7 +97,7 @@ fn traits_of(text: &[u8], answer: &Answer) -> Vec<String> {
             let token = |t: Option<&Vec<u8>>| t.map(|t| String::from_utf8_lossy(&t[..t.len().min(9)]).to_lowercase()).unwrap_or_default();
             let (before, after) = (tokens(&text[..*place]), tokens(&text[*place..]));
             let (before, after) = (token(before.last()), token(after.first()));
-            vec![format!("{number} before {after:?}"), format!("{number} behind {before:?}")]
+            vec![format!("{number} before {after:?}"), format!("{number} after {before:?}")]
         }
     }
 }

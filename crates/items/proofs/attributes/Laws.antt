@@ -170,7 +170,7 @@ entry-is g {x} {b} {n} {c} {d} {u} {k} {p} t s l e h =
     let z : with-entry g v ≡ x = rw (t .names, t .starts) (sym e) in
     record { reads = mapped-ok (grants-after g) (opt access-entry) b u (some v) d (drop (d - b) u) z (opt-ok access-entry b u v d (drop (d - b) u) h); within = rw e (grants-small g k p n s l) }
 
--- it takes a byte, so that it is there where reading goes on behind its start
+-- it takes a byte, so that it is there where reading goes on after its start
 pub record TookEntry (g : Grants) (b : ℕ) (u : List ℕ) (n : ℕ) (e : AccessEntries) : Type 0 where
   pub value : AccessOf
   pub is : with-entry g value ≡ e .grants
@@ -245,15 +245,15 @@ blanks-once k n v = go (whitespace0 n v) refl
     go (fail p) e = then-fail whitespace0 (whitespace0 >> k) e ∙ sym (then-fail whitespace0 k e)
     go (stop i p) e = absurd (rw e at (calm-blanks .runs n v))
 
-entry-behind : (n : ℕ) (v : List ℕ) → (whitespace0 >> (ret (tt {0}) >> access-entry)) n v ≡ access-entry n v
+entry-after : (n : ℕ) (v : List ℕ) → (whitespace0 >> (ret (tt {0}) >> access-entry)) n v ≡ access-entry n v
 unfolding access-entry ret _>>_ _>>=_
-entry-behind n v = blanks-once _ n v
+entry-after n v = blanks-once _ n v
 
 separated-is : (n : ℕ) (v : List ℕ) → (whitespace0 >> (tag 44 >> access-entry)) n v ≡ separated-entry n v
 unfolding comma
 separated-is n v =
     sym (assoc whitespace0 (tag 44 >> (whitespace0 >> ret tt)) access-entry n v ∙
-    then-same whitespace0 _ _ (λ n v. assoc (tag 44) (whitespace0 >> ret tt) access-entry n v ∙ then-same (tag 44) _ _ (λ n v. assoc whitespace0 (ret tt) access-entry n v ∙ entry-behind n v) n v) n v)
+    then-same whitespace0 _ _ (λ n v. assoc (tag 44) (whitespace0 >> ret tt) access-entry n v ∙ then-same (tag 44) _ _ (λ n v. assoc whitespace0 (ret tt) access-entry n v ∙ entry-after n v) n v) n v)
 
 separated-consumes : Consumes separated-entry
 separated-consumes = consumes-then-right (comma-local .on-chain) access-entry-consumes
@@ -311,7 +311,7 @@ pub record Entered (b : ℕ) (u : List ℕ) (n : ℕ) (g : Grants) : Type 0 wher
   pub inside : n ≤ b + length u
   pub left : entries b u ≡ before seen (many0 separated-entry n (drop (n - b) u))
 
--- before an entry: none was read, or a comma behind some
+-- before an entry: none was read, or a comma after some
 pub data Entering (b : ℕ) (u : List ℕ) (n c : ℕ) (g : Grants) : Type 0 where
   first : n ≡ b → c ≡ b → g ≡ no-grants → Entering b u n c g
   next : Entered b u n g → {x : Unit {0}} → Took (whitespace0 >> tag 44) b u n x c → Entering b u n c g

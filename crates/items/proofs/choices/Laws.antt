@@ -31,7 +31,7 @@ use Rattle.items.proofs.writing.Laws.{documented-put}
 use Rattle.items.proofs.Locality.{shared-before-local, shared-before-consumes, choice-head-local, constant-entries-list-local}
 use Rattle.lexing.proofs.answers.Laws.{skip-took, opt-ok, opt-fail, opt-stop}
 
--- a part that takes a byte is there where reading goes on behind its start
+-- a part that takes a byte is there where reading goes on after its start
 pub opt-present : {A : Type 0} {m : Parser A} → Onward m → Consumes m → (b : ℕ) (u : List ℕ) {a : Option A} {c : ℕ} → ok a c (drop (c - b) u) ≡ opt m b u → present a ≡ ltb b c
 unfolding present
 opt-present {A} {m} w v b u {a} {c} e = go (m b u) refl
@@ -62,7 +62,7 @@ shared-took {b} {f} {u} h = record {
   step = skip-took (walks (chain-opt (shared-before-local .on-chain))) (rest-self b u) refl h;
 }
 
--- the head, by whether `shared` stands before it
+-- the head, by whether `shared` is before it
 pub choice-head-is : (k : List ℕ) (b : ℕ) (u : List ℕ) (h : ChoiceHeadParts) (c : ℕ) (s : Option Word) → present s ≡ h .shared
     → ok (record { head-shared = present s; head-name = wordBetween b u (h .name) (h .end); head-base = wordBetween b u (h .«base_at») (h .«base_end») }) c (drop (c - b) u) ≡ choice-head k b u
     → ChoiceHeadBetween b h c → ChoiceHeadTo k (ChoiceHead h c) b u

@@ -33,7 +33,7 @@ use Rattle.lexing.specs.buffers.{each, words-bytes, put}
 use Rattle.items.specs.layout.{packed, width, from-top, offset, size, layout, record-words, further-word, catalogue-words, catalogue-bytes, word-count}
 use Rattle.items.specs.answers.{Front, frontOf, Room, Written, first-of, docWord, docBit}
 use Rattle.items.specs.inner.commands.{command-records}
-use Rattle.items.specs.inner.members.{RevisionTo, member-behind, unhoisted, MemberWritten, revisionWrote}
+use Rattle.items.specs.inner.members.{RevisionTo, member-after, unhoisted, MemberWritten, revisionWrote}
 use Rattle.items.specs.inner.clusters.{clusterHeadAt, unhoisted-records, members-rest, MembersWritten, cluster-first}
 use Rattle.items.specs.inner.member_kinds.{is-ok, member-try, KindTo}
 use Rattle.items.specs.declared.writing.FrontParts.{FrontParts}
@@ -86,7 +86,7 @@ module _ (k j : List ℕ) (b : ℕ) (u : List ℕ) where
           h' ∙ (z ∙ (ap fail m ∙ rw (f, z, any-keyword, _or_) refl))
       go (stop n p) z = absurd (rw z at (keyword-says j b u))
 
--- the word of a side, and the gap behind it
+-- the word of a side, and the gap after it
 module _ {b : ℕ} {u : List ℕ} {a : Step} (h : wordReply a b u ≡ any-keyword (ascii "client" ∷ ascii "server" ∷ []) b u) where
   pub side-word : {c : ℕ} → a ≡ Next c → Took (any-keyword (ascii "client" ∷ ascii "server" ∷ [])) b u b (wordAt b u c) c
   side-word {c} e = took (walks (any-keyword-chain (ascii "client" ∷ ascii "server" ∷ []))) (rest-self b u) (told-next (wordAt b u) a c b u _ e h)
@@ -204,28 +204,28 @@ module _ {k : MemberStart} {b : ℕ} {u : List ℕ} (h : KindTo k b u) (d : Doc)
   left-is : {v : Member} {c : ℕ} {r : List ℕ} → ok v c r ≡ member-try (k .kind) d m b u → ok v c r ≡ member-tries d m b u
   left-is e = ok-further (k .«others_fail_at») e ∙ sym (member-left h d m)
 
--- a member behind the blanks before it
+-- a member after the blanks before it
 module _ (d : Doc) {b : ℕ} {u : List ℕ} {m c₁ : ℕ} (t₁ : Took api-maturity b u b m c₁) {e : Doc} {c₂ : ℕ} (t₂ : Took whitespace0 b u c₁ e c₂) {r : List ℕ} (q : Rest b u c₂ r) where
-  pub behind-room : {at n : ℕ} → Room unhoisted (member-behind d) b u at n → Room unhoisted (member-tries d m) c₂ r at n
-  unfolding member-behind
-  behind-room room =
-      let y : ok (room .value) (room .next) (drop (room .next - b) u) ≡ member-behind d b (drop (b - b) u) = room .is ∙ ap (member-behind d b) (rest-self b u .same) in
+  pub after-room : {at n : ℕ} → Room unhoisted (member-after d) b u at n → Room unhoisted (member-tries d m) c₂ r at n
+  unfolding member-after
+  after-room room =
+      let y : ok (room .value) (room .next) (drop (room .next - b) u) ≡ member-after d b (drop (b - b) u) = room .is ∙ ap (member-after d b) (rest-self b u .same) in
       let x = follows (member-tries d m) t₂ (follows-with (λ m. whitespace0 >> member-tries d m) t₁ y) in
       let s = rest-is (member-tries-on d m) c₂ (room .next) (drop (c₂ - b) u) (drop (room .next - b) u) (room .value) (sym x) in
       record { value = room .value; next = room .next; is = rw (q .same) (rw (← s) x); fits = room .fits }
 
-  pub behind-written : {k : MemberStart} → KindTo k c₂ r → {z at : ℕ} {w : MembersWrote} {old new : List ℕ} → MemberWritten z (member-try (k .kind) d m) c₂ r at w old new → MemberWritten z (member-behind d) b u at w old new
-  unfolding member-behind
-  behind-written {k} h {z} {at} {w} g =
+  pub after-written : {k : MemberStart} → KindTo k c₂ r → {z at : ℕ} {w : MembersWrote} {old new : List ℕ} → MemberWritten z (member-try (k .kind) d m) c₂ r at w old new → MemberWritten z (member-after d) b u at w old new
+  unfolding member-after
+  after-written {k} h {z} {at} {w} g =
       let o = g .written in
       let t = took (member-tries-on d m) q (left-is h d m (o .is)) in
-      record { written = record { value = o .value; is = begin (member-behind d) b u (go _ t₁ (on _ t₂ (sym (t .goes)))); place = o .place; bytes = o .bytes }; latest = g .latest }
+      record { written = record { value = o .value; is = begin (member-after d) b u (go _ t₁ (on _ t₂ (sym (t .goes)))); place = o .place; bytes = o .bytes }; latest = g .latest }
 
-member-behind-on : (d : Doc) → Onward (member-behind d)
-unfolding member-behind
-member-behind-on d = walks (chain-bind (api-maturity-local .on-chain) (λ m. chain-then whitespace0-chain (member-tries-inside d m .on-chain)))
+member-after-on : (d : Doc) → Onward (member-after d)
+unfolding member-after
+member-after-on d = walks (chain-bind (api-maturity-local .on-chain) (λ m. chain-then whitespace0-chain (member-tries-inside d m .on-chain)))
 
--- where a closing brace stands there is no member
+-- where a closing brace is, there is no member
 module _ (b : ℕ) (u : List ℕ) where
   brace-frees : (js : List (List ℕ)) → Frees b (125 ∷ u) js
   brace-frees [] = tt
@@ -244,11 +244,11 @@ module _ (b : ℕ) (u : List ℕ) where
   brace-maturity : api-maturity b (125 ∷ u) ≡ ok 0 b (125 ∷ u)
   brace-maturity = maturity-elsewhere b (125 ∷ u) (brace-frees maturity-words)
 
-  brace-member : (d : Doc) → member-behind d b (125 ∷ u) ≡ fail b
-  unfolding member-behind
+  brace-member : (d : Doc) → member-after d b (125 ∷ u) ≡ fail b
+  unfolding member-after
   brace-member d = bind-ok _ _ brace-maturity ∙ (then-ok _ _ (brace-blank b u) ∙ brace-tries d 0)
 
--- A loop that writes members: their records stand in the buffer, and the last revision so far is known.
+-- A loop that writes members: their records are in the buffer, and the last revision so far is known.
 pub record MembersPlacing (b : ℕ) (u : List ℕ) (c at : ℕ) (old new : List ℕ) (to z : ℕ) : Type 0 where
   pub writing : Writing (each unhoisted) parse-cluster-member b u c at old new to
   pub latest : z ≡ last-revision 0 (writing .seen)
@@ -268,7 +268,7 @@ module _ (b : ℕ) (u : List ℕ) (at : ℕ) (old : List ℕ) (room : Room (each
   abbrev close : List Member → Parser (List Member)
   close l = catch (whitespace0 >> tag 125) (λ p. failAt (where-missing l p)) >> ret l
 
-  -- the whole text, taken apart: the members, and the closing brace behind them
+  -- the whole text, taken apart: the members, and the closing brace after them
   whole : Taken (many0 parse-cluster-member) close (room .value) (room .next) (drop (room .next - b) u) b u
   unfolding members-rest cluster-members
   whole = taken cluster-members close members-on (room .value) (room .next) (drop (room .next - b) u) b u (room .is)
@@ -294,25 +294,25 @@ module _ (b : ℕ) (u : List ℕ) (at : ℕ) (old : List ℕ) (room : Room (each
     here = rest-from b c u (i .writing .run .from) (i .writing .run .inside)
 
     module _ {d : Doc} {s : ℕ} (t : Took whitespace0 b u c d s) where
-      member-is : parse-cluster-member c (drop (c - b) u) ≡ member-behind d s (drop (s - b) u)
-      unfolding parse-cluster-member member-behind
-      member-is = sym (go (λ d. member-behind d) t refl)
+      member-is : parse-cluster-member c (drop (c - b) u) ≡ member-after d s (drop (s - b) u)
+      unfolding parse-cluster-member member-after
+      member-is = sym (go (λ d. member-after d) t refl)
 
       module _ {r : List ℕ} (q : Rest b u s r) where
-        member-took : {a : Member} {n : ℕ} → ok a n (drop (n - s) r) ≡ member-behind d s r → Took parse-cluster-member b u c a n
-        member-took g = let y = took (member-behind-on d) q g in record { goes = member-is ∙ y .goes; up = omega (arith, t .up, y .up); inside = y .inside }
+        member-took : {a : Member} {n : ℕ} → ok a n (drop (n - s) r) ≡ member-after d s r → Took parse-cluster-member b u c a n
+        member-took g = let y = took (member-after-on d) q g in record { goes = member-is ∙ y .goes; up = omega (arith, t .up, y .up); inside = y .inside }
 
-        member-lost : (l : Lost) → lostReply l ≡ member-behind d s r → lostReply l ≡ parse-cluster-member c (drop (c - b) u)
-        member-lost l e = e ∙ (ap (member-behind d s) (q .same) ∙ sym member-is)
+        member-lost : (l : Lost) → lostReply l ≡ member-after d s r → lostReply l ≡ parse-cluster-member c (drop (c - b) u)
+        member-lost l e = e ∙ (ap (member-after d s) (q .same) ∙ sym member-is)
 
         -- without the closing brace there is a member, and room for it
-        pub placing-room : (l : Lost) {r' : List ℕ} → Rest b u s r' → lostReply l ≡ tag 125 s r' → Room unhoisted (member-behind d) s r to (length new)
-        placing-room l q' e = find (member-behind d s r) refl
+        pub placing-room : (l : Lost) {r' : List ℕ} → Rest b u s r' → lostReply l ≡ tag 125 s r' → Room unhoisted (member-after d) s r to (length new)
+        placing-room l q' e = find (member-after d s r) refl
           where
-            find : (x : Reply Member) → member-behind d s r ≡ x → Room unhoisted (member-behind d) s r to (length new)
+            find : (x : Reply Member) → member-after d s r ≡ x → Room unhoisted (member-after d) s r to (length new)
             find (ok a n r'') y =
-                let k = rest-is (member-behind-on d) s n r r'' a y in
-                let g : ok a n (drop (n - s) r) ≡ member-behind d s r = rw (← k) (sym y) in
+                let k = rest-is (member-after-on d) s n r r'' a y in
+                let g : ok a n (drop (n - s) r) ≡ member-after d s r = rw (← k) (sym y) in
                 record { value = a; next = n; is = g; fits = writing-fits one parse-cluster-member b u at old all (i .writing) parse-cluster-member-consumes (member-took g) (word-count layout (unhoisted a)) refl .0 }
             find (fail p) y =
                 let k = whole .is ∙ many0-ends parse-cluster-member-consumes (Fail p) (i .writing .run) here (member-lost (Fail p) (sym y)) in
@@ -322,7 +322,7 @@ module _ (b : ℕ) (u : List ℕ) (at : ℕ) (old : List ℕ) (room : Room (each
             find (stop n p) y = absurd (no-room all (Stop n p) (sym (many0-ends parse-cluster-member-consumes (Stop n p) (i .writing .run) here (member-lost (Stop n p) (sym y)))))
 
         -- a turn
-        pub placing-more : {w : MembersWrote} {new' : List ℕ} → MemberWritten z (member-behind d) s r to w new new' → MembersPlacing b u (w .next) at old new' (w .to) (w .revision) × ((c < w .next) × (w .next ≤ b + length u))
+        pub placing-more : {w : MembersWrote} {new' : List ℕ} → MemberWritten z (member-after d) s r to w new new' → MembersPlacing b u (w .next) at old new' (w .to) (w .revision) × ((c < w .next) × (w .next ≤ b + length u))
         placing-more {w} {new'} g =
             let o = g .written in
             let h = member-took (o .is) in
@@ -338,7 +338,7 @@ module _ (b : ℕ) (u : List ℕ) (at : ℕ) (old : List ℕ) (room : Room (each
       unfolding members-rest cluster-members
       placing-ends {e} k =
           let y = brace-first s (drop (s - b) u) (sym (k .goes)) in
-          let f : fail s ≡ parse-cluster-member c (drop (c - b) u) = sym (member-is ∙ (ap (member-behind d s) (y .1) ∙ brace-member s (y .0) d)) in
+          let f : fail s ≡ parse-cluster-member c (drop (c - b) u) = sym (member-is ∙ (ap (member-after d s) (y .1) ∙ brace-member s (y .0) d)) in
           let g : Took cluster-members b u b (i .writing .seen) c = took members-on (rest-self b u) (sym (many0-ends parse-cluster-member-consumes (Fail s) (i .writing .run) here f)) in
           record {
             written = record { value = i .writing .seen; is = begin members-rest b u (go _ g (on _ (close-took t _ k) (done (i .writing .seen) b e u))); place = i .writing .place; bytes = i .writing .bytes };

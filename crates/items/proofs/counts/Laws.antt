@@ -119,29 +119,29 @@ pub count-mapped : {A B : Type 0} (records : B → List Record) (g : A → B) {m
 unfolding counted
 count-mapped records g {m} {b = b} {u = u} h = record { reads = h .reads ∙ mapped-twice m g (λ x. word-count layout (records x)) b u; few = h .few }
 
--- the value behind a count on the part itself
-pub record Behind {A : Type 0} (f : A → List Record) (m : Parser A) (b : ℕ) (u : List ℕ) (n c : ℕ) : Type 0 where
+-- the value that was counted, on the part itself
+pub record CountedValue {A : Type 0} (f : A → List Record) (m : Parser A) (b : ℕ) (u : List ℕ) (n c : ℕ) : Type 0 where
   pub value : A
   pub words : word-count layout (f value) ≡ n
   pub is : ok value c (drop (c - b) u) ≡ m b u
 
-pub count-value : {A : Type 0} (f : A → List Record) (m : Parser A) (b : ℕ) (u : List ℕ) (n c : ℕ) → CountTo f m (Words n c) b u → Behind f m b u n c
+pub count-value : {A : Type 0} (f : A → List Record) (m : Parser A) (b : ℕ) (u : List ℕ) (n c : ℕ) → CountTo f m (Words n c) b u → CountedValue f m b u n c
 unfolding counted
 count-value f m b u n c h = let s = value-as (λ x. word-count layout (f x)) m b u n c (drop (c - b) u) (h .reads) in record { value = s .0; words = s .1 .0; is = s .1 .1 }
 
--- what is counted has room where its words fit, and ends behind its start
+-- what is counted has room where its words fit, and ends after its start
 pub count-room : {A : Type 0} {f : A → List Record} {m : Parser A} {b n c at k : ℕ} {u : List ℕ} → CountTo f m (Words n c) b u → at + 8 * n ≤ k → Room f m b u at k
 count-room {f = f} {m = m} {b = b} {n = n} {c = c} {u = u} h l = let s = count-value f m b u n c h in record { value = s .value; next = c; is = s .is; fits = omega (arith, s .words, l) }
 
 -- a count that ends a sequence
-pub count-behind : {A : Type 0} (f : A → List Record) (m k : Parser A) → Onward k → (r : Count) {b n : ℕ} {u v : List ℕ} → Rest b u n v → k n (drop (n - b) u) ≡ m b u → CountTo f k r n v → CountTo f m r b u
-count-behind f m k w (Words i c) {b} {n} {u} {v} q e h =
+pub count-after : {A : Type 0} (f : A → List Record) (m k : Parser A) → Onward k → (r : Count) {b n : ℕ} {u v : List ℕ} → Rest b u n v → k n (drop (n - b) u) ≡ m b u → CountTo f k r n v → CountTo f m r b u
+count-after f m k w (Words i c) {b} {n} {u} {v} q e h =
     let s = count-value f k n v i c h in
     let t = took w q (s .is) in
     count-is f m b u (s .value) i c (s .words) (omega (arith, h .few, q .from, t .up)) (sym (t .goes) ∙ e)
-count-behind f m k w (NoCount l) {b} {n} {u} {v} q e h = count-not f m b u l (count-lost l refl n v h ∙ (ap (k n) (q .same) ∙ e))
+count-after f m k w (NoCount l) {b} {n} {u} {v} q e h = count-not f m b u l (count-lost l refl n v h ∙ (ap (k n) (q .same) ∙ e))
 
--- The ways of a count that the closing brace stands behind.
+-- The ways of a count that the closing brace follows.
 pub ends-at : {a : Count} {n c : ℕ} (b : ℕ) (u : List ℕ) → a ≡ Words n c → EndsIn a b u → (b ≤ c) × (c ≤ b + length u)
 ends-at b u e h = subst (λ (x : Count). EndsIn x b u) e h
 

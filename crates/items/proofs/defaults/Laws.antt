@@ -140,7 +140,7 @@ value-end {m} w k {b} {n} {u} {r} (Read d c) q f h =
     record { reads = mapped-ok some k b u (s .value) c (drop (c - b) u) (s .is) (f _ (sym (s .step .goes))); within = h .within }
 value-end {m} w k {b} {n} {u} {r} (NoDefault l) q f h = value-not k l (f _ (last-lost m l q (lost-as some m n r l (h .reads))))
 
--- the text goes on behind a default
+-- the text goes on after a default
 pub default-within : (d : DefaultValue) (c e : ℕ) → DefaultIn d c → c ≤ e → DefaultIn d e
 default-within Absent c e h k = tt
 default-within (Num n) c e h k = tt

@@ -18,7 +18,7 @@ use Rattle.lexing.proofs.TokenLocality.{whitespace0-chain}
 use Rattle.lexing.proofs.Slicing.{Took, took, walks, rest-self, told-next, step-lost, string-took, on, fall, done}
 use Rattle.lexing.proofs.Pairs.{pair-on, pair-fall}
 use Rattle.lexing.proofs.answers.Laws.{skip-took}
-use Rattle.lexing.proofs.steps.Laws.{tag-behind-took}
+use Rattle.lexing.proofs.steps.Laws.{tag-after-took}
 use Rattle.items.specs.entries.{Annotation, constant-annotation, blank-annotation, constant-annotations-list, Entry, constant-entry, blank-entry, constant-entries}
 use Rattle.items.specs.records.{value, entry-record, plain}
 use Rattle.lexing.specs.buffers.{each, words-bytes, put}
@@ -31,7 +31,7 @@ use Rattle.items.specs.declared.entries.EntryRead.the-variants.{Read, No
 use Rattle.items.proofs.Locality.{punct-local, constant-annotation-local, constant-annotation-consumes, constant-annotations-list-inside, blank-entry-inside, blank-entry-consumes}
 use Rattle.lexing.proofs.AnswerLaws.{read-within, read-took, read-lost}
 use Rattle.lexing.proofs.WordBetween.{word-moved}
-use Rattle.items.proofs.Blanks.{read-behind, skips-behind}
+use Rattle.items.proofs.Blanks.{read-after, skips-after-blanks}
 use Rattle.items.proofs.WordBetween.{extent-between}
 use Rattle.items.proofs.RecordWords.{Elements}
 
@@ -45,7 +45,7 @@ module _ {B : Type 0} {v : B} {b n : ℕ} {u : List ℕ} where
   last-skips {A} {m} w (Not l) q h = record { goes = sym (fall m (ret v) l q (h .reads)) }
 
   pub last-pair : (t : ℕ) (a : Step) → SkipsAt (whitespace0 >> tag t) a b u n → Last (whitespace0 >> (tag t >> ret v)) v a b u n
-  last-pair t (Next c) h = record { goes = sym (pair-on whitespace0 (tag t) (ret v) (tag-behind-took t refl h) (done v b c u)) }
+  last-pair t (Next c) h = record { goes = sym (pair-on whitespace0 (tag t) (ret v) (tag-after-took t refl h) (done v b c u)) }
   last-pair t (Not l) h = record { goes = sym (pair-fall whitespace0 (tag t) (ret v) l (h .at) (h .skips .reads)) }
 
 pub skip-all : {A : Type 0} {m : Parser A} (v : A) (a : Step) {b : ℕ} {u : List ℕ} → reply (stepAnswer (λ c. v) a) b u ≡ m b u → Skips m a b u
@@ -63,9 +63,9 @@ unfolding quoted-string
 quoted-took q e h = string-took q e annotation-escape h
 
 -- an annotation reads the blanks before it itself
-pub annotation-behind : {b : ℕ} {u : List ℕ} {a : Step} → Skips constant-annotation a b u → Skips blank-annotation a b u
+pub annotation-after : {b : ℕ} {u : List ℕ} {a : Step} → Skips constant-annotation a b u → Skips blank-annotation a b u
 unfolding blank-annotation constant-annotation
-annotation-behind h = skips-behind _ _ _ h
+annotation-after h = skips-after-blanks _ _ _ h
 
 pub blank-annotation-onward : Onward blank-annotation
 unfolding blank-annotation
@@ -121,9 +121,9 @@ pub blank-entry-onward : Onward blank-entry
 blank-entry-onward = walks (blank-entry-inside .on-chain)
 
 -- an entry reads the blanks before it itself
-pub entry-behind : {b : ℕ} {u : List ℕ} {a : EntryRead} → EntryTo constant-entry a b u → EntryTo blank-entry a b u
+pub entry-after : {b : ℕ} {u : List ℕ} {a : EntryRead} → EntryTo constant-entry a b u → EntryTo blank-entry a b u
 unfolding blank-entry constant-entry
-entry-behind h = read-behind _ _ _ h
+entry-after h = read-after _ _ _ h
 
 -- the elements of both passes: two words an entry
 pub entry-words : (e : Entry) → word-count layout (entry-record e ∷ []) ≡ 2
@@ -133,7 +133,7 @@ entry-words e = refl
 pub entry-elements : Elements entry-record blank-entry 2
 entry-elements = record { takes = blank-entry-consumes; words = entry-words; few = omega arith }
 
--- the two words of an entry's record, one behind the other
+-- the two words of an entry's record, one after the other
 parts-words : (e : EntryParts) → catalogue-bytes layout (parts-record e ∷ [])
     ≡ words-bytes (first-of (record { kind = 4; place = 0; maturity = e .maturity; «doc_present» = 0; flags = 0; name = e .name; «name_length» = e .end - e .name; «first_privilege» = 0; «second_privilege» = 0 }) ∷ e .code ∷ [])
 unfolding catalogue-bytes catalogue-words each record-words layout further-word plain from-top width packed offset size

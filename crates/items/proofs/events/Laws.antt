@@ -54,7 +54,7 @@ word-gap-on = onward-then (walks (keyword-chain (ascii "event"))) gap-on
 pub event-word-on : Onward event-word
 event-word-on = onward-then gap-on word-gap-on
 
--- behind which no blank stands
+-- after which no blank is
 then-last : {A B : Type 0} (m : Parser A) (k : Parser B) (n : ℕ) (v : List ℕ) {c : ℕ} {r : List ℕ} {a : B} → (m >> k) n v ≡ ok a c r → (e : ℕ) × ((w : List ℕ) × (k e w ≡ ok a c r))
 unfolding _>>_ _>>=_
 then-last {A} {B} m k n v {c} {r} {a} h = go (m n v) refl

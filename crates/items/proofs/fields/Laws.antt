@@ -9,7 +9,7 @@ use Rattle.lexing.specs.bytes.{within}
 use Rattle.lexing.specs.reply.{ok, Parser, opt}
 use Rattle.lexing.specs.words.{Word}
 use Rattle.lexing.specs.word_sets.{bit}
-use Rattle.lexing.specs.answers.{Rest, lostReply, numberReply, numberLost, behind-blanks, wordBetween, Stop}
+use Rattle.lexing.specs.answers.{Rest, lostReply, numberReply, numberLost, after-blanks, wordBetween, Stop}
 use Rattle.lexing.specs.declared.answers.Lost.{Lost}
 use Rattle.lexing.specs.declared.integers.Number.{Number}
 use Rattle.lexing.specs.declared.integers.Number.the-variants.{Value, NoNumber}
@@ -37,7 +37,7 @@ use Rattle.items.specs.declared.fields.MaxLength.{MaxLength}
 use Rattle.items.specs.declared.fields.MaxLength.the-variants.{Length, NoLength}
 use Rattle.items.specs.declared.fields.Marker.{Marker}
 use Rattle.items.proofs.Locality.{max-length-local, list-marker-local, parse-field-inside, parse-struct-field-inside, closed-field-inside, closed-field-consumes, struct-fields-local}
-use Rattle.items.proofs.Blanks.{read-behind}
+use Rattle.items.proofs.Blanks.{read-after}
 use Rattle.items.proofs.RecordWords.{Elements}
 use Rattle.lexing.proofs.AnswerLaws.{read-within, read-took, read-lost}
 use Rattle.lexing.proofs.WordBetween.{word-moved}
@@ -123,7 +123,7 @@ module _ {b n : ℕ} {u r : List ℕ} {a : FieldRead} (q : Rest b u n r) (h : Fi
   pub field-none : {l l' : Lost} → l' ≡ fieldLost a → a ≡ NoField l → lostReply l' ≡ parse-field n r
   field-none e d = read-lost h d fieldLost e refl
 
--- a field that was read further on, and the bytes behind it
+-- a field that was read further on, and the bytes after it
 pub between-wider : {b n : ℕ} {f : FieldParts} {c d : ℕ} → b ≤ n → c ≤ d → FieldBetween n f c → FieldBetween b f d
 between-wider h k w = record { type-from = omega (arith, w .type-from); type-to = w .type-to; name-from = w .name-from; name-to = w .name-to; before = omega (arith, w .before) }
 
@@ -141,12 +141,12 @@ parse-struct-field-on : Onward parse-struct-field
 parse-struct-field-on = walks (parse-struct-field-inside .on-chain)
 
 -- it reads the blanks before it itself
-pub field-behind-on : Onward (behind-blanks parse-struct-field)
-field-behind-on = onward-then (walks whitespace0-chain) parse-struct-field-on
+pub field-after-on : Onward (after-blanks parse-struct-field)
+field-after-on = onward-then (walks whitespace0-chain) parse-struct-field-on
 
-pub field-behind : {b : ℕ} {u : List ℕ} {a : StructFieldRead} → StructFieldTo parse-struct-field a b u → StructFieldTo (behind-blanks parse-struct-field) a b u
+pub field-after : {b : ℕ} {u : List ℕ} {a : StructFieldRead} → StructFieldTo parse-struct-field a b u → StructFieldTo (after-blanks parse-struct-field) a b u
 unfolding parse-struct-field
-field-behind h = read-behind _ _ _ h
+field-after h = read-after _ _ _ h
 
 pub closed-field-on : Onward closed-field
 closed-field-on = walks (closed-field-inside .on-chain)

@@ -112,7 +112,7 @@ module _ (b : ℕ) (u : List ℕ) where
   letter-free : (x : ℕ) → lower (getD u 0 0) ≡ x → (ks : List (List ℕ)) → all-out ((0, x) ∷ []) [] ks ≡ true → Frees b u ks
   letter-free x h ks e = outs-free b u ((0, x) ∷ []) (h, tt) [] tt ks e
 
-  -- the one try for an instance that a first letter leaves
+  -- the one try for an instance that a first letter selects
   pub command-alone : lower (getD u 0 0) ≡ 104 → (x : Answer InstanceOf) → reply x b u ≡ mapped (named-after (ascii "handle") (ascii "command")) command-instance b u → reply (triedAnswer b x) b u ≡ instance-tries b b u
   unfolding instance-tries shiftInstance
   command-alone h =
@@ -251,7 +251,7 @@ name-in-limit h i = record { from = omega arith; up = h .up; inside = omega (ari
 pub instance-in-limit : {b : ℕ} (a : AttributeInstanceParts) {c : ℕ} → InstanceIn b a c → c ≤ text-limit → InstanceIn 0 a text-limit
 instance-in-limit a h i = record { small = h .small; named = name-in-limit (h .named) i; spanned = default-within (a .default) _ text-limit (h .spanned) i }
 
--- where a closing brace stands no word and no blank does, and every try fails
+-- where a closing brace is, there is no word and no blank, and every try fails
 pub instances-unclosing : Unclosing instance-tries
 unfolding instance-tries
 instances-unclosing q b u =

@@ -1,4 +1,4 @@
--- Blanks that are an item: no declaration stands behind them, and so no item follows. In an accepted text they stand at its end.
+-- Blanks that are an item: no declaration is after them, and so no item follows. In an accepted text they are at its end.
 use mathlib.Core.Path.{_≡_, refl, sym, ap, _∙_}
 use mathlib.Core.Logic.{_⊎_, inl, inr}
 use mathlib.Core.List.{List}
@@ -113,13 +113,13 @@ no-gap c r clear =
     let z : c - c ≡ 0 = omega arith in
     sym (gap-none c r (record { doc = Absent; next = c }) (record { reads = rw z (sym clear); up = omega arith; inside = omega arith }) refl)
 
--- where no declaration stands behind blanks, no item does
+-- where no declaration is after blanks, no item is
 no-item : (d : Doc) (c : ℕ) (r : List ℕ) {p : ℕ} → whitespace0 c r ≡ ok no-doc c r → declaration d c r ≡ fail p → (q : ℕ) × (item c r ≡ fail q)
 no-item d c r {p} clear e =
     let f : declaration no-doc c r ≡ fail p = shape-fail (declaration no-doc c r) (alike-declaration no-doc d .alike c r ∙ fails (declaration d c r) e) in
     (max p c, item-is c r clear ∙ or-lost _ _ f (then-fail _ _ (no-gap c r clear)))
 
--- What an item is whose blanks end at c: the declaration behind them, or the blanks, behind which no item stands.
+-- What an item is whose blanks end at c: the declaration after them, or the blanks, after which no item is.
 pub item-cases : (b : ℕ) (u : List ℕ) {d : Doc} {c : ℕ} {r : List ℕ} → whitespace0 b u ≡ ok d c r → {i : Item} {e : ℕ} {v : List ℕ} → ok i e v ≡ item b u
     → (ok i e v ≡ declaration d c r) ⊎ ((ok i e v ≡ (whitespace1 >> ret blank-item) b u) × ((q : ℕ) × (item c r ≡ fail q)))
 item-cases b u {d} {c} {r} h {i} {e} {v} g = go (declaration d c r) refl

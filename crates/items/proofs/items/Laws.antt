@@ -1,4 +1,4 @@
--- Items: which try a first word leaves, and both passes over declarations.
+-- Items: which try a first word selects, and both passes over declarations.
 use mathlib.Core.Path.{_≡_, refl, sym, ap, _∙_, subst}
 use mathlib.Core.Logic.{inl, inr}
 use mathlib.Core.Bool.{Bool, true, false}
@@ -46,7 +46,7 @@ use Rattle.items.proofs.Choice.{End, kept, lost, ends, Tries, more, las
 use Rattle.items.proofs.Mapped.{mapped-same, lost-as}
 use Rattle.items.proofs.Recorded.{Recorded, recorded-at, recorded-counts}
 use Rattle.items.proofs.Locality.{declaration-local, item-local, mapped-local, cluster-after-doc-maturity-local, endpoint-local, parse-enum-local, parse-bitmap-local, parse-struct-local}
-use Rattle.items.proofs.counts.Laws.{count-took, count-lost, count-is, count-not, count-behind, count-no-earlier}
+use Rattle.items.proofs.counts.Laws.{count-took, count-lost, count-is, count-not, count-after, count-no-earlier}
 use Rattle.items.proofs.Braces.{rest-is}
 use Rattle.items.proofs.writing.Laws.{no-room}
 use Rattle.items.proofs.RecordWords.{word-count-none}
@@ -99,7 +99,7 @@ type-keeps Command q c b h d m r = further-at q c h
 type-keeps Event q c b h d m r = further-at q c h
 type-keeps Unknown q c b h d m r = further-at q c h
 
--- Behind a maturity m and blanks, up to c: the tries of a declaration.
+-- After a maturity m and blanks, up to c: the tries of a declaration.
 module _ (b : ℕ) (u : List ℕ) (d : Doc) {m c₁ c : ℕ} {r₁ r : List ℕ} {e : Doc} (h₁ : api-maturity b u ≡ ok m c₁ r₁) (h₂ : whitespace0 c₁ r₁ ≡ ok e c r) where
   after : {A : Type 0} (f : ℕ → Parser A) → after-maturity f b u ≡ f m c r
   unfolding after-maturity
@@ -259,11 +259,11 @@ started {s} {b} {u} {v} {r} {x} h q g e = rw e (record {
   counts = λ d.
       let t = declaration-try (s .kind) d (s .maturity) in
       let f : Parser Item = λ b u. no-nearer (s .«others_fail_at») (t b u) in
-      count-behind unhoisted-item (declaration d) f (raised-on (s .«others_fail_at») (declaration-on (s .kind) d (s .maturity))) (failNoEarlier r (s .«others_fail_at»)) q (sym (h .leaves d))
+      count-after unhoisted-item (declaration d) f (raised-on (s .«others_fail_at») (declaration-on (s .kind) d (s .maturity))) (failNoEarlier r (s .«others_fail_at»)) q (sym (h .leaves d))
       (count-no-earlier unhoisted-item t f (s .«others_fail_at») r (s .next) v (g .counts (record { kind = 0; place = 0; doc = d; maturity = s .maturity })) refl);
 })
 
--- An item is a declaration behind its blanks, or else the blanks.
+-- An item is a declaration after its blanks, or else the blanks.
 bind-same : {A B : Type 0} (m m' : Parser A) (k : A → Parser B) {b b' : ℕ} {u u' : List ℕ} → m b u ≡ m' b' u' → (m >>= k) b u ≡ (m' >>= k) b' u'
 unfolding _>>=_
 bind-same m m' k e = rw (e, _>>=_)
@@ -272,29 +272,29 @@ module _ (b : ℕ) (u : List ℕ) {d : Doc} {c : ℕ} {r : List ℕ} (h : whites
   clear : whitespace0 c r ≡ ok no-doc c r
   clear = blank-clear b u d c r h
 
-  cluster-behind : parse-cluster b u ≡ after-maturity (cluster-after-doc-maturity d) c r
+  cluster-after : parse-cluster b u ≡ after-maturity (cluster-after-doc-maturity d) c r
   unfolding parse-cluster after-maturity
-  cluster-behind = bind-ok _ _ h
+  cluster-after = bind-ok _ _ h
 
-  endpoint-behind : endpoint b u ≡ endpoint c r
+  endpoint-after : endpoint b u ≡ endpoint c r
   unfolding endpoint endpoint-head
-  endpoint-behind = bind-same _ _ _ (then-ok _ _ h ∙ sym (then-ok _ _ clear))
+  endpoint-after = bind-same _ _ _ (then-ok _ _ h ∙ sym (then-ok _ _ clear))
 
-  type-behind : {A : Type 0} (f : Doc → ℕ → Parser A) → with-doc-maturity f b u ≡ after-maturity (f d) c r
+  type-after : {A : Type 0} (f : Doc → ℕ → Parser A) → with-doc-maturity f b u ≡ after-maturity (f d) c r
   unfolding with-doc-maturity after-maturity
-  type-behind f = bind-ok _ _ h ∙ then-ok _ _ clear
+  type-after f = bind-ok _ _ h ∙ then-ok _ _ clear
 
   pub item-is : item b u ≡ ((λ x y. declaration d c r) or (whitespace1 >> ret blank-item)) b u
   unfolding item declaration
   item-is = assoc ∙ or-same _ _ _ _ same refl
     where
       same : (mapped parse-cluster cluster-item or (mapped endpoint endpoint-item or (mapped (with-doc-maturity parse-enum-after-doc-maturity) enum-item or (mapped (with-doc-maturity parse-bitmap-after-doc-maturity) bitmap-item or mapped (with-doc-maturity parse-struct-after-doc-maturity) struct-item)))) b u ≡ declaration d c r
-      same = or-same _ _ _ _ (mapped-same _ _ _ cluster-behind) (or-same _ _ _ _ (mapped-same _ _ _ endpoint-behind) (or-same _ _ _ _ (mapped-same _ _ _ (type-behind _)) (or-same _ _ _ _ (mapped-same _ _ _ (type-behind _)) (mapped-same _ _ _ (type-behind _)))))
+      same = or-same _ _ _ _ (mapped-same _ _ _ cluster-after) (or-same _ _ _ _ (mapped-same _ _ _ endpoint-after) (or-same _ _ _ _ (mapped-same _ _ _ (type-after _)) (or-same _ _ _ _ (mapped-same _ _ _ (type-after _)) (mapped-same _ _ _ (type-after _)))))
 
       assoc : item b u ≡ ((mapped parse-cluster cluster-item or (mapped endpoint endpoint-item or (mapped (with-doc-maturity parse-enum-after-doc-maturity) enum-item or (mapped (with-doc-maturity parse-bitmap-after-doc-maturity) bitmap-item or mapped (with-doc-maturity parse-struct-after-doc-maturity) struct-item)))) or (whitespace1 >> ret blank-item)) b u
       assoc = or-same _ _ _ _ refl (or-same _ _ _ _ refl (or-same _ _ _ _ refl (or-assoc _ _ _ b u) ∙ or-assoc _ _ _ b u) ∙ or-assoc _ _ _ b u) ∙ or-assoc _ _ _ b u
 
--- a declaration fails no nearer than where it stands
+-- a declaration fails no nearer than where it is
 declaration-past : (d : Doc) (b : ℕ) (u : List ℕ) → Past b (declaration d b u)
 unfolding declaration shiftItem
 declaration-past d b u = past-rest _ _ b u (past-first _ _ b u (moving-past {f = shiftItem} (λ n. shift-mapped n endpoint-item endpoint-item (λ e. refl) (shift-endpoint n)) b u))
@@ -338,7 +338,7 @@ module _ {b : ℕ} {u : List ℕ} {t : Blank} (w : BlankTo t b u) {v : List ℕ}
   unfolding rest
   item-words {n} {c} e =
       let s = count-took (declaration-walks d) q e (h .counts d) in
-      count-behind unhoisted-item item (declaration d) (declaration-walks d) x q (s .step .goes ∙ (or-here _ _ b u (s .value) c (drop (c - b) u) (sym (s .step .goes)) ∙ sym whole)) (h .counts d)
+      count-after unhoisted-item item (declaration d) (declaration-walks d) x q (s .step .goes ∙ (or-here _ _ b u (s .value) c (drop (c - b) u) (sym (s .step .goes)) ∙ sym whole)) (h .counts d)
 
   -- no blanks: nothing is left to try
   pub item-lost : t .next ≡ b → {l : Lost} → x ≡ NoCount l → CountTo unhoisted-item item (NoCount l) b u

@@ -1,4 +1,4 @@
--- Levels: keywords that stand for numbers, one of which the first letter leaves.
+-- Levels: keywords that stand for numbers, one of which the first letter selects.
 use mathlib.Core.Path.{_≡_, refl, sym, _∙_}
 use mathlib.Core.Bool.{true}
 use mathlib.Core.List.{List, [], _∷_}

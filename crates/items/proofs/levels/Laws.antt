@@ -25,9 +25,9 @@ use Rattle.items.specs.declared.levels.Level.the-variants.{Chosen, NoLev
 use Rattle.lexing.proofs.AnswerLaws.{read-within, read-took, read-lost, last-lost}
 use Rattle.items.proofs.Mapped.{mapped-ok}
 use Rattle.lexing.proofs.Pairs.{pair-on, pair-fall}
-use Rattle.lexing.proofs.names.Laws.{behind-on}
+use Rattle.lexing.proofs.names.Laws.{after-on}
 use Rattle.lexing.proofs.Calm.{Calm, calm-absent, calm-ret, calm-or, calm-bind, calm-then, calm-tag, calm-keyword, calm-blanks}
-use Rattle.lexing.proofs.steps.Laws.{tag-behind-took, keyword-behind-took}
+use Rattle.lexing.proofs.steps.Laws.{tag-after-took, keyword-after-took}
 use Rattle.lexing.proofs.Composed.{onward-then}
 use Rattle.lexing.proofs.answers.Laws.{opt-ok, skip-took, skip-lost}
 use Rattle.items.proofs.Locality.{access-privilege-local, access-to-inside, attribute-handling-type-local}
@@ -61,22 +61,22 @@ module _ {m : Parser ℕ} {a : Level} {b n : ℕ} {u : List ℕ} (h : LevelAt m 
 
 -- `access(`
 pub opening-on : Onward access-opening
-opening-on = behind-on (onward-then (walks (keyword-chain (ascii "access"))) (behind-on (advances-onward (tag-advances 40))))
+opening-on = after-on (onward-then (walks (keyword-chain (ascii "access"))) (after-on (advances-onward (tag-advances 40))))
 
 module _ {a : Step} {b : ℕ} {u : List ℕ} (h : SkipsAt (whitespace0 >> keyword (ascii "access")) a b u b) where
   pub opening-not : {l : Lost} → a ≡ Not l → Skips access-opening a b u
   opening-not {l} d = subst (λ (x : Step). Skips access-opening x b u) (sym d) (record { value = tt; reads = begin access-opening b u (pair-fall _ _ _ l (h .at) (skips-none d h)) })
 
   pub opening-is : (r : Step) {c : ℕ} → a ≡ Next c → SkipsAt (whitespace0 >> tag 40) r b u c → Skips access-opening r b u
-  opening-is (Next e) d k = record { value = k .skips .value; reads = begin access-opening b u (pair-on _ _ _ (keyword-behind-took (ascii "access") d h) (sym (tag-behind-took 40 refl k .goes))) }
-  opening-is (Not l) d k = record { value = tt; reads = begin access-opening b u (pair-on _ _ _ (keyword-behind-took (ascii "access") d h) (skips-none refl k)) }
+  opening-is (Next e) d k = record { value = k .skips .value; reads = begin access-opening b u (pair-on _ _ _ (keyword-after-took (ascii "access") d h) (sym (tag-after-took 40 refl k .goes))) }
+  opening-is (Not l) d k = record { value = tt; reads = begin access-opening b u (pair-on _ _ _ (keyword-after-took (ascii "access") d h) (skips-none refl k)) }
 
 -- `: privilege`
 privilege-on : Onward access-privilege
 privilege-on = walks (access-privilege-local .on-chain)
 
 pub colon-on : Onward colon-privilege
-colon-on = onward-then (advances-onward (tag-advances 58)) (behind-on privilege-on)
+colon-on = onward-then (advances-onward (tag-advances 58)) (after-on privilege-on)
 
 pub colon-after : (a : Level) {b n c e : ℕ} {u r : List ℕ} {d : Doc} → Rest b u n (drop (n - b) u) → Took (tag 58) b u n tt c → Took whitespace0 b u c d e → Rest b u e r → LevelTo access-privilege a e r → LevelAt colon-privilege a b u n
 colon-after (Chosen v x) {b} {n} {u = u} o t s q h =
@@ -106,7 +106,7 @@ module _ (k : List ℕ) (z : ℕ) {b : ℕ} {u : List ℕ} where
   unfolding or-else
   privilege-is {v} {c} h e = record { reads = mapped-ok (or-else z) (opt (whitespace0 >> access-to k)) b u (some v) c (drop (c - b) u) refl (opt-ok (whitespace0 >> access-to k) b u v c (drop (c - b) u) e); within = h }
 
--- a part behind another, from an offset
+-- a part after another, from an offset
 module _ {A B : Type 0} (k : Parser A) (m : Parser B) {b n : ℕ} {u : List ℕ} (q : Rest b u n (drop (n - b) u)) where
   pub skips-fall : (v : B) {a : Step} {l : Lost} → a ≡ Not l → lostReply l ≡ k n (drop (n - b) u) → SkipsAt (k >> m) a b u n
   skips-fall v {a} {l} d e = subst (λ (x : Step). SkipsAt (k >> m) x b u n) (sym d) (record { at = q; skips = record { value = v; reads = fall k m l q e } })

@@ -61,7 +61,7 @@ pub by-none : (k : List ℕ) (v b : ℕ) (u : List ℕ) {a : Step} → wordReply
 unfolding numbered ret
 by-none k v b u {a} h {l} e = let z : b - b ≡ 0 = omega arith in record { reads = rw z (or-next _ _ b u b 0 b u (keyword-not k v b u a h l e) refl); small = omega arith }
 
--- the first letter leaves one of them
+-- the first letter selects one of them
 abbrev levels : List (List ℕ × ℕ)
 levels = (ascii "stable", 0) ∷ (ascii "provisional", 1) ∷ (ascii "internal", 2) ∷ (ascii "deprecated", 3) ∷ []
 
@@ -75,7 +75,7 @@ maturity-other b u ys t x n h = let z : b - b ≡ 0 = omega arith in maturity-is
 pub maturity-took : {b n : ℕ} {u r : List ℕ} {t : Maturity} → Rest b u n r → MaturityTo api-maturity t n r → Took api-maturity b u n (t .level) (t .next)
 maturity-took = took-as maturity-on
 
--- the same with the blanks behind it
+-- the same with the blanks after it
 blanked-on : Onward maturity-blank
 blanked-on = onward-bind maturity-on (λ m. onward-then blanks-on (onward-ret m))
 
@@ -124,7 +124,7 @@ initials = refl
 pub initial-folded : (x : ℕ) → x < 256 → isInitial (bitOr x 0x20) ≡ isInitial (lower x)
 initial-folded = alike-at (λ x. isInitial (bitOr x 0x20)) (λ x. isInitial (lower x)) initials
 
--- none of their letters stands behind the blanks: no maturity, and no further blank
+-- none of their letters is after the blanks: no maturity, and no further blank
 pub between-none : {b n : ℕ} {u : List ℕ} {d : Doc} → Took whitespace0 b u b d n → {x y : ℕ} → x ≡ getD u (n - b) 0 → y ≡ lower x → {t : Bool} → t ≡ isInitial y → t ≡ false → MaturityTo maturity-between (record { level = 0; next = n }) b u
 between-none {b} {n} {u} k {x} {y} p e i f =
     let not : (j : ℕ) → isInitial j ≡ true → y ≡ j → ⊥ = λ j h w. true≢false (sym (ap isInitial w ∙ h) ∙ (sym i ∙ f)) in
@@ -135,6 +135,6 @@ between-none {b} {n} {u} k {x} {y} p e i f =
     let z : n - n ≡ 0 = omega arith in
     between-is k q (blanked-is {d = no-doc} (m .small) (took-as maturity-on (rest-self n r) m) (took blanks-on (rest-self n r) (rw z (sym (rest-clear k q)))))
 
--- where no blank stands before it, the blanks around it are those behind it
+-- where no blank is before it, the blanks around it are those after it
 pub between-clear : {b : ℕ} {u : List ℕ} {t : Maturity} → whitespace0 b u ≡ ok no-doc b u → MaturityTo maturity-between t b u → MaturityTo maturity-blank t b u
 between-clear c h = record { reads = h .reads ∙ then-ok whitespace0 maturity-blank c; up = h .up; inside = h .inside; small = h .small }

@@ -1,4 +1,4 @@
--- Members of clusters: which try a first word leaves.
+-- Members of clusters: which try a first word selects.
 use mathlib.Core.Path.{_≡_, refl, sym, ap, _∙_, subst}
 use mathlib.Core.Logic.{_⊎_, inl, inr}
 use mathlib.Core.Bool.{Bool, true, false, cond, _&&_, _||_, true≢false, false≢true}
@@ -28,7 +28,7 @@ use Rattle.items.specs.entries.{shared-before, choice-head, choice-after
 use Rattle.items.specs.structs.{struct-head, parse-struct-after-doc-maturity}
 use Rattle.items.specs.clusters.{revision, bitmap, enum, struct, attribute, command, event, member-tries}
 use Rattle.items.specs.inner.choices.{ChoiceFrom}
-use Rattle.items.specs.inner.structs.{StructFrom, behind-shared, not-shared}
+use Rattle.items.specs.inner.structs.{StructFrom, after-shared, not-shared}
 use Rattle.items.specs.declared.member_kinds.MemberStart.{MemberStart}
 use Rattle.items.specs.inner.member_kinds.{revision-starts, bitmap-starts, enum-starts, struct-starts, attribute-starts, command-starts, event-starts, is-ok, thirdLetterKind, member-try, same-kind, kind-number, fails-at, MemberFrom, KindTo}
 use Rattle.items.specs.declared.member_kinds.MemberKind.{MemberKind}
@@ -107,7 +107,7 @@ module _ (k : List ℕ) (b : ℕ) (u : List ℕ) (a : Step) (h : wordReply a b u
       go (there w c r q) = absurd (no l w c r (lost ∙ q))
       go (elsewhere q) = sym (any-none k b u q)
 
--- one test behind another
+-- one test after another
 pub any-yes : {t : Bool} (k : List ℕ) (ks : List (List ℕ)) (b : ℕ) (u : List ℕ) → t ≡ is-ok (any-keyword (k ∷ []) b u) → t ≡ true → true ≡ is-ok (any-keyword (k ∷ ks) b u)
 any-yes k ks b u e h = go (stands k b u)
   where
@@ -133,7 +133,7 @@ first-words Command = command-starts
 first-words Event = event-starts
 first-words Unknown = []
 
--- where none of them stands, and no blank, its try fails at the start
+-- where none of them is, and no blank, its try fails at the start
 kind-elsewhere : (b : ℕ) (u : List ℕ) → whitespace0 b u ≡ ok no-doc b u → (k : MemberKind) (d : Doc) (m : ℕ) → Frees b u (first-words k) → member-try k d m b u ≡ fail b
 unfolding member-try parse-bitmap-after-doc-maturity parse-enum-after-doc-maturity
 kind-elsewhere b u clear Revision d m f = revision-elsewhere b u f
@@ -211,7 +211,7 @@ kind-within {r} {b} h k = go (same-kind k (r .kind))
     go true = tt
     go false = low k
 
--- the tries of a member leave that of its kind
+-- of the tries of a member that of its kind is kept
 abbrev member-ends : MemberKind → (q b : ℕ) → List End
 member-ends j q b = kind-ends j q b Revision ∷ kind-ends j q b Bitmap ∷ kind-ends j q b Enum ∷ kind-ends j q b Struct ∷ kind-ends j q b Attribute ∷ kind-ends j q b Command ∷ kind-ends j q b Event ∷ []
 
@@ -273,7 +273,7 @@ shared-followed : (b : ℕ) (u : List ℕ) {w : Word} {c c₂ : ℕ} {r r₂ : L
 unfolding shared-before ret
 shared-followed b u k g = bind-ok _ _ k ∙ then-ok _ _ g
 
--- a struct behind `shared` and blanks
+-- a struct after `shared` and blanks
 struct-shared : (b : ℕ) (u : List ℕ) (d : Doc) (m : ℕ) {w : Word} {c c₂ : ℕ} {r r₂ : List ℕ} {e : Doc} → keyword (ascii "shared") b u ≡ ok w c r → whitespace0 c r ≡ ok e c₂ r₂
     → whitespace0 c₂ r₂ ≡ ok no-doc c₂ r₂ → Frees c₂ r₂ (ascii "fabric_scoped" ∷ ascii "struct" ∷ []) → member-try Struct d m b u ≡ fail c₂
 unfolding member-try parse-struct-after-doc-maturity struct-head struct-set
@@ -298,7 +298,7 @@ pub record OtherWord (b : ℕ) (u : List ℕ) : Type 0 where
   pub command : is-ok (any-keyword command-starts b u) ≡ false
   pub event : is-ok (any-keyword event-starts b u) ≡ false
 
--- where `shared` does not stand, every try goes on at its start
+-- where `shared` is not there, every try goes on at its start
 from-start : (b : ℕ) (u : List ℕ) → keyword (ascii "shared") b u ≡ fail b → (j : MemberKind) → MemberFrom j b b u
 from-start b u s Revision = tt
 from-start b u s Bitmap = choice-unshared b u s
@@ -335,7 +335,7 @@ none-among : (yss : List (List ℕ)) (x : ℕ) → NoneAmong yss x → NoneOf (j
 none-among [] x n = tt
 none-among (ys ∷ yss) x n = none-more ys (joined yss) x (n .1) (none-among yss x (n .0))
 
--- a first letter leaves no other kind, and so do all of some
+-- no kind but j begins with a letter; and so with each letter of a list
 abbrev leaves : MemberKind → ℕ → Bool
 leaves j y = all-of (λ k. same-kind k j || all-out ((0, y) ∷ []) (ascii "shared" ∷ []) (first-words k)) kinds
 
@@ -343,7 +343,7 @@ abbrev each-out : MemberKind → List ℕ → Bool
 each-out j [] = true
 each-out j (y ∷ ys) = leaves j y && each-out j ys
 
--- the first word leaves the try of its kind
+-- the first word selects the try of its kind
 module _ (b : ℕ) (u : List ℕ) (clear : whitespace0 b u ≡ ok no-doc b u) where
   at-start : (k : MemberKind) → fails-at b b k ≡ b
   at-start Revision = refl
@@ -362,18 +362,18 @@ module _ (b : ℕ) (u : List ℕ) (clear : whitespace0 b u ≡ ok no-doc b u) wh
   pub at-word : (j : MemberKind) (ks : List (List ℕ)) → all-of (λ k. same-kind k j || disjoint ks (first-words k)) kinds ≡ true → StartsAny ks u → keyword (ascii "shared") b u ≡ fail b → KindTo (record { kind = j; «others_fail_at» = b; from = b }) b u
   at-word j ks t s = at-free j (λ k e. starts-free s b (first-words k) (rw e at (every (λ k. same-kind k j || disjoint ks (first-words k)) t k)))
 
-  -- letters of the first word, and words that do not stand there, which leave no other kind
+  -- letters of the first word, and words that are not there, with which no other kind begins
   pub at-letters : (j : MemberKind) (ls : List (ℕ × ℕ)) (js : List (List ℕ)) → all-of (λ k. same-kind k j || all-out ls (ascii "shared" ∷ js) (first-words k)) kinds ≡ true → Letters u ls → Frees b u js → keyword (ascii "shared") b u ≡ fail b → KindTo (record { kind = j; «others_fail_at» = b; from = b }) b u
   at-letters j ls js t l f s = at-free j (λ k e. outs-free b u ls l (ascii "shared" ∷ js) (s, f) (first-words k) (rw e at (every (λ k. same-kind k j || all-out ls (ascii "shared" ∷ js) (first-words k)) t k))) s
 
-  -- the first letter is one of some, each of which leaves no other kind
+  -- the first letter is one of some, with each of which no other kind begins
   pub at-letter : (j : MemberKind) (ys : List ℕ) → each-out j ys ≡ true → (x : ℕ) → Among ys x → lower (getD u 0 0) ≡ x → keyword (ascii "shared") b u ≡ fail b → KindTo (record { kind = j; «others_fail_at» = b; from = b }) b u
   at-letter j [] t x o h s = absurd o
   at-letter j (y ∷ []) t x o h s = at-letters j ((0, y) ∷ []) [] (and-left (leaves j y) true t) (h ∙ o, tt) tt s
   at-letter j (y ∷ z ∷ ys) t x (inl o) h s = at-letters j ((0, y) ∷ []) [] (and-left (leaves j y) (each-out j (z ∷ ys)) t) (h ∙ o, tt) tt s
   at-letter j (y ∷ z ∷ ys) t x (inr o) h s = at-letter j (z ∷ ys) (and-right (leaves j y) (each-out j (z ∷ ys)) t) x o h s
 
-  -- one of two kinds is left, by whether a word stands there
+  -- one of two kinds is selected, by whether a word is there
   pub at-either : (j j' : MemberKind) (k : List ℕ) (y : ℕ) (js : List (List ℕ)) → all-of (λ i. same-kind i j || disjoint (k ∷ []) (first-words i)) kinds ≡ true → all-of (λ i. same-kind i j' || all-out ((0, y) ∷ []) (ascii "shared" ∷ k ∷ js) (first-words i)) kinds ≡ true
       → lower (getD u 0 0) ≡ y → Frees b u js → keyword (ascii "shared") b u ≡ fail b → {r : MemberKind} → r ≡ cond (is-ok (any-keyword (k ∷ []) b u)) j j' → KindTo (record { kind = r; «others_fail_at» = b; from = b }) b u
   at-either j j' k y js t t' h f s e = subst (λ (x : MemberKind). KindTo (record { kind = x; «others_fail_at» = b; from = b }) b u) (sym e) (go (is-ok (any-keyword (k ∷ []) b u)) refl)
@@ -444,7 +444,7 @@ module _ (b : ℕ) (u : List ℕ) (clear : whitespace0 b u ≡ ok no-doc b u) wh
         n : (d : Doc) (m : ℕ) (j : List ℕ) → disjoint (ascii "shared" ∷ []) (j ∷ []) ≡ true → choice-after-doc-maturity j d m b u ≡ fail b
         n d m j t = choice-not-shared b u d m (shared-unfollowed b u k e) j (other-words (j ∷ []) t .0)
 
-    -- a blank follows, up to c₂: the word behind it decides
+    -- a blank follows, up to c₂: the word after it decides
     module _ {e : Doc} {c₂ : ℕ} {r₂ : List ℕ} (g : whitespace1 c r ≡ ok e c₂ r₂) (g₀ : whitespace0 c r ≡ ok e c₂ r₂) (h : b ≤ c₂) where
       no-bitmap : Frees c₂ r₂ (ascii "bitmap" ∷ []) → (d : Doc) (m : ℕ) → member-try Bitmap d m b u ≡ fail c₂
       no-bitmap f d m = as-bitmap b u d m (choice-shared b u d m (shared-followed b u k g) (ascii "bitmap") (f .0))
@@ -466,7 +466,7 @@ module _ (b : ℕ) (u : List ℕ) (clear : whitespace0 b u ≡ ok no-doc b u) wh
       pub at-shared-struct : StructFrom c₂ b u → Frees c₂ r₂ (ascii "bitmap" ∷ []) → Frees c₂ r₂ (ascii "enum" ∷ []) → KindTo (record { kind = Struct; «others_fail_at» = c₂; from = c₂ }) b u
       at-shared-struct v f f' = at-type Struct v c₂ h (λ d m z. no-bitmap f d m) (λ d m z. no-enum f' d m) (λ d m z. absurd (true≢false z))
 
--- behind `shared`
+-- after `shared`
 module _ (b : ℕ) (u : List ℕ) (clear : whitespace0 b u ≡ ok no-doc b u) (c : ℕ) (k : wordReply (Next c) b u ≡ keyword (ascii "shared") b u) {r : List ℕ} (q : Rest b u c r) (t : Blank) (w : BlankTo t c r) where
   word-is : keyword (ascii "shared") b u ≡ ok (wordAt b u c) c (drop (c - b) u)
   word-is = sym k
@@ -475,29 +475,29 @@ module _ (b : ℕ) (u : List ℕ) (clear : whitespace0 b u ≡ ok no-doc b u) (c
   blank = blank-took q w
 
   goes-on : StructFrom (t .next) b u
-  goes-on = behind-shared c k (blank-is q w)
+  goes-on = after-shared c k (blank-is q w)
 
   pub kind-alone : t .next ≡ c → KindTo (record { kind = Struct; «others_fail_at» = b; from = t .next }) b u
   kind-alone z = at-shared b u clear word-is goes-on (ap (whitespace1 c) (sym (q .same)) ∙ sym (gap-none c r t w z))
 
   module _ (z : t .next ≡ c → ⊥) where
-    behind : whitespace1 c (drop (c - b) u) ≡ ok (docOf (t .doc)) (t .next) (drop (t .next - b) u)
-    behind = ap (whitespace1 c) (sym (q .same)) ∙ (sym (gap-some c r t w z) ∙ (w .reads ∙ (ap (whitespace0 c) (q .same) ∙ blank .goes)))
+    following : whitespace1 c (drop (c - b) u) ≡ ok (docOf (t .doc)) (t .next) (drop (t .next - b) u)
+    following = ap (whitespace1 c) (sym (q .same)) ∙ (sym (gap-some c r t w z) ∙ (w .reads ∙ (ap (whitespace0 c) (q .same) ∙ blank .goes)))
 
     up : b ≤ t .next
     up = omega (arith, q .from, w .up)
 
     choice-goes-on : ChoiceFrom (t .next) b u
-    choice-goes-on = record { value = some (wordAt b u c); reads = opt-ok _ _ _ _ _ _ (sym (shared-followed b u word-is behind)) }
+    choice-goes-on = record { value = some (wordAt b u c); reads = opt-ok _ _ _ _ _ _ (sym (shared-followed b u word-is following)) }
 
     pub kind-bitmap : StartsAny (ascii "bitmap" ∷ []) (drop (t .next - b) u) → KindTo (record { kind = Bitmap; «others_fail_at» = t .next; from = t .next }) b u
-    kind-bitmap s = at-shared-bitmap b u clear word-is behind (blank .goes) up choice-goes-on s
+    kind-bitmap s = at-shared-bitmap b u clear word-is following (blank .goes) up choice-goes-on s
 
     pub kind-enum : StartsAny (ascii "enum" ∷ []) (drop (t .next - b) u) → KindTo (record { kind = Enum; «others_fail_at» = t .next; from = t .next }) b u
-    kind-enum s = at-shared-enum b u clear word-is behind (blank .goes) up choice-goes-on s
+    kind-enum s = at-shared-enum b u clear word-is following (blank .goes) up choice-goes-on s
 
     pub kind-struct : Frees (t .next) (drop (t .next - b) u) (ascii "bitmap" ∷ []) → Frees (t .next) (drop (t .next - b) u) (ascii "enum" ∷ []) → KindTo (record { kind = Struct; «others_fail_at» = t .next; from = t .next }) b u
-    kind-struct f f' = at-shared-struct b u clear word-is behind (blank .goes) up goes-on f f'
+    kind-struct f f' = at-shared-struct b u clear word-is following (blank .goes) up goes-on f f'
 
 pub keyword-read : (k : List ℕ) (b : ℕ) (u : List ℕ) (a : Step) (c : ℕ) → a ≡ Next c → wordReply a b u ≡ keyword k b u → wordReply (Next c) b u ≡ keyword k b u
 keyword-read k b u a c e h = told-next (wordAt b u) a c b u (keyword k b u) e h

@@ -30,7 +30,7 @@ use Rattle.items.specs.records.{at, bits, value, word-extent, documented
 use Rattle.lexing.specs.buffers.{each, words-bytes, put}
 use Rattle.items.specs.layout.{packed, width, from-top, offset, size, layout, further-word, record-words, catalogue-words, catalogue-bytes, word-count, text-limit}
 use Rattle.items.specs.answers.{Front, first-of, docWord, docBit, frontOf}
-use Rattle.items.specs.inner.structs.{StructFrom, behind-shared, not-shared, typeOf, headAt, headLost, HeadBetween, StructHeadTo, kindBy, typeBy, struct-words, StructWordTo, codeReply, kindNumber, responseNumber, struct-first}
+use Rattle.items.specs.inner.structs.{StructFrom, after-shared, not-shared, typeOf, headAt, headLost, HeadBetween, StructHeadTo, kindBy, typeBy, struct-words, StructWordTo, codeReply, kindNumber, responseNumber, struct-first}
 use Rattle.items.specs.declared.writing.FrontParts.{FrontParts}
 use Rattle.items.specs.declared.structs.StructKind.{StructKind}
 use Rattle.items.specs.declared.structs.StructKind.the-variants.{Regular, Request, Response, Shared}
@@ -87,7 +87,7 @@ keyword-bytes : (k u : List ℕ) {b c : ℕ} → ok (wordAt b u c) c (drop (c - 
 unfolding bytesOf
 keyword-bytes k u {b} {c} e = rw (← e) at (keyword-says k b u)
 
--- the keyword k, which says the kind x, and the blanks behind it
+-- the keyword k, which says the kind x, and the blanks after it
 pub word-is : (k : List ℕ) (x t : StructKind) {b c n : ℕ} {u : List ℕ} → ok (wordAt b u c) c (drop (c - b) u) ≡ keyword k b u → type-by-word k ≡ typeBy x
     → t ≡ kindBy (isLower (take (c - b) u)) x → BlankAt n b u c → StructWordTo (keyword k) (record { kind = t; next = n }) b u
 unfolding struct-type-of bytesOf
@@ -116,7 +116,7 @@ opt-further {A} m k p {b} {u} h = go (m b u) refl
     go (fail q) e = sym (opt-fail m b u q (sym e)) ∙ opt-fail k b u _ (sym (h ∙ ap (no-nearer p) e))
     go (stop n q) e = sym (opt-stop m b u n q (sym e)) ∙ opt-stop k b u n q (sym (h ∙ ap (no-nearer p) e))
 
--- the word among those that may stand there
+-- the word among those that may be there
 word-among : {m k : Parser Word} {b : ℕ} {u : List ℕ} {t : StructWord} → opt m b u ≡ opt k b u → StructWordTo m t b u → StructWordTo k t b u
 word-among e h = record { read = h .read; end = h .end; reads = h .reads ∙ e; means = h .means; blanks = h .blanks }
 
@@ -160,7 +160,7 @@ six-bytes {f} {b} {u} c k g =
 
 module _ {f b : ℕ} {u : List ℕ} where
   shared-word : StructFrom f b u → b < f → SharedWord f b u
-  shared-word (behind-shared c k g) l = six-bytes c k g
+  shared-word (after-shared c k g) l = six-bytes c k g
   shared-word (not-shared e k) l = absurd (omega (arith, e, l))
 
   pub shared-fits : StructFrom f b u → b < f → 6 ≤ length u
@@ -174,7 +174,7 @@ module _ {f b : ℕ} {u : List ℕ} where
 
   -- nor is it there where a struct goes on at its start
   pub word-unshared : StructFrom f b u → f ≤ b → fail b ≡ keyword (ascii "shared") b u
-  word-unshared (behind-shared c k g) l = let s = six-bytes c k g in absurd (omega (arith, s .six, blank-at-took (s .blanks) .up, l))
+  word-unshared (after-shared c k g) l = let s = six-bytes c k g in absurd (omega (arith, s .six, blank-at-took (s .blanks) .up, l))
   word-unshared (not-shared e k) l = sym k
 
 pub struct-word-took : {b n : ℕ} {u r : List ℕ} {t : StructWord} → Rest b u n r → (h : StructWordTo (any-keyword struct-words) t n r) → Took (opt (any-keyword struct-words)) b u n (h .read) (h .end)

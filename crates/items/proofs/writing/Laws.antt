@@ -1,4 +1,4 @@
--- Words written over a buffer, one behind the other.
+-- Words written over a buffer, one after the other.
 use mathlib.Core.Path.{_≡_, refl, sym, ap, _∙_, subst}
 use mathlib.Core.List.{List, [], _∷_, _++_, map, append-assoc, append-nil}
 use mathlib.Core.Bool.{Bool, true, false}
@@ -36,7 +36,7 @@ bit-small false = omega arith
 pub doc-fits-at : (d : DocSpan) {o n : ℕ} → d ≡ At o n → DocFits d → (o ≤ text-limit) × (n ≤ text-limit)
 doc-fits-at d e h = subst (λ (x : DocSpan). DocFits x) e h
 
--- a doc comment that stands in a run of blanks
+-- a doc comment that is in a run of blanks
 doc-at-limit : (d : DocSpan) (b c : ℕ) → DocIn b c (docOf d) → c ≤ text-limit → DocFits d
 doc-at-limit Absent b c h i = tt
 doc-at-limit (At o n) b c h i = (omega (arith, h .1, i), omega (arith, h .1, i))
@@ -85,7 +85,7 @@ pub plain-bytes : (k m : ℕ) (fl : List Bits) (e : Extent) (l : List Further) (
 unfolding catalogue-bytes catalogue-words each record-words layout plain
 plain-bytes k m fl e l g h = rw h (ap words-bytes (append-nil _))
 
--- A loop that writes the records of a repetition: those of the elements so far stand in the buffer.
+-- A loop that writes the records of a repetition: those of the elements so far are in the buffer.
 pub record Writing {A : Type 0} (f : List A → List Record) (m : Parser A) (b : ℕ) (u : List ℕ) (c at : ℕ) (old new : List ℕ) (to : ℕ) : Type 0 where
   pub seen : List A
   pub run : ManyAt m b u c seen

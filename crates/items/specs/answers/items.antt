@@ -16,7 +16,7 @@ use Rattle.items.specs.endpoints.{endpoint}
 abbrev pub unhoisted-item : Item → List Record
 unhoisted-item i = item-records 1 (λ m. 0) i
 
--- An item behind the blanks, whose doc comment is d: a declaration is an item that is not blank.
+-- An item after the blanks, whose doc comment is d: a declaration is an item that is not blank.
 unfoldable pub after-maturity : {A : Type 0} → (ℕ → Parser A) → Parser A
 after-maturity f = do
   m ← api-maturity

@@ -50,7 +50,7 @@ privilegesSmall b (NoPrivileges l) = Unit {0}
 abbrev pub PrivilegesTo : PrivilegesRead → ℕ → List ℕ → Type 0
 PrivilegesTo r b u = ReadTo privilegesAnswer privilegesSmall attribute-access r b u
 
--- an attribute, whatever stands before it
+-- an attribute, whatever is before it
 abbrev pub AttributeCountTo : Count → ℕ → List ℕ → Type 0
 AttributeCountTo r b u = CountsTo {I = Front} (λ i. attribute-records) (λ i. parse-attribute-after-doc-maturity (i .doc) (i .maturity)) r b u
 

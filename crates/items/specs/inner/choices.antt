@@ -14,7 +14,7 @@ use Rattle.items.specs.declared.choices.ChoiceHeadRead.{ChoiceHeadRead}
 use Rattle.items.specs.declared.choices.ChoiceHeadRead.the-variants.{ChoiceHead, NoChoiceHead}
 use Rattle.items.specs.declared.writing.FrontParts.{FrontParts}
 
--- where an enum or a bitmap goes on: behind `shared` and its blanks, or at its start where they are not there
+-- where an enum or a bitmap goes on: after `shared` and its blanks, or at its start where they are not there
 abbrev pub ChoiceFrom : ℕ → ℕ → List ℕ → Type 0
 ChoiceFrom f b u = Skips (opt shared-before) (Next f) b u
 

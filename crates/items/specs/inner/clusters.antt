@@ -50,7 +50,7 @@ unhoisted-records c = cluster-records (λ m. 0) c
 abbrev pub ClusterCountTo : Count → ℕ → List ℕ → Type 0
 ClusterCountTo r b u = CountsTo {I = Front} (λ i. unhoisted-records) (λ i. cluster-after-doc-maturity (i .doc) (i .maturity)) r b u
 
--- members behind their opening brace, with the closing one
+-- members after their opening brace, with the closing one
 unfoldable pub members-rest : Parser (List Member)
 members-rest = do
   ms ← cluster-members

@@ -82,7 +82,7 @@ commandTypesWithin b (NoCommandTypes l) = Unit {0}
 abbrev pub CommandTypesTo : CommandTypesRead → ℕ → List ℕ → Type 0
 CommandTypesTo r b u = ReadTo commandTypesAnswer commandTypesWithin command-types r b u
 
--- a command, whatever stands before it
+-- a command, whatever is before it
 abbrev pub commandAt : Doc → ℕ → ℕ → List ℕ → CommandParts → CommandOf
 commandAt d m b u p = record {
   doc = d;

@@ -5,7 +5,7 @@ use mathlib.Core.List.{List}
 use Rattle.lexing.specs.bytes.{byte}
 use Rattle.lexing.specs.words.{tag}
 use Rattle.lexing.specs.declared.answers.Lost.{Lost}
-use Rattle.lexing.specs.answers.{Fail, Stop, onLost, SkipsAt, behind-blanks}
+use Rattle.lexing.specs.answers.{Fail, Stop, onLost, SkipsAt, after-blanks}
 use Rattle.items.specs.declared.counts.Count.{Count}
 use Rattle.items.specs.declared.counts.Count.the-variants.{Words, NoCount}
 use lib.ListN.{length}
@@ -31,10 +31,10 @@ abbrev pub closedCount : ℕ → Step → Count
 closedCount n (Next c) = Words n c
 closedCount n (Not l) = NoCount l
 
--- n words up to c, and the closing brace behind blanks
+-- n words up to c, and the closing brace after blanks
 pub record Closing (n c : ℕ) (r : Count) (b : ℕ) (u : List ℕ) : Type 0 where
   pub close : Step
-  pub skips : SkipsAt (behind-blanks (tag (byte "}"))) close b u c
+  pub skips : SkipsAt (after-blanks (tag (byte "}"))) close b u c
   pub is : r ≡ closedCount n close
 
 -- the same of a count, which may be lost

@@ -59,7 +59,7 @@ OptionalTo m r b u = ReadTo defaultAnswer DefaultReadIn (opt m) r b u
 abbrev pub DefaultTo : DefaultRead → ℕ → List ℕ → Type 0
 DefaultTo r b u = OptionalTo (whitespace1 >> default-attribute-value) r b u
 
--- no number stands at b, as the value of a default
+-- no number is at b, as the value of a default
 pub record NoNumberAt (b : ℕ) (u : List ℕ) : Type 0 where
   pub unsigned : fail b ≡ mapped positive-integer number b u
   pub with-sign : fail b ≡ mapped signed-integer signed-number b u

@@ -71,11 +71,11 @@ pub record TriedTo {A : Type 0} (one : A → List Record) (f : ℕ → Parser (T
   pub reads : reply (triedAnswer b (countAnswer r)) b u ≡ weighed one (f b) b u
   pub few : Few r b
 
--- the closing brace behind tries whose furthest place is q
+-- the closing brace after tries whose furthest place is q
 unfoldable pub deep-close : ℕ → Parser (Unit {0})
 deep-close q = catch (whitespace0 >> tag (byte "}")) (λ p. failAt (max p q))
 
--- tries behind their opening brace, with the closing one: what was read, and its list
+-- tries after their opening brace, with the closing one: what was read, and its list
 abbrev pub deep-tail : {A : Type 0} → (ℕ → Parser (TriedOf A)) → Parser (Deep A)
 deep-tail f = do
   s ← deep-run f

@@ -27,7 +27,7 @@ use Rattle.items.specs.declared.items.DeclarationStart.{DeclarationStart
 abbrev pub cluster-starts : List (List ℕ)
 cluster-starts = ascii "client" ∷ ascii "server" ∷ ascii "cluster" ∷ []
 
--- the kind of a declaration by that of a member: types stand at the top too
+-- the kind of a declaration by that of a member: types are at the top too
 abbrev pub typeKind : MemberKind → DeclarationKind
 typeKind Revision = NoDeclaration
 typeKind Bitmap = BitmapType
@@ -47,7 +47,7 @@ declaration-try BitmapType d m = mapped (parse-bitmap-after-doc-maturity d m) bi
 declaration-try StructType d m = mapped (parse-struct-after-doc-maturity d m) struct-item
 declaration-try NoDeclaration d m = λ b u. fail b
 
--- where it goes on: `shared` may stand before a type
+-- where it goes on: `shared` may be before a type
 abbrev pub DeclarationFrom : DeclarationKind → ℕ → ℕ → List ℕ → Type 0
 DeclarationFrom Cluster f b u = Unit {0}
 DeclarationFrom Endpoint f b u = Unit {0}
@@ -60,7 +60,7 @@ DeclarationFrom NoDeclaration f b u = Unit {0}
 abbrev pub KindCountTo : DeclarationKind → Count → ℕ → List ℕ → Type 0
 KindCountTo k r b u = CountsTo {I = Front} (λ i. unhoisted-item) (λ i. declaration-try k (i .doc) (i .maturity)) r b u
 
--- the tries of a declaration are that of its kind, behind its maturity; the others fail, no further than at the floor
+-- the tries of a declaration are that of its kind, after its maturity; the others fail, no further than at the floor
 pub record StartTo (r : DeclarationStart) (b : ℕ) (u : List ℕ) : Type 0 where
   pub from : b ≤ r .next
   pub inside : r .next ≤ b + length u

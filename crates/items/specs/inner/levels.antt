@@ -6,7 +6,7 @@ use Rattle.lexing.specs.bytes.{ascii, byte}
 use Rattle.lexing.specs.reply.{Parser, ret, _>>_, opt}
 use Rattle.lexing.specs.words.{keyword, tag}
 use Rattle.lexing.specs.blanks.{whitespace0}
-use Rattle.lexing.specs.answers.{Rest, Answer, got, lost, ReadTo, behind-blanks, Fail}
+use Rattle.lexing.specs.answers.{Rest, Answer, got, lost, ReadTo, after-blanks, Fail}
 use Rattle.lexing.specs.declared.answers.Lost.{Lost}
 use Rattle.items.specs.members.{access-privilege, or-else, access-to}
 use Rattle.items.specs.clusters.{mapped}
@@ -53,7 +53,7 @@ colon-privilege = do
   whitespace0
   access-privilege
 
--- a privilege in parentheses, behind blanks; it may be absent, and is z then
+-- a privilege in parentheses, after blanks; it may be absent, and is z then
 abbrev pub privilegeAnswer : ℕ → List ℕ → Privilege → Answer ℕ
 privilegeAnswer b u r = got (r .level) (r .next)
 
@@ -61,4 +61,4 @@ abbrev pub privilegeSmall : ℕ → Privilege → Type 0
 privilegeSmall b r = r .level < 4
 
 abbrev pub PrivilegeTo : List ℕ → ℕ → Privilege → ℕ → List ℕ → Type 0
-PrivilegeTo k z r b u = ReadTo privilegeAnswer privilegeSmall (mapped (opt (behind-blanks (access-to k))) (or-else z)) r b u
+PrivilegeTo k z r b u = ReadTo privilegeAnswer privilegeSmall (mapped (opt (after-blanks (access-to k))) (or-else z)) r b u

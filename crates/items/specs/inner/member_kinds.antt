@@ -1,4 +1,4 @@
--- What a member is by its first word, and which try is left.
+-- What a member is by its first word, and which try that selects.
 use Prim.Native.Nat.{ℕ, _-_, _≤_}
 use mathlib.Core.Path.{_≡_}
 use mathlib.Core.Bool.{Bool, true, false, cond}
@@ -74,7 +74,7 @@ kind-number Unknown = 7
 abbrev pub same-kind : MemberKind → MemberKind → Bool
 same-kind j k = eqb (kind-number j) (kind-number k)
 
--- where the try of a kind fails that the first word doesn't leave: a type's at the floor, another member's at the start
+-- where the try of a kind fails that the first word doesn't select: a type's at the floor, another member's at the start
 abbrev pub fails-at : (floor start : ℕ) → MemberKind → ℕ
 fails-at q b Revision = b
 fails-at q b Bitmap = q
@@ -85,7 +85,7 @@ fails-at q b Command = b
 fails-at q b Event = b
 fails-at q b Unknown = b
 
--- where the try of a kind goes on: `shared` may stand before a type
+-- where the try of a kind goes on: `shared` may be before a type
 abbrev pub MemberFrom : MemberKind → ℕ → ℕ → List ℕ → Type 0
 MemberFrom Revision f b u = Unit {0}
 MemberFrom Bitmap f b u = ChoiceFrom f b u
@@ -96,7 +96,7 @@ MemberFrom Command f b u = Unit {0}
 MemberFrom Event f b u = Unit {0}
 MemberFrom Unknown f b u = Unit {0}
 
--- a first word leaves the try of one kind: those of all others fail
+-- a first word selects the try of one kind: those of all others fail
 pub record KindTo (r : MemberStart) (b : ℕ) (u : List ℕ) : Type 0 where
   pub up : b ≤ r .«others_fail_at»
   pub others : (k : MemberKind) → same-kind k (r .kind) ≡ false → (d : Doc) (m : ℕ) → member-try k d m b u ≡ fail (fails-at (r .«others_fail_at») b k)

@@ -29,9 +29,9 @@ MemberCountTo m r b u = CountsTo {I = ℕ} (λ p. member-records (λ x. p)) (λ 
 
 -- The second pass.
 
--- a member behind the blanks before it, which hold its doc comment
-unfoldable pub member-behind : Doc → Parser Member
-member-behind d = do
+-- a member after the blanks before it, which hold its doc comment
+unfoldable pub member-after : Doc → Parser Member
+member-after d = do
   m ← api-maturity
   whitespace0
   member-tries d m

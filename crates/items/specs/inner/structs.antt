@@ -24,9 +24,9 @@ use Rattle.lexing.specs.declared.integers.Number.the-variants.{Value, NoNumber}
 use Rattle.items.specs.declared.structs.StructWord.{StructWord}
 use Rattle.items.specs.declared.writing.FrontParts.{FrontParts}
 
--- where a struct goes on: behind `shared` and the blanks that may follow it, or at its start where it is not there
+-- where a struct goes on: after `shared` and the blanks that may follow it, or at its start where it is not there
 pub data StructFrom (f b : ℕ) (u : List ℕ) : Type 0 where
-  behind-shared : (c : ℕ) → wordReply (Next c) b u ≡ keyword (ascii "shared") b u → BlankAt f b u c → StructFrom f b u
+  after-shared : (c : ℕ) → wordReply (Next c) b u ≡ keyword (ascii "shared") b u → BlankAt f b u c → StructFrom f b u
   not-shared : f ≡ b → keyword (ascii "shared") b u ≡ fail b → StructFrom f b u
 
 -- the type of a struct by its kind and the code of a response
@@ -70,18 +70,18 @@ abbrev pub kindBy : Bool → StructKind → StructKind
 kindBy true k = k
 kindBy false k = Regular
 
--- what a kind reads behind the struct's name
+-- what a kind reads after the struct's name
 unfoldable pub typeBy : StructKind → Parser StructType
 typeBy Regular = ret regular
 typeBy Request = ret request
 typeBy Response = response-code
 typeBy Shared = ret shared
 
--- the words that may stand before a struct
+-- the words that may be before a struct
 abbrev pub struct-words : List (List ℕ)
 struct-words = ascii "request" ∷ ascii "response" ∷ ascii "shared" ∷ []
 
--- the word before a struct, which m reads, by the kind that it says, and the blanks behind it
+-- the word before a struct, which m reads, by the kind that it says, and the blanks after it
 pub record StructWordTo (m : Parser Word) (r : StructWord) (b : ℕ) (u : List ℕ) : Type 0 where
   pub read : Option Word
   pub end : ℕ

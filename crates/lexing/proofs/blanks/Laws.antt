@@ -153,7 +153,7 @@ kind-zero : (b : ℕ) (u : List ℕ) → comment-kind b 0 u ≡ plain
 unfolding comment-kind
 kind-zero b u = refl
 
--- behind a slash, by the second byte
+-- after a slash, by the second byte
 no-star : (b y : ℕ) (u : List ℕ) → (y ≡ star → ⊥) → block-comment b (slash ∷ y ∷ u) ≡ fail b
 unfolding block-comment
 no-star b y u g = rw (ne-eqb y star g, block-comment)
@@ -260,7 +260,7 @@ group-neither b (x ∷ u) s y ey ne = sym (no-group b x u (rw (ne-eqb x slash (�
 pub group-none : (b n : ℕ) (u : List ℕ) → n ≡ length (takeWhile isSpace u) → n ≤ 0 → (x : ℕ) → x ≡ getD u 0 0 → (x ≡ slash → ⊥) → fail b ≡ whitespace-group b u
 group-none b n u e h = let z : length (takeWhile isSpace u) ≡ 0 = omega arith in group-neither b u (rw z at (run-stops isSpace no-space u))
 
--- a doc comment's text stands behind its first bytes, so its offset is not 0
+-- a doc comment's text is after its first bytes, so its offset is not 0
 pub doc-some : (o n : ℕ) → (o ≡ 0 → ⊥) → doc-at o n ≡ docBy o n
 doc-some zero n h = absurd (h refl)
 doc-some (suc o) n h = refl
@@ -320,7 +320,7 @@ module _ (b : ℕ) (u : List ℕ) (at : ℕ) (r : List ℕ) (q : Rest b u at r) 
     pub doc-fits : (n : ℕ) → g ≡ DocComment n → at + (n + 5) ≤ b + length u
     doc-fits n e = fits (doc-comment (at + 3) n) (n + 5) (told (DocComment n) e)
 
--- white space at c is passed as well, up to n, and none stands behind it
+-- white space at c is passed as well, up to n, and none is after it
 module _ (b : ℕ) (u : List ℕ) (c : ℕ) (d : Doc) (i : IterAt one-blank keep no-doc b u c d) where
   pass : (m : ℕ) → m ≡ length (takeWhile isSpace (drop (c - b) u)) → IterAt one-blank keep no-doc b u (c + m) d
   pass zero e = let z : c + 0 ≡ c = omega arith in rw z i
@@ -331,7 +331,7 @@ module _ (b : ℕ) (u : List ℕ) (c : ℕ) (d : Doc) (i : IterAt one-blank keep
   record Passed (n : ℕ) : Type 0 where
     run : IterAt one-blank keep no-doc b u n d
     up : c ≤ n
-    behind : isSpace (getD u (n - b) 0) ≡ false
+    following : isSpace (getD u (n - b) 0) ≡ false
 
   white-passed : (n : ℕ) → n ≡ c + length (takeWhile isSpace (drop (c - b) u)) → Passed n
   white-passed n e =
@@ -339,19 +339,19 @@ module _ (b : ℕ) (u : List ℕ) (c : ℕ) (d : Doc) (i : IterAt one-blank keep
       record {
         run = rw e (pass _ refl);
         up = omega arith;
-        behind = ap (λ (k : ℕ). isSpace (getD u k 0)) z ∙ (ap isSpace (sym (getD-drop (c - b) u _ 0)) ∙ run-stops isSpace no-space (drop (c - b) u));
+        following = ap (λ (k : ℕ). isSpace (getD u k 0)) z ∙ (ap isSpace (sym (getD-drop (c - b) u _ 0)) ∙ run-stops isSpace no-space (drop (c - b) u));
       }
 
--- the invariant of a run: no white space stands behind it
+-- the invariant of a run: no white space is after it
 pub record BlanksAt (b : ℕ) (u : List ℕ) (t : Run) : Type 0 where
   pub run : IterAt one-blank keep no-doc b u (t .next) (docBy (t .doc) (t .size))
-  pub behind : isSpace (getD u (t .next - b) 0) ≡ false
+  pub following : isSpace (getD u (t .next - b) 0) ≡ false
 
 pub blanks-start : (b : ℕ) (u : List ℕ) (n : ℕ) → n ≡ b + length (takeWhile isSpace u) → BlanksAt b u (record { next = n; doc = 0; size = 0 })
 blanks-start b u n e =
     let z : b - b ≡ 0 = omega arith in
     let w = white-passed b u b no-doc (iter-start one-blank keep no-doc b u) n (rw z e) in
-    record { run = w .run; behind = w .behind }
+    record { run = w .run; following = w .following }
 
 module _ (b : ℕ) (u : List ℕ) (t : Run) (i : BlanksAt b u t) (r : Turn) (h : turnReply r (t .next) (drop (t .next - b) u) ≡ one-blank (docBy (t .doc) (t .size)) (t .next) (drop (t .next - b) u)) where
   turned : (k : Turn) → r ≡ k → turnReply k (t .next) (drop (t .next - b) u) ≡ one-blank (docBy (t .doc) (t .size)) (t .next) (drop (t .next - b) u)
@@ -366,7 +366,7 @@ module _ (b : ℕ) (u : List ℕ) (t : Run) (i : BlanksAt b u t) (r : Turn) (h :
     pub blanks-again : (n : ℕ) → n ≡ c .next + length (takeWhile isSpace (drop (c .next - b) u)) → BlanksAt b u (record { next = n; doc = c .doc; size = c .size }) × (t .next < n)
     blanks-again n k =
         let w = white-passed b u (c .next) _ (blanks-comment .0) n k in
-        (record { run = w .run; behind = w .behind }, omega (arith, blanks-comment .1, w .up))
+        (record { run = w .run; following = w .following }, omega (arith, blanks-comment .1, w .up))
 
   pub blanks-end : r ≡ Done → RunTo t b u
   unfolding keep whitespace0
@@ -389,9 +389,9 @@ blanks-alone b u n e x ex ne =
     let q = rest-from b (b + n) u (i .run .from) (i .run .inside) in
     let z : b + n - b ≡ n = omega arith in
     let y : x ≡ getD (drop (b + n - b) u) 0 0 = ex ∙ sym (first-of (b + n - b) u ∙ ap (λ (m : ℕ). getD u m 0) z) in
-    blanks-end b u (record { next = b + n; doc = 0; size = 0 }) i Done (turn-other b u (b + n) (drop (b + n - b) u) q no-doc (i .behind) x y ne) refl
+    blanks-end b u (record { next = b + n; doc = 0; size = 0 }) i Done (turn-other b u (b + n) (drop (b + n - b) u) q no-doc (i .following) x y ne) refl
 
--- no byte above the slash starts a blank, and behind a single space none ends the run
+-- no byte above the slash starts a blank, and after a single space none ends the run
 above-slash : (x : ℕ) → slash < x → isSpace x ≡ false
 unfolding isSpace
 above-slash x h = rw (ne-eqb x 32 (λ e. omega (arith, e)), ne-eqb x 9 (λ e. omega (arith, e)), ne-eqb x 10 (λ e. omega (arith, e)), ne-eqb x 13 (λ e. omega (arith, e))) refl

@@ -1,4 +1,4 @@
--- Words as bytes, and words written over a buffer, one behind the other.
+-- Words as bytes, and words written over a buffer, one after the other.
 use mathlib.Core.Path.{_≡_, refl, sym, ap, _∙_}
 use mathlib.Core.List.{List, [], _∷_, _++_, append-assoc, append-nil}
 use Prim.Native.Nat.{ℕ, zero, suc, _+_, _*_, _/_, _%_, _≤_}
@@ -64,7 +64,7 @@ pub put-nothing : (at : ℕ) (l : List ℕ) → put at [] l ≡ l
 unfolding put
 put-nothing at l = rw add-zero (take-append-drop at l)
 
--- two writes, one behind the other, are one
+-- two writes, one after the other, are one
 pub put-put : (at : ℕ) (xs ys l : List ℕ) → at + length xs + length ys ≤ length l → put (at + length xs) ys (put at xs l) ≡ put at (xs ++ ys) l
 unfolding put
 put-put at xs ys l h =
@@ -81,7 +81,7 @@ put-put at xs ys l h =
 pub put-on : (at to : ℕ) (xs ys l₀ l l' : List ℕ) → to ≡ at + length xs → to + length ys ≤ length l₀ → l ≡ put at xs l₀ → l' ≡ put to ys l → l' ≡ put at (xs ++ ys) l₀
 put-on at to xs ys l₀ l l' z h e e' = e' ∙ rw (e, z) (put-put at xs ys l₀ (omega arith))
 
--- a word, words behind words, and two words
+-- a word, words after words, and two words
 pub put-one : (at w : ℕ) (l l' : List ℕ) → l' ≡ put at (big-endian 8 w) l → l' ≡ put at (words-bytes (w ∷ [])) l
 put-one at w l l' e = rw words-bytes-one e
 

@@ -20,7 +20,7 @@ use Rattle.lexing.proofs.Tests.{and-right, within-of}
 use Rattle.lexing.proofs.Scans.{drop-run, run-cons, run-none, run-le, RunAt, runs-start, runs-more, runs-stop, runs-out}
 use Rattle.lexing.proofs.TokenRuns.{digits-nil, digits-yes, digits-no, hex-nil, hex-one, hex-two, hex-yes, hex-else}
 
--- a byte that is not 0 stands inside
+-- a byte that is not 0 is inside
 pub byte-inside : (u : List ℕ) (i : ℕ) → (getD u i 0 ≡ 0 → ⊥) → i < length u
 byte-inside [] i h = absurd (h refl)
 byte-inside (x ∷ u) zero h = omega arith
@@ -153,7 +153,7 @@ hex-inside u e =
     let d = and-right (eqb (getD u 1 0) 0x78 || eqb (getD u 1 0) 0x58) (isHex (getD u 2 0)) (and-right (eqb (getD u 0 0) 0x30) _ e) in
     byte-inside u 2 λ z. false≢true (sym hex-none ∙ (ap isHex (sym z) ∙ d))
 
--- integers without a sign: hexadecimal behind two bytes, or decimal
+-- integers without a sign: hexadecimal after two bytes, or decimal
 abbrev start : Bool → ℕ
 start true = 2
 start false = 0
@@ -181,8 +181,8 @@ integer-as false b (x ∷ u) e =
 
 -- digits that were counted
 module _ (h : Bool) (k b : ℕ) (u r : List ℕ) (er : r ≡ drop k u) (v n : ℕ) (a : digitsAre h r (Count v n)) where
-  run-behind : drop (b + (k + n) - b) u ≡ dropWhile (digitTest h) r
-  run-behind =
+  run-after : drop (b + (k + n) - b) u ≡ dropWhile (digitTest h) r
+  run-after =
       let z : b + (k + n) - b ≡ k + n = omega arith in
       rw (z, ← drop-drop, ← er, a .1 .0) (drop-run (digitTest h) r)
 
@@ -205,7 +205,7 @@ module _ (h : Bool) (b : ℕ) (u r : List ℕ) (ahead : Ahead h u) (er : r ≡ d
   unfolding fitting
   integer-value {v} {n} e c ec =
       let l = counted h r d a e in
-      rw (ec, run-behind h (start h) b u r er v n l) (sym (integer-as h b u ahead ∙ rw (← er, ← l .0, ← l .1 .0) (rw (le-leb _ _ (l .1 .1), fitting))))
+      rw (ec, run-after h (start h) b u r er v n l) (sym (integer-as h b u ahead ∙ rw (← er, ← l .0, ← l .1 .0) (rw (le-leb _ _ (l .1 .1), fitting))))
 
 pub decimal-no : (b : ℕ) (u : List ℕ) → isDigit (getD u 0 0) ≡ false → fail b ≡ decimal-integer b u
 decimal-no b [] e = sym (digits-nil b)
@@ -333,7 +333,7 @@ module _ (m : Bool) (b : ℕ) where
         unfolding in-range
         signed-value le =
             let q = counted false r d a e in
-            rw (run-behind false 1 b u r er v n q, ← er) (sym (sign-as r some ∙ rw (← q .0, ← q .1 .0) (rw (le-leb v (largest m) (omega arith), in-range))))
+            rw (run-after false 1 b u r er v n q, ← er) (sym (sign-as r some ∙ rw (← q .0, ← q .1 .0) (rw (le-leb v (largest m) (omega arith), in-range))))
 
 -- the sign
 abbrev sign : Bool → ℕ

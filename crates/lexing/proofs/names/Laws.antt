@@ -16,18 +16,18 @@ use Rattle.lexing.proofs.Onward.{Onward, advances-onward, parse-id-adva
 use Rattle.lexing.proofs.TokenLocality.{keyword-chain, whitespace0-chain, whitespace1-chain}
 use Rattle.lexing.proofs.Slicing.{Took, took, on, walks, rebase, told-value, integer-lost}
 use Rattle.lexing.specs.names.{two-keywords-name, named-after}
-use Rattle.lexing.specs.answers.names.{NamedIn, NamedTo, NamedAt, namedLost, blank-word, gap-word, keyword-name, keyword-number, type-behind, equals-code}
+use Rattle.lexing.specs.answers.names.{NamedIn, NamedTo, NamedAt, namedLost, blank-word, gap-word, keyword-name, keyword-number, type-after, equals-code}
 use Rattle.lexing.specs.declared.names.Named.{Named}
 use Rattle.lexing.specs.declared.names.Named.the-variants.{Name, NoName}
 use Rattle.lexing.proofs.AnswerLaws.{read-is, read-not, read-within, read-took, read-lost}
 use Rattle.lexing.proofs.Composed.{onward-ret, onward-bind, onward-then}
 use Rattle.lexing.proofs.WordBetween.{word-moved}
 
-pub behind-on : {A : Type 0} {m : Parser A} → Onward m → Onward (whitespace0 >> m)
-behind-on w = onward-then (walks whitespace0-chain) w
+pub after-on : {A : Type 0} {m : Parser A} → Onward m → Onward (whitespace0 >> m)
+after-on w = onward-then (walks whitespace0-chain) w
 
 pub blank-word-on : Onward blank-word
-blank-word-on = behind-on (advances-onward parse-id-advances)
+blank-word-on = after-on (advances-onward parse-id-advances)
 
 pub gap-word-on : Onward gap-word
 gap-word-on = onward-then (walks whitespace1-chain) (advances-onward parse-id-advances)
@@ -41,22 +41,22 @@ two-keywords-name-on k j = onward-then (walks (keyword-chain k)) (onward-then (w
 
 pub named-after-on : (k j : List ℕ) → Onward (named-after k j)
 unfolding named-after
-named-after-on k j = onward-bind (two-keywords-name-on k j) (λ n. behind-on (onward-then (advances-onward (tag-advances 59)) (onward-ret n)))
+named-after-on k j = onward-bind (two-keywords-name-on k j) (λ n. after-on (onward-then (advances-onward (tag-advances 59)) (onward-ret n)))
 
 pub keyword-number-on : (k : List ℕ) → Onward (keyword-number k)
 keyword-number-on k = onward-then (walks (keyword-chain k)) (onward-then (walks whitespace1-chain) (advances-onward integer-advances))
 
-pub type-behind-on : Onward type-behind
-type-behind-on = behind-on (onward-then (advances-onward (tag-advances 58)) (behind-on (advances-onward parse-id-advances)))
+pub type-after-on : Onward type-after
+type-after-on = after-on (onward-then (advances-onward (tag-advances 58)) (after-on (advances-onward parse-id-advances)))
 
 pub integer-on : Onward (whitespace0 >> positive-integer)
-integer-on = behind-on (advances-onward integer-advances)
+integer-on = after-on (advances-onward integer-advances)
 
 pub equals-code-on : Onward equals-code
 equals-code-on = onward-then (advances-onward (tag-advances 61)) integer-on
 
-pub code-behind-on : Onward (whitespace0 >> equals-code)
-code-behind-on = behind-on equals-code-on
+pub code-after-on : Onward (whitespace0 >> equals-code)
+code-after-on = after-on equals-code-on
 
 -- a word reads a byte or more
 pub name-more : {b n : ℕ} {u : List ℕ} {a : Word} {c : ℕ} → Took parse-id b u n a c → n < c
@@ -80,7 +80,7 @@ module _ {m : Parser Word} {n : ℕ} {r : List ℕ} {a : Named} {x e c : ℕ} (h
 pub number-took : {m : Parser ℕ} (w : Onward m) {b n : ℕ} {u r : List ℕ} {a : Number} {v c : ℕ} → Rest b u n r → a ≡ Value v c → numberReply a n r ≡ m n r → Took m b u n v c
 number-took w {n = n} {r = r} q e h = took w q (told-value n r _ e h)
 
--- a number from an offset of a part: behind a step that was read, taken and lost
+-- a number from an offset of a part: after a step that was read, taken and lost
 module _ {b n : ℕ} {u : List ℕ} {m : Parser ℕ} where
   pub number-after : {A : Type 0} {k : Parser A} → Onward m → (r : Number) {a : A} {c : ℕ} → Rest b u n (drop (n - b) u) → Took k b u n a c → NumberAt m r b u c → NumberAt (k >> m) r b u n
   number-after w (Value v e) q t h =
@@ -110,7 +110,7 @@ module _ {b n : ℕ} {u : List ℕ} {m : Parser Word} {a : Named} (h : NamedAt m
   pub named-at-lost : {l l' : Lost} → l' ≡ namedLost a → a ≡ NoName l → lostReply l' ≡ m n (drop (n - b) u)
   named-at-lost e d = read-lost (h .named) d namedLost e refl
 
--- read there: a word behind a step that was read
+-- read there: a word after a step that was read
 module _ {b n : ℕ} {u : List ℕ} (q : Rest b u n (drop (n - b) u)) {A : Type 0} where
   pub name-missed : (k : Parser A) (l : Lost) → lostReply l ≡ (k >> parse-id) n (drop (n - b) u) → NamedAt (k >> parse-id) (NoName l) b u n
   name-missed k l e = record { at = q; named = read-not l refl tt e }

@@ -25,7 +25,7 @@ use Rattle.lexing.proofs.Onward.{Onward, advances-onward, tag-advances,
 use Rattle.lexing.proofs.Slicing.{Took, took, walks, rebase, rest-from, rest-self, told-value, integer-lost}
 use Rattle.lexing.proofs.FirstWord.{blank-clear}
 use Rattle.lexing.proofs.TokenLocality.{keyword-chain, whitespace0-chain, whitespace1-chain}
-use Rattle.lexing.proofs.Dropping.{behind, skip-behind, tag-skips, keyword-skips}
+use Rattle.lexing.proofs.Dropping.{following, skip-after, tag-skips, keyword-skips}
 use Rattle.lexing.proofs.blanks.Laws.{blanks-none, blanks-one}
 use Rattle.lexing.proofs.Composed.{onward-then}
 use Rattle.lexing.proofs.answers.Laws.{skip-took, skip-lost}
@@ -62,7 +62,7 @@ module _ {b c : ℕ} {u r : List ℕ} (q : Rest b u c r) where
     unfolding whitespace1 _>>=_ position pick failAt
     gap-not e = skips-at (record { value = no-doc; reads = rw (sym (h .reads), whitespace1, _>>=_) (rw (eq-eqb c n (sym e), pick)) })
 
-  -- a token behind blanks
+  -- a token after blanks
   module _ {n : ℕ} (h : Skips whitespace0 (Next n) c r) {v : List ℕ} (z : Rest b u n v) where
     p : Rest c r n v
     p = let k = blank-bounds h in record { from = k .0; same = z .same ∙ (sym (rebase b c n u (q .from) (k .0)) ∙ ap (drop (n - c)) (sym (q .same))); size = z .size ∙ sym (q .size) }
@@ -70,15 +70,15 @@ module _ {b c : ℕ} {u r : List ℕ} (q : Rest b u c r) where
     blanks : Took whitespace0 c r c (h .value) n
     blanks = skip-took blank-on (rest-self c r) refl h
 
-    pub tag-behind-is : (k : ℕ) (a : Step) → tagReply a n v ≡ tag k n v → SkipsAt (whitespace0 >> tag k) a b u c
-    tag-behind-is k a e = skips-at (skip-behind (advances-onward (tag-advances k)) p blanks (tag-skips k a e))
+    pub tag-after-is : (k : ℕ) (a : Step) → tagReply a n v ≡ tag k n v → SkipsAt (whitespace0 >> tag k) a b u c
+    tag-after-is k a e = skips-at (skip-after (advances-onward (tag-advances k)) p blanks (tag-skips k a e))
 
-    pub keyword-behind-is : (k : List ℕ) (a : Step) → wordReply a n v ≡ keyword k n v → SkipsAt (whitespace0 >> keyword k) a b u c
-    keyword-behind-is k a e = skips-at (skip-behind (walks (keyword-chain k)) p blanks (keyword-skips k a e))
+    pub keyword-after-is : (k : List ℕ) (a : Step) → wordReply a n v ≡ keyword k n v → SkipsAt (whitespace0 >> keyword k) a b u c
+    keyword-after-is k a e = skips-at (skip-after (walks (keyword-chain k)) p blanks (keyword-skips k a e))
 
-    pub integer-behind-is : (a : Number) → numberReply a n v ≡ positive-integer n v → NumberAt (whitespace0 >> positive-integer) a b u c
-    integer-behind-is a e =
-        let x = behind (advances-onward integer-advances) (numberAnswer a) p blanks e in
+    pub integer-after-is : (a : Number) → numberReply a n v ≡ positive-integer n v → NumberAt (whitespace0 >> positive-integer) a b u c
+    integer-after-is a e =
+        let x = following (advances-onward integer-advances) (numberAnswer a) p blanks e in
         record { at = rest-here; reads = subst (λ w. numberReply a c w ≡ (whitespace0 >> positive-integer) c w) (q .same) x }
 
 -- blanks that the bytes at an offset tell
@@ -105,7 +105,7 @@ module _ (b c : ℕ) (u : List ℕ) (at : (b ≤ c) × (c ≤ b + length u)) {x 
     pub blank-one-in : c + 1 ≤ b + length u
     blank-one-in = omega (arith, single .inside, rest .size)
 
--- no blank stands where blanks were read
+-- no blank is where blanks were read
 pub rest-clear : {b n c : ℕ} {u v : List ℕ} {d : Doc} → Took whitespace0 b u n d c → Rest b u c v → whitespace0 c v ≡ ok no-doc c v
 rest-clear {b} {n} {c} {u} {v} {d} t q = subst (λ (x : List ℕ). whitespace0 c x ≡ ok no-doc c x) (sym (q .same)) (blank-clear n (drop (n - b) u) d c (drop (c - b) u) (t .goes))
 
@@ -117,18 +117,18 @@ module _ {b n : ℕ} {u : List ℕ} where
   pub gap-at-took : {a : Step} {c : ℕ} → a ≡ Next c → (h : SkipsAt whitespace1 a b u n) → Took whitespace1 b u n (h .skips .value) c
   gap-at-took e h = skip-took (walks whitespace1-chain) (h .at) e (h .skips)
 
-  pub tag-behind-took : (t : ℕ) {a : Step} {c : ℕ} → a ≡ Next c → (h : SkipsAt (whitespace0 >> tag t) a b u n) → Took (whitespace0 >> tag t) b u n (h .skips .value) c
-  tag-behind-took t e h = skip-took (onward-then blank-on (advances-onward (tag-advances t))) (h .at) e (h .skips)
+  pub tag-after-took : (t : ℕ) {a : Step} {c : ℕ} → a ≡ Next c → (h : SkipsAt (whitespace0 >> tag t) a b u n) → Took (whitespace0 >> tag t) b u n (h .skips .value) c
+  tag-after-took t e h = skip-took (onward-then blank-on (advances-onward (tag-advances t))) (h .at) e (h .skips)
 
-  pub keyword-behind-took : (k : List ℕ) {a : Step} {c : ℕ} → a ≡ Next c → (h : SkipsAt (whitespace0 >> keyword k) a b u n) → Took (whitespace0 >> keyword k) b u n (h .skips .value) c
-  keyword-behind-took k e h = skip-took (onward-then blank-on (walks (keyword-chain k))) (h .at) e (h .skips)
+  pub keyword-after-took : (k : List ℕ) {a : Step} {c : ℕ} → a ≡ Next c → (h : SkipsAt (whitespace0 >> keyword k) a b u n) → Took (whitespace0 >> keyword k) b u n (h .skips .value) c
+  keyword-after-took k e h = skip-took (onward-then blank-on (walks (keyword-chain k))) (h .at) e (h .skips)
 
   pub skips-lost : {A : Type 0} {m : Parser A} {a : Step} {l l' : Lost} → l' ≡ lostOf a → a ≡ Not l → SkipsAt m a b u n → lostReply l' ≡ m n (drop (n - b) u)
   skips-lost e d h = skip-lost e d n (drop (n - b) u) (h .skips)
 
   module _ {a : Number} (h : NumberAt (whitespace0 >> positive-integer) a b u n) where
-    pub integer-behind-took : {v c : ℕ} → a ≡ Value v c → Took (whitespace0 >> positive-integer) b u n v c
-    integer-behind-took e = took (onward-then blank-on (advances-onward integer-advances)) (h .at) (told-value n _ _ e (h .reads))
+    pub integer-after-took : {v c : ℕ} → a ≡ Value v c → Took (whitespace0 >> positive-integer) b u n v c
+    integer-after-took e = took (onward-then blank-on (advances-onward integer-advances)) (h .at) (told-value n _ _ e (h .reads))
 
-    pub integer-behind-lost : {l l' : Lost} → l' ≡ numberLost a → a ≡ NoNumber l → lostReply l' ≡ (whitespace0 >> positive-integer) n (drop (n - b) u)
-    integer-behind-lost e d = integer-lost e d n (drop (n - b) u) ((whitespace0 >> positive-integer) n (drop (n - b) u)) (h .reads)
+    pub integer-after-lost : {l l' : Lost} → l' ≡ numberLost a → a ≡ NoNumber l → lostReply l' ≡ (whitespace0 >> positive-integer) n (drop (n - b) u)
+    integer-after-lost e d = integer-lost e d n (drop (n - b) u) ((whitespace0 >> positive-integer) n (drop (n - b) u)) (h .reads)

@@ -22,7 +22,7 @@ use Rattle.lexing.proofs.Runs.{suf-length}
 use Rattle.lexing.proofs.Onward.{advances-onward, string-advances}
 use Rattle.lexing.proofs.Slicing.{rebase, suf-drop}
 
--- what a byte behind a backslash makes of the string
+-- what a byte after a backslash makes of the string
 abbrev pub escapePiece : ℕ → Escaped → Piece
 escapePiece b Allowed = More (b + 2)
 escapePiece b Forbidden = Last (Not (Fail b))

@@ -43,7 +43,7 @@ cases =
     ∷ (backslash ∷ backslash ∷ [], 7 ∷ [], ((0, 1), backslash ∷ []))
     ∷ (backslash ∷ n ∷ [], 7 ∷ [], ((0, 1), lf ∷ []))
     ∷ (backslash ∷ t ∷ [], 7 ∷ [], ((0, 1), tab ∷ []))
-    -- behind other bytes, at the end and before others
+    -- after other bytes, at the end and before others
     ∷ (a ∷ backslash ∷ quote ∷ [], 7 ∷ 8 ∷ [], ((0, 2), a ∷ quote ∷ []))
     ∷ (a ∷ backslash ∷ backslash ∷ [], 7 ∷ 8 ∷ [], ((0, 2), a ∷ backslash ∷ []))
     ∷ (backslash ∷ backslash ∷ n ∷ [], 7 ∷ 8 ∷ [], ((0, 2), backslash ∷ n ∷ []))

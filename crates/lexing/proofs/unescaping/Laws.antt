@@ -122,7 +122,7 @@ unfolding before first
 before-first l z (gives k) = ap gives (sym (append-assoc l (z ∷ []) k))
 before-first l z (faultAt k) = refl
 
--- the bytes l come out of what stands before offset i of the part u
+-- the bytes l come out of what is before offset i of the part u
 pub record Seen (u : List ℕ) (i : ℕ) (l : List ℕ) : Type 0 where
   pub inside : i ≤ length u
   pub few : length l ≤ i
@@ -204,14 +204,14 @@ unfolding before
 room m l x (gives k) a e = let z : a .bytes ≡ l ++ k = cc in omega (arith, a .fits, ap length z, length-append l k)
 room m l x (faultAt k) a e = absurd (let o = a .out in let w : _≡_ {A = ℕ} 0 1 = cc in omega arith)
 
--- one byte more, behind the bytes written
+-- one byte more, after the bytes written
 set-next : (l out : List ℕ) (n z : ℕ) → n ≡ length l → length l < length out
     → set (l ++ drop (length l) out) n z ≡ (l ++ (z ∷ [])) ++ drop (length (l ++ (z ∷ []))) out
 set-next l out n z e h =
     let w : length (l ++ (z ∷ [])) ≡ suc (length l) = omega (arith, length-append l (z ∷ [])) in
     rw (drop-cons out (length l) 0 h, w, append-assoc) (set-at l (getD out (length l) 0) (drop (suc (length l)) out) z n (sym e))
 
--- the second pass: the output holds the bytes that have come out, and then what stood there
+-- the second pass: the output holds the bytes that have come out, and then what was there
 pub record Writing (u out₀ : List ℕ) (i : ℕ) (out : List ℕ) (n : ℕ) : Type 0 where
   pub counting : Counting u i n
   pub holds : out ≡ counting .so-far ++ drop (length (counting .so-far)) out₀
@@ -310,7 +310,7 @@ module _ (u out : List ℕ) (s : Size) (e : s ≡ sizeOf (unescape u)) where
       pub ends-written : {left : List ℕ} → left ≡ afterwards (outcome u (length out)) out → Ends u out (0, n) left
       ends-written w = (sym all-written, w)
 
--- bounds: of n bytes from offset b on, no more than n bytes come out, and a fault stands among them
+-- bounds: of n bytes from offset b on, no more than n bytes come out, and a fault is among them
 Bounded : ℕ → ℕ → Unescaped → Type 0
 Bounded b n (gives l) = length l ≤ n
 Bounded b n (faultAt k) = (b ≤ k) × (k < b + n)
@@ -319,7 +319,7 @@ fault-bounded : (b n : ℕ) → Bounded b (suc n) (faultAt b)
 unfolding Bounded
 fault-bounded b n = (omega arith, omega arith)
 
--- a piece of k bytes stands before the rest
+-- a piece of k bytes is before the rest
 first-bounded : (b k n m z : ℕ) (x : Unescaped) → 0 < k → m ≡ n + k → Bounded (b + k) n x → Bounded b m (first z x)
 unfolding Bounded first
 first-bounded b k n m z (gives l) h i e = omega arith
@@ -359,7 +359,7 @@ pub never-longer : (u l : List ℕ) → unescape u ≡ gives l → length l ≤ 
 unfolding Bounded unescape
 never-longer u l e = rw e at (from-bounded u 0)
 
--- a fault stands in the part
+-- a fault is in the part
 pub fault-inside : (u : List ℕ) (k : ℕ) → unescape u ≡ faultAt k → k < length u
 unfolding Bounded unescape
 fault-inside u k e = let h : (0 ≤ k) × (k < 0 + length u) = rw e at (from-bounded u 0) in omega (arith, h .1)

@@ -290,7 +290,7 @@ or-right x y = omega (arith, or-add-and x y, and-le-l x y)
 pub or-one : (u : List ℕ) (i : ℕ) → Bounds (getD u i 0) u i 1
 or-one u i = record { each = below-more _ 0 (below-none _) (let z : i + 0 ≡ i = omega arith in rw z (omega arith)) }
 
--- two runs of bytes, the second behind the first
+-- two runs of bytes, the second after the first
 or-join : (n m : ℕ) {r s : ℕ} {u : List ℕ} {i : ℕ} → Bounds r u i n → Bounds s u (i + n) m → Bounds (bitOr r s) u i (n + m)
 or-join n m {r} {s} {u} {i} p q = record { each = both-runs (λ k. getD u k 0 ≤ bitOr r s) i n m (λ j h. omega (arith, p .each j h, or-left r s)) (λ j h. omega (arith, q .each j h, or-right r s)) }
 
@@ -298,7 +298,7 @@ or-join n m {r} {s} {u} {i} p q = record { each = both-runs (λ k. getD u k 0 �
 pub or-four : (n : ℕ) {r s t v : ℕ} {u : List ℕ} {i : ℕ} → Bounds r u i n → Bounds s u (i + n) n → Bounds t u (i + (n + n)) n → Bounds v u (i + (n + n + n)) n → Bounds (bitOr (bitOr (bitOr r s) t) v) u i (n + n + n + n)
 or-four n p q a b = or-join (n + n + n) n (or-join (n + n) n (or-join n n p q) a) b
 
--- an ASCII byte with n others behind it
+-- an ASCII byte with n others after it
 pub ascii-run : (n : ℕ) {u : List ℕ} {i r : ℕ} → getD u i 0 < 0x80 → i + (n + 1) ≤ length u → Bounds r u (i + 1) n → r < 0x80 → AsciiAt u i (n + 1)
 ascii-run n {u} {i} {r} k l p h = record { onward = omega arith; inside = l; ascii = each }
   where

@@ -201,7 +201,7 @@ low-flag y p f h = go (eqb (f / p % 2) 1) refl
     go true e = rw (at, e, with-flag)
     go false e = rw (at, e, with-flag) (omega arith)
 
--- the flags of one more word that is written like the k-th keyword, which j others stand behind
+-- the flags of one more word that is written like the k-th keyword, which j others follow
 flag-more : (ks : List (List ℕ)) (k j : ℕ) (w : Word) (ws : List Word) → apart ks ≡ true → bytesOf w ≡ getD ks k [] → suc (k + j) ≡ length ks → with-flag true (2 ^ j) (flags ks ws) ≡ flags ks (w ∷ ws)
 unfolding flags contains
 flag-more [] k j w ws a e h = absurd (omega arith)
@@ -383,7 +383,7 @@ any-calm (k ∷ ks) b u = go (keyword k b u) refl (keyword-says k b u) (any-calm
 pub lost-here : (k : List ℕ) (b : ℕ) (u : List ℕ) (l : Lost) → lostReply l ≡ keyword k b u → fail b ≡ keyword k b u
 lost-here k b u = by-lost (λ l. lostReply l ≡ keyword k b u → fail b ≡ keyword k b u) (λ p e. ap fail (sym (rw (← e) at (keyword-says k b u))) ∙ e) (λ n p e. absurd (rw (← e) at (keyword-says k b u)))
 
--- the offset behind a keyword, from the step over it
+-- the offset after a keyword, from the step over it
 module _ {k : List ℕ} {b : ℕ} {u : List ℕ} {a : Step} (h : wordReply a b u ≡ keyword k b u) where
   pub end-missing : {l : Lost} → a ≡ Not l → KeywordEnd k b u b
   end-missing {l} e = missing refl (lost-here k b u l (told-not (wordAt b u) a l b u (keyword k b u) e h))
@@ -560,7 +560,7 @@ key-small k e j = go (ltb j (length k)) refl
 pub flag-at : {n m r w : ℕ} → n ≡ m → EightFlag r m w → EightFlag r n w
 flag-at e h = rw e h
 
--- a set of one word: a keyword of eight bytes that stands at the front as it is, and a word behind it that is none of the set
+-- a set of one word: a keyword of eight bytes that is at the front as it is, and a word after it that is none of the set
 not-word : isWord 32 ≡ false
 unfolding isWord isLetter isDigit within
 not-word = refl
@@ -588,7 +588,7 @@ module _ (b : ℕ) (u : List ℕ) {w : ℕ} (long : 10 ≤ length u) (p : Bytes 
       let i : WalkAt n b u 0 b true b u k = record { set = set-start n b u; start = first-took b u; rest = rest-self b u; keys = keys-before (set-of n) b u k (b + 8) (set-apart n) (omega arith) r } in
       walk-again i refl (omega arith) (there (omega arith) r) (omega arith) j f true (omega arith) (rw z (eight-lower key q)) (rw h (flag-first (2 ^ j) (pow-up j))) .0
 
-  -- the word behind it
+  -- the word after it
   module _ {y : ℕ} (ey : y ≡ getD u 9 0) (above : slash < y) where
     eight-gap : Took (set-gap false) b u (b + 8) tt (b + 8 + 1)
     eight-gap =

@@ -232,7 +232,7 @@ module _ (u : List ℕ) (i w m : ℕ) (b : Bytes (λ j. getD u j 0)) (e : w ≡ 
   pub letters-all : m ≡ 0 → RunAt isWord u to (i + 8)
   letters-all z = rw (no-bits z) at letters-some
 
--- a run goes on behind its first n bytes where the next byte is one of it
+-- a run goes on after its first n bytes where the next byte is one of it
 run-longer : (u : List ℕ) (n : ℕ) → n ≤ length (takeWhile isWord u) → isWord (getD u n 0) ≡ true → n < length (takeWhile isWord u)
 run-longer u n le e = go (ltb n (length (takeWhile isWord u))) refl
   where

@@ -23,14 +23,14 @@ gap-word = do
   whitespace1
   parse-id
 
--- a keyword and the name behind it
+-- a keyword and the name after it
 abbrev pub keyword-name : List ℕ → Parser Word
 keyword-name k = do
   keyword k
   whitespace1
   parse-id
 
--- a keyword and the number behind it
+-- a keyword and the number after it
 abbrev pub keyword-number : List ℕ → Parser ℕ
 keyword-number k = do
   keyword k
@@ -38,8 +38,8 @@ keyword-number k = do
   positive-integer
 
 -- a colon and the name of a type
-abbrev pub type-behind : Parser Word
-type-behind = do
+abbrev pub type-after : Parser Word
+type-after = do
   whitespace0
   tag (byte ":")
   whitespace0

@@ -23,7 +23,7 @@ escapeOf Allowed = allowed
 escapeOf Forbidden = forbidden
 escapeOf Panics = panics
 
--- the string goes on behind a piece, or ends; the value is the closing quote's offset
+-- the string goes on after a piece, or ends; the value is the closing quote's offset
 abbrev pub pieceIs : (ℕ → Escape) → ℕ → List ℕ → Piece → Type 0
 pieceIs f b u (More c) = (string-rest f false b u ≡ string-rest f false c (drop (c - b) u)) × ((b < c) × (c ≤ b + length u))
 pieceIs f b u (Last s) = reply (stepAnswer (λ c. c - 1) s) b u ≡ string-rest f false b u

@@ -22,7 +22,7 @@ abbrev pub meant : Meaning → Option ℕ
 meant (Byte z) = some z
 meant Nothing = none
 
--- what comes out of the part u from offset b on, by the piece that stands there
+-- what comes out of the part u from offset b on, by the piece that is there
 abbrev pub outOf : List ℕ → ℕ → Piece → Unescaped
 outOf u b (Makes z n) = first z (unescapeFrom n (drop n u))
 outOf u b Wrong = faultAt b

@@ -13,7 +13,7 @@ use Rattle.lexing.specs.inner.eights.{pack, bytesFrom}
 use Rattle.lexing.specs.declared.word_sets.Start.{Start}
 use Rattle.lexing.specs.declared.word_sets.Start.the-variants.{Here, Nowhere}
 
--- the offset behind the keyword k, or b where it does not stand there
+-- the offset after the keyword k, or b where it is not there
 pub data KeywordEnd (k : List ℕ) (b : ℕ) (u : List ℕ) (r : ℕ) : Type 0 where
   there : b < r → ok (wordAt b u r) r (drop (r - b) u) ≡ keyword k b u → KeywordEnd k b u r
   missing : r ≡ b → fail b ≡ keyword k b u → KeywordEnd k b u r
@@ -39,7 +39,7 @@ initial x [] = false
 initial x ([] ∷ ks) = true
 initial x ((y ∷ k) ∷ ks) = eqb x y || initial x ks
 
--- of the first n bytes those before i are in lower case: all are if those behind them are
+-- of the first n bytes those before i are in lower case: all are if those after them are
 pub record LowerAt (u : List ℕ) (n i : ℕ) : Type 0 where
   pub inside : i ≤ n
   pub left : isLower (drop i (take n u)) ≡ isLower (take n u)
@@ -50,7 +50,7 @@ pub record IsEight (w : ℕ) (k : List ℕ) : Type 0 where
   pub eight : length k ≡ 8
   pub same : w ≡ pack 8 (bytesFrom k 0)
 
--- the flag of a set's keyword with the eight bytes of w, which j others stand behind, or 0
+-- the flag of a set's keyword with the eight bytes of w, which j others follow, or 0
 pub data EightFlag (r set w : ℕ) : Type 0 where
   some : (k j : ℕ) → suc (k + j) ≡ length (set-of set) → IsEight w (getD (set-of set) k []) → r ≡ 2 ^ j → EightFlag r set w
   none : r ≡ 0 → EightFlag r set w

@@ -9,7 +9,7 @@ use Rattle.lexing.specs.bytes.{isWord, lower, takeWhile}
 use Rattle.lexing.specs.reply.{fail}
 use Rattle.lexing.specs.words.{keyword}
 
--- the place behind the bytes of a word that stand from place i on
+-- the place after the bytes of a word that are from place i on
 abbrev pub wordEnd : List ℕ → ℕ → ℕ
 wordEnd u i = i + length (takeWhile isWord (drop i u))
 
@@ -28,7 +28,7 @@ pub record KeyAt (k u : List ℕ) (i : ℕ) : Type 0 where
   pub agree : Agree u k i
   pub word : i ≤ length (takeWhile isWord u)
 
--- whether all bytes of the keyword k stand so at the front of u; where they do not, it is not read there
+-- whether all bytes of the keyword k are so at the front of u; where they are not, it is not read there
 abbrev pub HasKey : Bool → List ℕ → List ℕ → Type 0
 HasKey true k u = KeyAt k u (length k)
 HasKey false k u = (b : ℕ) → fail b ≡ keyword k b u

@@ -20,6 +20,9 @@ shared-slice-read-print-byte c = search needs
 print-byte-requires : tie.Need-print-byte-requires Inv-loop μ-loop
 print-byte-requires c κs = search needs
 
+returns : tie.Need-returns Inv-loop μ-loop
+returns c = tt
+
 add-i : tie.Need-add-i Inv-loop μ-loop
 add-i c = search needs
 
@@ -28,6 +31,9 @@ slice-aggregate-write-all c = search needs
 
 write-all-requires : tie.Need-write-all-requires Inv-loop μ-loop
 write-all-requires c κs = search needs
+
+returns-2 : tie.Need-returns-2 Inv-loop μ-loop
+returns-2 c = search needs
 
 loop-less : tie.Need-loop-less Inv-loop μ-loop
 loop-less c = search needs
@@ -41,8 +47,8 @@ loop-less-2 c = search needs
 loop-again-2 : tie.Need-loop-again-2 Inv-loop μ-loop
 loop-again-2 c = omega arith
 
-returns : tie.Need-returns Inv-loop μ-loop
-returns c = tt
+returns-3 : tie.Need-returns-3 Inv-loop μ-loop
+returns-3 c = search needs
 
 pub print-words-spec : {M : Type 1} → statement M
 print-words-spec =
@@ -53,11 +59,13 @@ print-words-spec =
     loop-holds
     shared-slice-read-print-byte
     print-byte-requires
+    returns
     add-i
     slice-aggregate-write-all
     write-all-requires
+    returns-2
     loop-less
     loop-again
     loop-less-2
     loop-again-2
-    returns)
+    returns-3)

@@ -88,7 +88,7 @@ module _ (t : List ℕ) (k o n : ℕ) (out : List ℕ) (p : ℕ) where
   unfolding hits-at bytes-at offset size
   hits-same x y z e = rw (eq-eqb _ _ x, eq-eqb _ _ y, z) e
 
--- the test of a record that stands in a buffer
+-- the test of a record that is in a buffer
 pub hits-is : (t : List ℕ) (k o m : ℕ) → length t ≤ text-limit → {out : List ℕ} {p : ℕ} (s : RecordAt layout (length t) out p) → hits-at t k o m out p ≡ is-global t k (bytes-at t (at o m)) (s .of)
 unfolding hits-at is-global bytes-at offset size
 hits-is t k o m limit s = let F = layout-fits (length t) limit in rw (place-is F s, kind-is F s, offset-is F s, length-is F s) refl
@@ -169,6 +169,6 @@ module _ (t : List ℕ) (k : ℕ) (i : List ℕ) {out : List ℕ} {end : ℕ} wh
             unfolding has-global
             held-more y z = rw (words-are z) (record { front = _; left = stands .rest; walk = walk-next (stands .walk); same = stands .holds ∙ ap (λ x. x || has-global t k i (stands .rest)) (told ∙ y) })
 
--- the loop: whichever records stand there
+-- the loop: whichever records are there
 abbrev pub Searching : (t out : List ℕ) → (end k o n p : ℕ) → Type 0
 Searching t out end k o n p = (c : Catalogue (length t) out end) → HeldAt t k (bytes-at t (at o n)) c p

@@ -25,7 +25,7 @@ use Rattle.matter_idl.specs.demand_3.{bytes-at, has-global, with-place}
 use Rattle.matter_idl.specs.inner.filter.{Grown, hash-of, Holds, HoldsId, Filtered}
 use Rattle.matter_idl.specs.inner.hoisting.{name-at, hash-at, is-unmarked, unmarked-at, mark-after, new-place, marked, Catalogue, Marking, Marked, MarkedTo, Unhoisted, Hoisted}
 use Rattle.matter_idl.proofs.filter.Laws.{filtered-front, filtered-more}
-use Rattle.matter_idl.proofs.hoisting.Walk.{Walk, word-count-one, record-some, walk-length, walk-at, walk-bytes, walk-behind, Standing, stands-inside, walk-stands, walk-over}
+use Rattle.matter_idl.proofs.hoisting.Walk.{Walk, word-count-one, record-some, walk-length, walk-at, walk-bytes, walk-after, Standing, stands-inside, walk-stands, walk-over}
 use Rattle.matter_idl.proofs.hoisting.Marks.{marking}
 use Rattle.matter_idl.proofs.hoisting.Laws.{unmarked-place}
 
@@ -34,14 +34,14 @@ placed-fits : {n : ℕ} (q : ℕ) → q < 2 ^ 2 → (r : Record) → RecordFits 
 unfolding with-place
 placed-fits q z r h = record { kind-known = h .kind-known; place-fits = z; maturity-fits = h .maturity-fits; doc-fits = h .doc-fits; flags-fit = h .flags-fit; flags-width = h .flags-width; name-inside = h .name-inside; first-fits = h .first-fits; second-fits = h .second-fits; further-fit = h .further-fit; further-count = h .further-count }
 
--- the first word of a record, and the bytes behind it
+-- the first word of a record, and the bytes after it
 abbrev first-word : Record → ℕ
 first-word r = packed 0 (getD (first-words layout r) 0 [])
 
-abbrev behind-first : Record → List ℕ
-behind-first r = words-bytes (drop 1 (record-words layout r))
+abbrev after-first : Record → List ℕ
+after-first r = words-bytes (drop 1 (record-words layout r))
 
-first-bytes : (r : Record) → catalogue-bytes layout (r ∷ []) ≡ big-endian 8 (first-word r) ++ behind-first r
+first-bytes : (r : Record) → catalogue-bytes layout (r ∷ []) ≡ big-endian 8 (first-word r) ++ after-first r
 unfolding catalogue-bytes catalogue-words words-bytes each record-words layout
 first-bytes r = ap words-bytes (each-one (record-words layout) r)
 
@@ -54,9 +54,9 @@ placed-word : (q : ℕ) (r : Record) → r .place ≡ 0 → first-word (with-pla
 unfolding layout packed with-place
 placed-word q r h = omega (arith, h)
 
-placed-behind : (q : ℕ) (r : Record) → behind-first (with-place q r) ≡ behind-first r
+placed-after : (q : ℕ) (r : Record) → after-first (with-place q r) ≡ after-first r
 unfolding record-words layout with-place
-placed-behind q r = refl
+placed-after q r = refl
 
 two-or-one : (b : Bool) → elim b [ true ↦ 2 | false ↦ 1 ] < 2 ^ 2
 two-or-one true = lit< tt
@@ -99,11 +99,11 @@ placed-bytes : (q : ℕ) (r : Record) → r .place ≡ 0 → (front tail out : L
 unfolding placed below same-field field-number total layout
 placed-bytes q r z front tail out p b l w =
     let x : word-at out p + q * 2 ^ 54 ≡ first-word (with-place q r) = ap (λ k. k + q * 2 ^ 54) w ∙ sym (placed-word q r z) in
-    let y : out ≡ front ++ (big-endian 8 (first-word r) ++ (behind-first r ++ tail)) = b ∙ ap (λ k. front ++ k) (ap (λ k. k ++ tail) (first-bytes r) ∙ append-assoc (big-endian 8 (first-word r)) (behind-first r) tail) in
+    let y : out ≡ front ++ (big-endian 8 (first-word r) ++ (after-first r ++ tail)) = b ∙ ap (λ k. front ++ k) (ap (λ k. k ++ tail) (first-bytes r) ∙ append-assoc (big-endian 8 (first-word r)) (after-first r) tail) in
     ap (λ k. put p (big-endian 8 k) out) x
     ∙ (ap (put p (big-endian 8 (first-word (with-place q r)))) y
-    ∙ (put-over p front (big-endian 8 (first-word (with-place q r))) (big-endian 8 (first-word r)) (behind-first r ++ tail) l (big-endian-length 8 (first-word (with-place q r)) ∙ sym (big-endian-length 8 (first-word r)))
-    ∙ ap (λ k. front ++ k) (sym (append-assoc (big-endian 8 (first-word (with-place q r))) (behind-first r) tail) ∙ ap (λ k. k ++ tail) (ap (λ k. big-endian 8 (first-word (with-place q r)) ++ k) (sym (placed-behind q r)) ∙ sym (first-bytes (with-place q r))))))
+    ∙ (put-over p front (big-endian 8 (first-word (with-place q r))) (big-endian 8 (first-word r)) (after-first r ++ tail) l (big-endian-length 8 (first-word (with-place q r)) ∙ sym (big-endian-length 8 (first-word r)))
+    ∙ ap (λ k. front ++ k) (sym (append-assoc (big-endian 8 (first-word (with-place q r))) (after-first r) tail) ∙ ap (λ k. k ++ tail) (ap (λ k. big-endian 8 (first-word (with-place q r)) ++ k) (sym (placed-after q r)) ∙ sym (first-bytes (with-place q r))))))
 
 -- one record
 module _ (t : List ℕ) (limit : length t ≤ text-limit) {out f : List ℕ} {start p : ℕ} (m : Marking t out f start p) where
@@ -268,10 +268,10 @@ module _ (t : List ℕ) {old f₀ : List ℕ} {start end : ℕ} where
                 seen = h .seen ++ (r ∷ []);
                 left = stands .rest;
                 whole = stands .holds ∙ sym (append-assoc (h .seen) (r ∷ []) (stands .rest));
-                walk = rw v at (walk-behind (stands .walk) m new (marked-words t H r (stands .walk .fit .0)) (k at-it .bytes));
+                walk = rw v at (walk-after (stands .walk) m new (marked-words t H r (stands .walk .fit .0)) (k at-it .bytes));
                 filtered = rw s at (filtered-more (k at-it .grown) t (h .filtered) m (k at-it .id));
               })
 
--- the loop: whichever item stands there
+-- the loop: whichever item is there
 abbrev pub MarkingItem : (t old f₀ : List ℕ) → (start end : ℕ) → (out f : List ℕ) → (p : ℕ) → Type 0
 MarkingItem t old f₀ start end out f p = (u : Unhoisted t old f₀ start end) → MarkingAt t u out f p

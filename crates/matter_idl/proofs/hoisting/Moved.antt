@@ -67,7 +67,7 @@ module _ (d : ℕ) where
       rw (item-records-moved d 1 (place-by t) (place-by t) (place-moved t) i, after-item-moved t i, hoisted-moved (after-item t i) l)
       (sym (map-append (moved d) (item-records 1 (place-by t) i) (hoisted (after-item t i) l)))
 
--- the tables behind items and others
+-- the tables after items and others
 pub after-items-append : (t : Tables) (l k : List Item) → after-items t (l ++ k) ≡ after-items (after-items t l) k
 unfolding after-items
 after-items-append t [] k = refl

@@ -175,7 +175,7 @@ module _ (text : List ℕ) (n : ℕ) where
     item-found t (struct-item s) h = joins i structs K 1 (struct-id s) t ∙ ap (λ b. held i (table-of K t) || b) (sym (struct-found (number-of K) i 1 s h))
     item-found t blank-item h = sym (or-nil (held i (table-of K t)))
 
-    -- the table behind items holds an id: it did before them, or a search of their records finds it
+    -- the table after items holds an id: it did before them, or a search of their records finds it
     items-found : (t : Tables) (l : List Item) → All (ItemTrue 0 text n) l → held i (table-of K (after-items t l)) ≡ (held i (table-of K t) || has-global text (number-of K) i (hoisted t l))
     unfolding after-items hoisted has-global
     items-found t [] h = sym (or-nil (held i (table-of K t)))

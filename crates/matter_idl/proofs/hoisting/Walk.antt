@@ -1,4 +1,4 @@
--- A walk over records in a buffer: what stands there, and the way to the next.
+-- A walk over records in a buffer: what is there, and the way to the next.
 use Prim.Native.Nat.{ℕ, _+_, _*_, _≤_, _<_}
 use mathlib.Core.Path.{_≡_, refl, sym, _∙_, ap}
 use mathlib.Core.List.{List, [], _∷_, _++_, append-assoc}
@@ -14,7 +14,7 @@ use Rattle.items.proofs.RecordsFit.{ExtentIn, RecordFits, words-count, layout-f
 use Rattle.items.proofs.ReadBack.{RecordAt, record-there, offset-is, length-is}
 use Rattle.matter_idl.specs.inner.hoisting.{NameInside}
 
--- the records l of a text of n bytes stand in a buffer from at to end, between front and tail
+-- the records l of a text of n bytes are in a buffer from at to end, between front and tail
 pub record Walk (n : ℕ) (front : List ℕ) (l : List Record) (tail out : List ℕ) (at end : ℕ) : Type 0 where
   pub bytes : out ≡ front ++ (catalogue-bytes layout l ++ tail)
   pub start : length front ≡ at
@@ -42,11 +42,11 @@ unfolding offset size
 extent-in absent h = omega arith
 extent-in (at o k) h = h
 
--- the name of a record that stands in a buffer lies in the text
+-- the name of a record that is in a buffer lies in the text
 pub name-in : {n : ℕ} → n ≤ text-limit → {out : List ℕ} {p : ℕ} → RecordAt layout n out p → NameInside out p n
 name-in {n} limit s = let F = layout-fits n limit in rw (offset-is F s, length-is F s) (extent-in (s .of .name) (s .fits .name-inside))
 
--- a walk that has not ended stands at a record
+-- a walk that has not ended is at a record
 module _ {n : ℕ} {front : List ℕ} {r : Record} {l : List Record} {tail out : List ℕ} {at end : ℕ} (w : Walk n front (r ∷ l) tail out at end) where
   counts : word-count layout (r ∷ l) ≡ words-of-kind layout (r .kind) + word-count layout l
   counts = word-count-append (r ∷ []) l ∙ ap (λ k. k + word-count layout l) (word-count-one r (w .fit .0))
@@ -63,12 +63,12 @@ module _ {n : ℕ} {front : List ℕ} {r : Record} {l : List Record} {tail out :
   abbrev pub walk-at : n ≤ text-limit → RecordAt layout n out at
   walk-at limit = record-there (layout-fits n limit) r (w .fit .0) front (catalogue-bytes layout l ++ tail) out at walk-bytes (w .start)
 
-  -- the next record, behind one of as many words
-  pub walk-behind : (x : Record) (out' : List ℕ) → word-count layout (x ∷ []) ≡ words-of-kind layout (r .kind) → out' ≡ front ++ (catalogue-bytes layout (x ∷ []) ++ (catalogue-bytes layout l ++ tail)) → Walk n (front ++ catalogue-bytes layout (x ∷ [])) l tail out' (at + 8 * words-of-kind layout (r .kind)) end
-  walk-behind x out' c e = record { bytes = e ∙ sym (append-assoc front _ _); start = omega (arith, length-append front (catalogue-bytes layout (x ∷ [])), catalogue-bytes-length (x ∷ []), c, w .start); ends = omega (arith, w .ends, counts); fit = w .fit .1 }
+  -- the next record, after one of as many words
+  pub walk-after : (x : Record) (out' : List ℕ) → word-count layout (x ∷ []) ≡ words-of-kind layout (r .kind) → out' ≡ front ++ (catalogue-bytes layout (x ∷ []) ++ (catalogue-bytes layout l ++ tail)) → Walk n (front ++ catalogue-bytes layout (x ∷ [])) l tail out' (at + 8 * words-of-kind layout (r .kind)) end
+  walk-after x out' c e = record { bytes = e ∙ sym (append-assoc front _ _); start = omega (arith, length-append front (catalogue-bytes layout (x ∷ [])), catalogue-bytes-length (x ∷ []), c, w .start); ends = omega (arith, w .ends, counts); fit = w .fit .1 }
 
   pub walk-next : Walk n (front ++ catalogue-bytes layout (r ∷ [])) l tail out (at + 8 * words-of-kind layout (r .kind)) end
-  walk-next = walk-behind r out (word-count-one r (w .fit .0)) walk-bytes
+  walk-next = walk-after r out (word-count-one r (w .fit .0)) walk-bytes
 
 -- a walk by what is left of it
 pub record Standing (Q : List Record → Type 0) (n : ℕ) (front tail out : List ℕ) (at end : ℕ) : Type 0 where

@@ -13,7 +13,7 @@ use Rattle.lexing.specs.unescaping.{Unescaped, gives, faultAt, first, escaped, 
 use Rattle.lexing.specs.declared.unescaping.Unescaping.{Unescaping}
 use Rattle.matter_idl.specs.interface.{number-unit, value-limit, result, unescaping}
 
--- no more bytes come out than there are, and a fault stands among them
+-- no more bytes come out than there are, and a fault is among them
 abbrev Within : ℕ → ℕ → Unescaped → Type 0
 Within b n (gives l) = length l ≤ n
 Within b n (faultAt k) = k < b + n

@@ -16,7 +16,7 @@ use Rattle.matter_idl.specs.sections.{sections}
 use Rattle.matter_idl.specs.survey.{accepted-items, report-entries, report-layout, report-bytes, Surveyed, not-surveyed, surveyed, for-catalogue, for-report, into-buffers, survey}
 use Rattle.matter_idl.specs.interface.{number-unit, result}
 use Rattle.matter_idl.proofs.interface.Outcomes.{refused-result, refused-left, written-result, written-left}
-use Rattle.matter_idl.proofs.reading.Marked.{put-behind}
+use Rattle.matter_idl.proofs.reading.Marked.{put-after}
 use Rattle.matter_idl.proofs.survey.Laws.{report-length, entries-count}
 
 -- what a call returns and leaves in its two buffers
@@ -35,7 +35,7 @@ unfolding for-catalogue for-report
 survey-written {s} {c} {r} e z h cat rep w y =
     let k : for-catalogue s ≡ written c = ap for-catalogue e in
     let l : for-report s ≡ written r = ap for-report e in
-    (written-result k z h, (written-left k cat (w ∙ put-behind 0 [] c cat refl), written-left l rep (y ∙ put-behind 0 [] r rep refl)))
+    (written-result k z h, (written-left k cat (w ∙ put-after 0 [] c cat refl), written-left l rep (y ∙ put-after 0 [] r rep refl)))
 
 module _ (u : List ℕ) (n m : ℕ) where
   abbrev pub survey-now : Surveyed

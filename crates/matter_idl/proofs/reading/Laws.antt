@@ -62,7 +62,7 @@ nothing-left (x ∷ r) e = absurd (omega arith)
 abbrev items-one : Elementwise (each unhoisted-item) unhoisted-item
 items-one = each-elementwise unhoisted-item
 
--- Blanks that reach the end: no declaration stands there, whatever the doc comment before it.
+-- Blanks that reach the end: no declaration is there, whatever the doc comment before it.
 module _ {b c : ℕ} {u r : List ℕ} (q : Rest b u c r) {t : Blank} (w : BlankTo t c r) (e : t .next ≡ b + length u) where
   end-rest : Rest b u (t .next) (drop (t .next - b) u)
   end-rest = rest-from b (t .next) u (omega (arith, q .from, w .up)) (omega (arith, e))
@@ -89,7 +89,7 @@ module _ {b c n : ℕ} {u r : List ℕ} (i : CountingItems b u c n) (q : Rest b 
     within : Rest c r (t .next) v
     within = rest-within q q' (w .up)
 
-    -- blanks behind which no declaration stands
+    -- blanks after which no declaration is
     passed : {p : ℕ} → DeclarationCountTo (NoCount (Fail p)) (t .next) v → CountingItems b u (t .next) n
     passed h = go (ℕ-discrete (t .next) c)
       where
@@ -101,7 +101,7 @@ module _ {b c n : ℕ} {u r : List ℕ} (i : CountingItems b u c n) (q : Rest b 
       pub items-more : {k e : ℕ} → x ≡ Words k e → CountingItems b u e (n + k) × (c < e)
       items-more z = more (item-words w within h z) z
 
-      -- what is lost of a declaration is lost of all items, behind blanks too
+      -- what is lost of a declaration is lost of all items, after blanks too
       pub items-lost : (t .next ≡ b + length u → ⊥) → {l : Lost} → x ≡ NoCount l → CountTo (each unhoisted-item) all-items x b u
       items-lost e {l} z = count-pass (each unhoisted-item) all-items b u x l z (go l (subst (λ (y : Count). DeclarationCountTo y (t .next) v) z h))
         where
@@ -148,14 +148,14 @@ module _ (b : ℕ) (u : List ℕ) (at : ℕ) (old : List ℕ) (room : Room (each
     placing-same = writing-same items-one item b u at old many i
 
     module _ {r : List ℕ} (q : Rest b u c r) {t : Blank} (w : BlankTo t c r) where
-      abbrev behind : Parser Item
-      behind = declaration (docOf (t .doc))
+      abbrev following : Parser Item
+      following = declaration (docOf (t .doc))
 
       blanks : Took whitespace0 b u c (docOf (t .doc)) (t .next)
       blanks = blank-took q w
 
-      -- an item is the declaration behind its blanks
-      item-took : {a : Item} {n : ℕ} → Took behind b u (t .next) a n → Took item b u c a n
+      -- an item is the declaration after its blanks
+      item-took : {a : Item} {n : ℕ} → Took following b u (t .next) a n → Took item b u c a n
       item-took {a} {n} s = record {
         goes = item-is c (drop (c - b) u) (blanks .goes) ∙ sym (or-here _ _ c (drop (c - b) u) a n (drop (n - b) u) (sym (s .goes)));
         up = omega (arith, s .up, blanks .up);
@@ -163,11 +163,11 @@ module _ (b : ℕ) (u : List ℕ) (at : ℕ) (old : List ℕ) (room : Room (each
       }
 
       module _ {v : List ℕ} (q' : Rest b u (t .next) v) where
-        there : {a : Item} {n : ℕ} → ok a n (drop (n - t .next) v) ≡ behind (t .next) v → Took item b u c a n
+        there : {a : Item} {n : ℕ} → ok a n (drop (n - t .next) v) ≡ following (t .next) v → Took item b u c a n
         there g = item-took (took (declaration-walks (docOf (t .doc))) q' g)
 
-        -- before the end a declaration stands there, and there is room for it
-        pub placing-room : (t .next ≡ b + length u → ⊥) → Room unhoisted-item behind (t .next) v to (length new)
+        -- before the end a declaration is there, and there is room for it
+        pub placing-room : (t .next ≡ b + length u → ⊥) → Room unhoisted-item following (t .next) v to (length new)
         placing-room e = find (item c r) refl
           where
             within : Rest c r (t .next) v
@@ -176,10 +176,10 @@ module _ (b : ℕ) (u : List ℕ) (at : ℕ) (old : List ℕ) (room : Room (each
             lost : (l : Lost) → lostReply l ≡ item c r → ⊥
             lost l y = no-room room l (all-lost (i .run) q (omega (arith, bytes-left q' e, q .size, q' .size, w .up)) l y)
 
-            declared : (a : Item) (n : ℕ) (s : List ℕ) → ok a n s ≡ behind (t .next) v → Room unhoisted-item behind (t .next) v to (length new)
+            declared : (a : Item) (n : ℕ) (s : List ℕ) → ok a n s ≡ following (t .next) v → Room unhoisted-item following (t .next) v to (length new)
             declared a n s y =
                 let k = rest-is (declaration-walks (docOf (t .doc))) (t .next) n v s a (sym y) in
-                let g : ok a n (drop (n - t .next) v) ≡ behind (t .next) v = rw (← k) y in
+                let g : ok a n (drop (n - t .next) v) ≡ following (t .next) v = rw (← k) y in
                 record { value = a; next = n; is = g; fits = writing-fits items-one item b u at old many i item-consumes (there g) (word-count layout (unhoisted-item a)) refl .0 }
 
             -- blanks before the end are no item
@@ -190,16 +190,16 @@ module _ (b : ℕ) (u : List ℕ) (at : ℕ) (old : List ℕ) (room : Room (each
                 let m = many0-step item-consumes (i .run) (took item-walks q g) .0 in
                 no-room room (Fail p) (all-lost (subst (λ (o : ℕ). ManyAt item b u o (i .seen ++ (a ∷ []))) z m) q' (bytes-left q' e) (Fail p) (sym f))
 
-            find : (x : Reply Item) → item c r ≡ x → Room unhoisted-item behind (t .next) v to (length new)
+            find : (x : Reply Item) → item c r ≡ x → Room unhoisted-item following (t .next) v to (length new)
             find (ok a n s) y = go (item-cases c r (sym (w .reads)) (sym y))
               where
-                go : (ok a n s ≡ behind (t .next) (drop (t .next - c) r)) ⊎ ((ok a n s ≡ (whitespace1 >> ret blank-item) c r) × ((p : ℕ) × (item (t .next) (drop (t .next - c) r) ≡ fail p))) → Room unhoisted-item behind (t .next) v to (length new)
+                go : (ok a n s ≡ following (t .next) (drop (t .next - c) r)) ⊎ ((ok a n s ≡ (whitespace1 >> ret blank-item) c r) × ((p : ℕ) × (item (t .next) (drop (t .next - c) r) ≡ fail p))) → Room unhoisted-item following (t .next) v to (length new)
                 go (inl h) = declared a n s (rw (within .same) h)
                 go (inr h) = absurd (blank a n s (h .1 .0) y (blank-ends w (h .0)) (rw (within .same) (h .1 .1)))
             find (fail p) y = absurd (lost (Fail p) (sym y))
             find (stop k p) y = absurd (lost (Stop k p) (sym y))
 
--- The second pass with hoisting, from the tables ts of earlier items on: the records of the items so far stand in the buffer, marked, and Q holds of them. Had none been marked, another buffer would stand there, of which the laws above speak.
+-- The second pass with hoisting, from the tables ts of earlier items on: the records of the items so far are in the buffer, marked, and Q holds of them. Had none been marked, another buffer would be there, of which the laws above speak.
 pub record HoistingItems (Q : List Record → Type 0) (ts : Tables) (b : ℕ) (u : List ℕ) (c at : ℕ) (old new : List ℕ) (to : ℕ) : Type 0 where
   pub plain : List ℕ
   pub writing : WritingItems b u c at old plain to
@@ -261,7 +261,7 @@ module _ (ts : Tables) (b : ℕ) (u : List ℕ) (at : ℕ) (old : List ℕ) (roo
             subst (λ (n : ℕ). Room unhoisted-item (declaration (docOf (t .doc))) (t .next) v to n) z (placing-room b u at old room (i .writing) q w q' e)
 
         module _ {o : Wrote} {new' : List ℕ} (g : Written unhoisted-item (declaration (docOf (t .doc))) (t .next) v to o new new') where
-          -- the item's records behind those before it, not yet marked
+          -- the item's records after those before it, not yet marked
           pub hoisting-written : new' ≡ put at (catalogue-bytes layout (hoisted ts seen-now ++ unhoisted-item (g .value))) old
           hoisting-written =
               let x = room-left in
@@ -305,7 +305,7 @@ module _ (ts : Tables) (b : ℕ) (u : List ℕ) (at : ℕ) (old : List ℕ) (roo
               } in
               (subst (λ (n : ℕ). HoistingItems R ts b u (o .next) at old new'' n) (sym (g .place)) h, y .1 .0)
 
-      -- the end of the part, behind blanks that may be an item of their own
+      -- the end of the part, after blanks that may be an item of their own
       abbrev Ended : Type 0
       Ended = (k : Written (hoisted ts) all-items b u at (record { next = t .next; to = to }) old new) × (All (ItemTrue b u (b + length u)) (k .value) × Q (hoisted ts (k .value)))
 

@@ -1,4 +1,4 @@
--- The second pass behind the records of earlier items: a turn writes an item's records and then marks them, and at the end all items stand at the front of the buffer.
+-- The second pass after the records of earlier items: a turn writes an item's records and then marks them, and at the end all items are at the front of the buffer.
 use mathlib.Core.Path.{_≡_, refl, sym, ap, _∙_}
 use mathlib.Core.List.{List, [], _∷_, _++_, append-assoc, append-nil}
 use Prim.Native.Nat.{ℕ, _+_, _-_, _*_, _<_}
@@ -24,19 +24,19 @@ use Rattle.matter_idl.specs.reading.{all-items}
 use Rattle.matter_idl.specs.inner.bits.{bits-size}
 use Rattle.matter_idl.specs.inner.filter.{Filtered}
 use Rattle.matter_idl.specs.inner.hoisting.{Unhoisted, HoistedTo}
-use Rattle.matter_idl.specs.inner.reading.{PartOf, HoistedFront, HoistedBehind, HoistedItemsTo}
+use Rattle.matter_idl.specs.inner.reading.{PartOf, HoistedFront, HoistedAfter, HoistedItemsTo}
 use Rattle.matter_idl.proofs.Around.{item-whole, items-whole}
 use Rattle.matter_idl.proofs.Places.{hoisted-words}
 use Rattle.matter_idl.proofs.filter.Laws.{filtered-none}
 use Rattle.matter_idl.proofs.hoisting.Marks.{hoisted-append}
 use Rattle.matter_idl.proofs.reading.Laws.{HoistingItems, hoisting-start, hoisting-place, hoisting-written, hoisting-true, hoisting-more, hoisting-ends}
 
--- bytes written behind the first of a buffer
-pub put-behind : (at : ℕ) (front xs tail : List ℕ) → at ≡ length front → put at xs (front ++ tail) ≡ front ++ (xs ++ drop (length xs) tail)
+-- bytes written after the first of a buffer
+pub put-after : (at : ℕ) (front xs tail : List ℕ) → at ≡ length front → put at xs (front ++ tail) ≡ front ++ (xs ++ drop (length xs) tail)
 unfolding put
-put-behind at front xs tail e = rw (e, take-at front tail (length front) refl, drop-append-add front tail (length xs)) refl
+put-after at front xs tail e = rw (e, take-at front tail (length front) refl, drop-append-add front tail (length xs)) refl
 
--- nothing stands at the front yet
+-- nothing is at the front yet
 unfoldable pub front-none : (t out : List ℕ) {filter : List ℕ} → length filter ≡ bits-size → HoistedFront t out filter 0
 unfolding hoisted
 front-none t out z = record { items = []; true-items = tt; tail = out; bytes = rw (catalogue-bytes-none layout) refl; ends = omega (arith, word-count-none); filtered = filtered-none t z }
@@ -45,34 +45,34 @@ module _ {t old filter : List ℕ} {at : ℕ} (f : HoistedFront t old filter at)
   abbrev tables : Tables
   tables = after-items no-ids (f .items)
 
-  -- records written behind the front
-  behind : (l : List Record) → put at (catalogue-bytes layout l) old ≡ catalogue-bytes layout (hoisted no-ids (f .items) ++ l) ++ drop (8 * word-count layout l) (f .tail)
-  behind l =
+  -- records written after the front
+  following : (l : List Record) → put at (catalogue-bytes layout l) old ≡ catalogue-bytes layout (hoisted no-ids (f .items) ++ l) ++ drop (8 * word-count layout l) (f .tail)
+  following l =
       let front = catalogue-bytes layout (hoisted no-ids (f .items)) in
       let xs = catalogue-bytes layout l in
-      ap (put at xs) (f .bytes) ∙ (put-behind at front xs (f .tail) (omega (arith, f .ends, catalogue-bytes-length (hoisted no-ids (f .items)))) ∙ rw (catalogue-bytes-length l, catalogue-bytes-append layout (hoisted no-ids (f .items)) l) (sym (append-assoc front xs _)))
+      ap (put at xs) (f .bytes) ∙ (put-after at front xs (f .tail) (omega (arith, f .ends, catalogue-bytes-length (hoisted no-ids (f .items)))) ∙ rw (catalogue-bytes-length l, catalogue-bytes-append layout (hoisted no-ids (f .items)) l) (sym (append-assoc front xs _)))
 
   -- those of items are hoisted with the items of the front
-  behind-items : (l : List Item) → put at (catalogue-bytes layout (hoisted tables l)) old ≡ catalogue-bytes layout (hoisted no-ids (f .items ++ l)) ++ drop (8 * word-count layout (hoisted tables l)) (f .tail)
-  behind-items l = behind (hoisted tables l) ∙ rw (hoisted-append no-ids (f .items) l) refl
+  items-put-after : (l : List Item) → put at (catalogue-bytes layout (hoisted tables l)) old ≡ catalogue-bytes layout (hoisted no-ids (f .items ++ l)) ++ drop (8 * word-count layout (hoisted tables l)) (f .tail)
+  items-put-after l = following (hoisted tables l) ∙ rw (hoisted-append no-ids (f .items) l) refl
 
-  words-behind : (l : List Item) → word-count layout (hoisted no-ids (f .items ++ l)) ≡ word-count layout (hoisted no-ids (f .items)) + word-count layout (hoisted tables l)
-  words-behind l = ap (word-count layout) (hoisted-append no-ids (f .items) l) ∙ word-count-append (hoisted no-ids (f .items)) (hoisted tables l)
+  words-with : (l : List Item) → word-count layout (hoisted no-ids (f .items ++ l)) ≡ word-count layout (hoisted no-ids (f .items)) + word-count layout (hoisted tables l)
+  words-with l = ap (word-count layout) (hoisted-append no-ids (f .items) l) ∙ word-count-append (hoisted no-ids (f .items)) (hoisted tables l)
 
--- the loop: whichever items stand at the front, the filter has the ids of those and of the ones behind
-abbrev Behind : (t filter : List ℕ) {old filter₀ : List ℕ} {at : ℕ} → HoistedFront t old filter₀ at → List Record → Type 0
-Behind t filter f l = Filtered filter t (hoisted no-ids (f .items) ++ l)
+-- the loop: whichever items are at the front, the filter has the ids of those and of the ones after
+abbrev After : (t filter : List ℕ) {old filter₀ : List ℕ} {at : ℕ} → HoistedFront t old filter₀ at → List Record → Type 0
+After t filter f l = Filtered filter t (hoisted no-ids (f .items) ++ l)
 
-abbrev pub HoistingBehind : (t : List ℕ) (b : ℕ) (u : List ℕ) (c at : ℕ) (old filter₀ new filter : List ℕ) (to : ℕ) → Type 0
-HoistingBehind t b u c at old filter₀ new filter to = (f : HoistedFront t old filter₀ at) → HoistingItems (Behind t filter f) (tables f) b u c at old new to
+abbrev pub HoistingAfter : (t : List ℕ) (b : ℕ) (u : List ℕ) (c at : ℕ) (old filter₀ new filter : List ℕ) (to : ℕ) → Type 0
+HoistingAfter t b u c at old filter₀ new filter to = (f : HoistedFront t old filter₀ at) → HoistingItems (After t filter f) (tables f) b u c at old new to
 
-pub behind-start : (t : List ℕ) (b : ℕ) (u : List ℕ) (at : ℕ) (old filter : List ℕ) → Room (each unhoisted-item) all-items b u at (length old) → HoistingBehind t b u b at old filter old filter at
-behind-start t b u at old filter room f = hoisting-start (tables f) b u at old room (rw append-nil (f .filtered))
+pub after-start : (t : List ℕ) (b : ℕ) (u : List ℕ) (at : ℕ) (old filter : List ℕ) → Room (each unhoisted-item) all-items b u at (length old) → HoistingAfter t b u b at old filter old filter at
+after-start t b u at old filter room f = hoisting-start (tables f) b u at old room (rw append-nil (f .filtered))
 
-module _ {t : List ℕ} {b : ℕ} {u : List ℕ} (p : PartOf t b u) {at : ℕ} {old filter₀ : List ℕ} (room : Room (each unhoisted-item) all-items b u at (length old)) {c : ℕ} {new filter : List ℕ} {to : ℕ} (j : HoistingBehind t b u c at old filter₀ new filter to)
+module _ {t : List ℕ} {b : ℕ} {u : List ℕ} (p : PartOf t b u) {at : ℕ} {old filter₀ : List ℕ} (room : Room (each unhoisted-item) all-items b u at (length old)) {c : ℕ} {new filter : List ℕ} {to : ℕ} (j : HoistingAfter t b u c at old filter₀ new filter to)
     {r : List ℕ} (q : Rest b u c r) {s : Blank} (w : BlankTo s c r) where
   module _ {v : List ℕ} (q' : Rest b u (s .next) v) {o : Wrote} {new' : List ℕ} (g : Written unhoisted-item (declaration (docOf (s .doc))) (s .next) v to o new new') (f : HoistedFront t old filter₀ at) where
-    abbrev i : HoistingItems (Behind t filter f) (tables f) b u c at old new to
+    abbrev i : HoistingItems (After t filter f) (tables f) b u c at old new to
     i = j f
 
     abbrev seen : List Item
@@ -96,18 +96,18 @@ module _ {t : List ℕ} {b : ℕ} {u : List ℕ} (p : PartOf t b u) {at : ℕ} {
       item-true = item-whole p (g .value) (hoisting-true (tables f) b u at old room i q w q' g);
       filtered = rw (hoisted-append no-ids (f .items) seen) (i .holds);
       tail = drop (8 * word-count layout unmarked) (f .tail);
-      bytes = hoisting-written (tables f) b u at old room i q w q' g ∙ (behind f unmarked ∙ rw (hoisted-append no-ids (f .items) seen, append-assoc (hoisted no-ids (f .items)) (hoisted (tables f) seen) (unhoisted-item (g .value))) refl);
-      starts = omega (arith, hoisting-place (tables f) b u at old room i, f .ends, words-behind f seen);
+      bytes = hoisting-written (tables f) b u at old room i q w q' g ∙ (following f unmarked ∙ rw (hoisted-append no-ids (f .items) seen, append-assoc (hoisted no-ids (f .items)) (hoisted (tables f) seen) (unhoisted-item (g .value))) refl);
+      starts = omega (arith, hoisting-place (tables f) b u at old room i, f .ends, words-with f seen);
       ends = g .place;
     }
 
-    pub mark-turn : {new'' filter' : List ℕ} → HoistedTo new'' filter' t new' filter to (o .to) → HoistingItems (Behind t filter' f) (tables f) b u (o .next) at old new'' (o .to) × (c < o .next)
+    pub mark-turn : {new'' filter' : List ℕ} → HoistedTo new'' filter' t new' filter to (o .to) → HoistingItems (After t filter' f) (tables f) b u (o .next) at old new'' (o .to) × (c < o .next)
     unfolding mark-asks
     mark-turn h =
         let k = h mark-asks in
         let z : before ++ (g .value ∷ []) ≡ f .items ++ (seen ++ (g .value ∷ [])) = append-assoc (f .items) seen (g .value ∷ []) in
         hoisting-more (tables f) b u at old room i q w q' g
-        (k .bytes ∙ (rw (z, as-long) refl ∙ sym (behind-items f (seen ++ (g .value ∷ [])))))
+        (k .bytes ∙ (rw (z, as-long) refl ∙ sym (items-put-after f (seen ++ (g .value ∷ [])))))
         (rw (z, hoisted-append no-ids (f .items) (seen ++ (g .value ∷ []))) at (k .filtered))
 
   -- the end of the part
@@ -123,8 +123,8 @@ module _ {t : List ℕ} {b : ℕ} {u : List ℕ} (p : PartOf t b u) {at : ℕ} {
           items = f .items ++ l;
           true-items = all-append (ItemTrue 0 t (length t)) (f .items) l (f .true-items) (items-whole p l (k .1 .0));
           tail = drop (to - at) (f .tail);
-          bytes = k .0 .bytes ∙ (behind-items f l ∙ rw n refl);
-          ends = omega (arith, k .0 .place, f .ends, words-behind f l);
+          bytes = k .0 .bytes ∙ (items-put-after f l ∙ rw n refl);
+          ends = omega (arith, k .0 .place, f .ends, words-with f l);
           filtered = rw (hoisted-append no-ids (f .items) l) (k .1 .1);
         };
         front-items = refl;
@@ -132,12 +132,12 @@ module _ {t : List ℕ} {b : ℕ} {u : List ℕ} (p : PartOf t b u) {at : ℕ} {
       }
 
 -- the buffer keeps its length
-pub behind-same : {t old filter₀ new filter : List ℕ} {at b : ℕ} {u : List ℕ} {w : Wrote} → Room (each unhoisted-item) all-items b u at (length old) → {f : HoistedFront t old filter₀ at} → HoistedBehind f b u w new filter → length new ≡ length old
-behind-same {old = old} {at = at} {w = w} room {f} h =
+pub after-same : {t old filter₀ new filter : List ℕ} {at b : ℕ} {u : List ℕ} {w : Wrote} → Room (each unhoisted-item) all-items b u at (length old) → {f : HoistedFront t old filter₀ at} → HoistedAfter f b u w new filter → length new ≡ length old
+after-same {old = old} {at = at} {w = w} room {f} h =
     let z = room .is ∙ sym (h .is) in
     let y : room .value ≡ h .items = cc in
     let x : word-count layout (each unhoisted-item (room .value)) ≡ word-count layout (each unhoisted-item (h .items)) = ap (λ (l : List Item). word-count layout (each unhoisted-item l)) y in
-    let n : w .to ≡ at + 8 * word-count layout (hoisted (tables f) (h .items)) = omega (arith, h .front .ends, ap (λ (l : List Item). word-count layout (hoisted no-ids l)) (h .front-items), words-behind f (h .items), f .ends) in
+    let n : w .to ≡ at + 8 * word-count layout (hoisted (tables f) (h .items)) = omega (arith, h .front .ends, ap (λ (l : List Item). word-count layout (hoisted no-ids l)) (h .front-items), words-with f (h .items), f .ends) in
     omega (
       arith,
       room .fits,

@@ -91,7 +91,7 @@ module _ {u : List ℕ} {i : ℕ} (h : Uncut u i) where
 pub cutless-one : {r : Bool} {u : List ℕ} {i : ℕ} → r ≡ cut-at u i → Cutless r u i 1
 cutless-one {r} {u} {i} c = record { each = λ e. below-more _ 0 (below-none _) (let z : i + 0 ≡ i = omega arith in rw z (sym c ∙ e)) }
 
--- n bytes, and m behind them
+-- n bytes, and m after them
 cutless-join : (n m : ℕ) {r s : Bool} {u : List ℕ} {i : ℕ} → Cutless r u i n → Cutless s u (i + n) m → Cutless (r || s) u i (n + m)
 cutless-join n m {r} {s} {u} {i} p q = record { each = λ e. both-runs (λ k. cut-at u k ≡ false) i n m (p .each (or-false r s e .0)) (q .each (or-false r s e .1)) }
 

@@ -108,11 +108,11 @@ module _ {t : List ℕ} {i c : ℕ} {last : Bool} {seen : List ReportEntry} {ite
       rest-now : r ≡ drop c t
       rest-now = let z : c - 0 ≡ c = omega arith in rw z at (q .same)
 
-      behind-now : drop (w .end - c) r ≡ drop (w .end) t
-      behind-now = let z : w .end - 0 ≡ w .end = omega arith in ap (drop (w .end - c)) (q .same) ∙ (rebase 0 c (w .end) t (omega arith) (f .from) ∙ rw z refl)
+      after-now : drop (w .end - c) r ≡ drop (w .end) t
+      after-now = let z : w .end - 0 ≡ w .end = omega arith in ap (drop (w .end - c)) (q .same) ∙ (rebase 0 c (w .end) t (omega arith) (f .from) ∙ rw z refl)
 
       pub left-is : others last (drop c t) ≡ s ∷ others (w .last) (drop (w .end) t)
-      left-is = rw e (ap sections (sym rest-now) ∙ (f .is ∙ rw (behind-now, rest-now, ← d) refl))
+      left-is = rw e (ap sections (sym rest-now) ∙ (f .is ∙ rw (after-now, rest-now, ← d) refl))
 
       pub section-ends : c + length s ≡ w .end
       section-ends = rw (d, length-take, length-drop) (omega (arith, f .from, f .inside, q .size))

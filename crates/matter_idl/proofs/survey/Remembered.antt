@@ -25,7 +25,7 @@ use Rattle.matter_idl.specs.survey.{items-of, ReportEntry, sound, spoilt
 use Rattle.matter_idl.specs.answers.reading.{VerdictAtTo}
 use Rattle.matter_idl.specs.inner.reading.{HoistedItemsTo}
 use Rattle.matter_idl.specs.inner.bits.{bits-size, has-bit, BitSet}
-use Rattle.matter_idl.specs.inner.survey.{is-sound, no-entry, AcceptedBits, Remembered, accepted-alone, Judged, SectionBehindTo}
+use Rattle.matter_idl.specs.inner.survey.{is-sound, no-entry, AcceptedBits, Remembered, accepted-alone, Judged, SectionAfterTo}
 use Rattle.matter_idl.specs.declared.reading.Verdict.{Verdict}
 use Rattle.matter_idl.specs.declared.reading.Verdict.the-variants.{Accepted, Refused}
 use Rattle.matter_idl.proofs.bits.Laws.{none-set}
@@ -108,8 +108,8 @@ accepted-reads {n} {b} {u} h = go (utf8-error b u) refl (all-items b u) refl
 
 -- The records of a section after those before it.
 module _ {a : Bool} (b : ℕ) (u : List ℕ) (h : a ≡ accepted-alone b u) where
-  pub refused-behind : a ≡ false → {t out filter : List ℕ} {at : ℕ} → SectionBehindTo out filter t out filter at b u at
-  refused-behind e {at = at} f =
+  pub refused-after : a ≡ false → {t out filter : List ℕ} {at : ℕ} → SectionAfterTo out filter t out filter at b u at
+  refused-after e {at = at} f =
       let z : at - at ≡ 0 = omega arith in
       record { front = f; front-items = rw (refused-items b u h e) (sym (append-nil (f .items))); front-tail = rw z refl }
 
@@ -120,8 +120,8 @@ module _ {a : Bool} (b : ℕ) (u : List ℕ) (h : a ≡ accepted-alone b u) wher
     pub judged-room : {at size : ℕ} → at + 8 * word-count layout (hoisted no-ids (items-of (verdict-at b u))) ≤ size → Room (each unhoisted-item) all-items b u at size
     judged-room l = record { value = items-of (verdict-at b u); next = reads .0; is = reads .1; fits = omega (arith, hoisted-words no-ids (items-of (verdict-at b u)), l) }
 
-    pub accepted-behind : {new filter t old filter₀ : List ℕ} {at : ℕ} {w : Wrote} → HoistedItemsTo new filter t old filter₀ at b u w → SectionBehindTo new filter t old filter₀ at b u (w .to)
-    accepted-behind g f =
+    pub accepted-after : {new filter t old filter₀ : List ℕ} {at : ℕ} {w : Wrote} → HoistedItemsTo new filter t old filter₀ at b u w → SectionAfterTo new filter t old filter₀ at b u (w .to)
+    accepted-after g f =
         let k = g f in
         let z = reads .1 ∙ sym (k .is) in
         let y : k .items ≡ items-of (verdict-at b u) = cc in

@@ -20,11 +20,11 @@ use Rattle.matter_idl.specs.survey.{items-of, accepted-items, ReportEntr
 use Rattle.matter_idl.specs.inner.bits.{bits-size}
 use Rattle.matter_idl.specs.inner.reading.{PartOf, HoistedFront}
 use Rattle.matter_idl.specs.inner.sections.{FirstSection}
-use Rattle.matter_idl.specs.inner.survey.{entryOf, is-sound, no-entry, AcceptedBits, BitTrue, Judged, SectionBehindTo}
+use Rattle.matter_idl.specs.inner.survey.{entryOf, is-sound, no-entry, AcceptedBits, BitTrue, Judged, SectionAfterTo}
 use Rattle.matter_idl.specs.declared.sections.Section.{Section}
 use Rattle.matter_idl.specs.declared.reading.Verdict.{Verdict}
 use Rattle.matter_idl.proofs.Cutting.{section-number}
-use Rattle.matter_idl.proofs.reading.Marked.{put-behind, front-none}
+use Rattle.matter_idl.proofs.reading.Marked.{put-after, front-none}
 use Rattle.matter_idl.proofs.survey.Laws.{report-length, report-append, Passed, passed-start, last-is, all-seen, all-accepted, left-is, section-ends, passed-more, words-more}
 
 -- the records and the entries of the sections before c are written
@@ -73,7 +73,7 @@ module _ {t cat₀ rep₀ : List ℕ} {i c to : ℕ} {cat filter rep : List ℕ}
     catalogue-written =
         let xs = catalogue-bytes layout (hoisted no-ids (h .items)) in
         let z : length xs ≡ to = omega (arith, to-is, catalogue-bytes-length (hoisted no-ids (h .items))) in
-        rw (all-accepted (h .passed) is-last) (h .front .bytes ∙ (rw (h .front-items, h .front-tail, ← z) refl ∙ sym (put-behind 0 [] xs cat₀ refl)))
+        rw (all-accepted (h .passed) is-last) (h .front .bytes ∙ (rw (h .front-items, h .front-tail, ← z) refl ∙ sym (put-after 0 [] xs cat₀ refl)))
 
     pub report-written : rep ≡ put 0 (report-bytes report-layout (report-entries 0 (sections t))) rep₀
     report-written = rw (all-seen (h .passed) is-last) (h .report)
@@ -105,7 +105,7 @@ module _ {t cat₀ rep₀ : List ℕ} {i c to : ℕ} {cat filter rep : List ℕ}
     pub words-room : to + 8 * word-count layout (hoisted no-ids (items-of (verdict-at c s))) ≤ length cat
     words-room = omega (arith, catalogue-same, to-is, words-more (h .items) (items-of (verdict-at c s)), words-in (h .items ++ items-of (verdict-at c s)) _ (next .items-are))
 
-    pub writing-more : (v : Verdict) → Judged v c s → {rep' : List ℕ} → rep' ≡ put (8 * i) (report-bytes report-layout (entryOf c (w .end - c) v ∷ [])) rep → {to' : ℕ} {cat' filter' : List ℕ} → SectionBehindTo cat' filter' t cat filter to c s to' → WritingSections t cat₀ rep₀ (i + 1) (w .end) to' cat' filter' rep'
+    pub writing-more : (v : Verdict) → Judged v c s → {rep' : List ℕ} → rep' ≡ put (8 * i) (report-bytes report-layout (entryOf c (w .end - c) v ∷ [])) rep → {to' : ℕ} {cat' filter' : List ℕ} → SectionAfterTo cat' filter' t cat filter to c s to' → WritingSections t cat₀ rep₀ (i + 1) (w .end) to' cat' filter' rep'
     writing-more v j {rep'} y {to'} g =
         let k = g (h .front) in
         let l = h .items ++ items-of (verdict-at c s) in

@@ -45,7 +45,7 @@ pub record Catalogue (n : ℕ) (out : List ℕ) (end : ℕ) : Type 0 where
 abbrev pub HeldTo : Bool → List ℕ → List ℕ → ℕ → ℕ → ℕ → ℕ → Type 0
 HeldTo r t out end k o n = (c : Catalogue (length t) out end) → r ≡ has-global t k (bytes-at t (at o n)) (c .records)
 
--- the same of the id of the type whose record stands at p, where the filter f has the ids of those records
+-- the same of the id of the type whose record is at p, where the filter f has the ids of those records
 abbrev pub KnownTo : Bool → (t out f : List ℕ) → (end p : ℕ) → Type 0
 KnownTo r t out f end p = (c : Catalogue (length t) out end) → Filtered f t (c .records) → r ≡ has-global t (value-at layout kind-field out p) (name-at t out p) (c .records)
 
@@ -95,7 +95,7 @@ abbrev pub MayBeType : Bool → (kind place : ℕ) → Type 0
 MayBeType true k p = Unit {0}
 MayBeType false k p = (p ≡ 0) × ((k ≡ struct-kind → ⊥) × ((k ≡ enum-kind → ⊥) × (k ≡ bitmap-kind → ⊥)))
 
--- an item's records as they were written, from start to end, behind the hoisted ones of the items before, whose ids the filter f has
+-- an item's records as they were written, from start to end, after the hoisted ones of the items before, whose ids the filter f has
 pub record Unhoisted (t out f : List ℕ) (start end : ℕ) : Type 0 where
   pub before : List Item
   pub item : Item

@@ -1,4 +1,4 @@
--- The second pass over a part of a text, behind the records of earlier items.
+-- The second pass over a part of a text, after the records of earlier items.
 use Prim.Native.Nat.{ℕ, _+_, _-_, _*_, _≤_}
 use mathlib.Core.Path.{_≡_}
 use mathlib.Core.List.{List, _++_}
@@ -27,8 +27,8 @@ pub record HoistedFront (t out filter : List ℕ) (end : ℕ) : Type 0 where
   pub ends : end ≡ 8 * word-count layout (hoisted no-ids items)
   pub filtered : Filtered filter t (hoisted no-ids items)
 
--- the items of a part, hoisted behind such records: they stand at the front together, and the rest of the buffer is as it was
-pub record HoistedBehind {t old filter₀ : List ℕ} {at : ℕ} (f : HoistedFront t old filter₀ at) (b : ℕ) (u : List ℕ) (w : Wrote) (new filter : List ℕ) : Type 0 where
+-- the items of a part, hoisted after such records: they are at the front together, and the rest of the buffer is as it was
+pub record HoistedAfter {t old filter₀ : List ℕ} {at : ℕ} (f : HoistedFront t old filter₀ at) (b : ℕ) (u : List ℕ) (w : Wrote) (new filter : List ℕ) : Type 0 where
   pub items : List Item
   pub is : ok items (w .next) (drop (w .next - b) u) ≡ all-items b u
   pub front : HoistedFront t new filter (w .to)
@@ -37,4 +37,4 @@ pub record HoistedBehind {t old filter₀ : List ℕ} {at : ℕ} (f : HoistedFro
 
 -- whichever items those are
 abbrev pub HoistedItemsTo : (new filter t old filter₀ : List ℕ) → ℕ → ℕ → List ℕ → Wrote → Type 0
-HoistedItemsTo new filter t old filter₀ at b u w = (f : HoistedFront t old filter₀ at) → HoistedBehind f b u w new filter
+HoistedItemsTo new filter t old filter₀ at b u w = (f : HoistedFront t old filter₀ at) → HoistedAfter f b u w new filter

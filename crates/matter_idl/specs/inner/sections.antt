@@ -9,14 +9,14 @@ use Rattle.matter_idl.specs.sections.{line-feed, cut-after, cut-from, se
 use Rattle.matter_idl.specs.declared.sections.Section.{Section}
 
 -- whether the byte before i is a line feed
-abbrev pub behind-line-feed : List ℕ → ℕ → Bool
-behind-line-feed u i = eqb (getD u (i - 1) 0) line-feed
+abbrev pub after-line-feed : List ℕ → ℕ → Bool
+after-line-feed u i = eqb (getD u (i - 1) 0) line-feed
 
--- whether a cut stands behind the byte at i
+-- whether a cut is after the byte at i
 abbrev pub cut-at : List ℕ → ℕ → Bool
-cut-at u i = cut-after (behind-line-feed u i) (getD u i 0)
+cut-at u i = cut-after (after-line-feed u i) (getD u i 0)
 
--- if r is false, no cut stands behind any of the n bytes from i on
+-- if r is false, no cut is after any of the n bytes from i on
 pub record Cutless (r : Bool) (u : List ℕ) (i n : ℕ) : Type 0 where
   pub each : r ≡ false → (j : ℕ) → j < n → cut-at u (i + j) ≡ false
 
@@ -27,7 +27,7 @@ prefixed xs (s ∷ ss) = (xs ++ s) ∷ ss
 
 -- what the bytes from i on are cut into
 abbrev pub left-at : List ℕ → ℕ → List (List ℕ)
-left-at u i = cut-from (behind-line-feed u i) (drop i u)
+left-at u i = cut-from (after-line-feed u i) (drop i u)
 
 -- the bytes before i hold no cut
 pub record Uncut (u : List ℕ) (i : ℕ) : Type 0 where
@@ -35,7 +35,7 @@ pub record Uncut (u : List ℕ) (i : ℕ) : Type 0 where
   pub inside : i ≤ 1 + length u
   pub is : sections u ≡ prefixed (take i u) (left-at u i)
 
--- the sections behind one: none if it is the last, else those of what is left
+-- the sections after one: none if it is the last, else those of what is left
 abbrev pub others : (last : Bool) → List ℕ → List (List ℕ)
 others true u = []
 others false u = sections u

@@ -39,7 +39,7 @@ abbrev pub is-sound : ReportEntry → Bool
 is-sound (sound b n) = true
 is-sound (spoilt b n k p) = false
 
--- what stands behind the last entry
+-- what is after the last entry
 abbrev pub no-entry : ReportEntry
 no-entry = spoilt 0 0 0 0
 
@@ -67,11 +67,11 @@ pub record Judged (v : Verdict) (b : ℕ) (u : List ℕ) : Type 0 where
   pub is : entryOf b (length u) v ≡ report-entry b (length u) (verdict-at b u)
   pub fits : PlaceFits v
 
--- the items of a section, if it is accepted, hoisted behind those before; the rest of the buffer is as it was
-pub record SectionBehind {t old filter₀ : List ℕ} {at : ℕ} (f : HoistedFront t old filter₀ at) (b : ℕ) (u : List ℕ) (to : ℕ) (new filter : List ℕ) : Type 0 where
+-- the items of a section, if it is accepted, hoisted after those before; the rest of the buffer is as it was
+pub record SectionAfter {t old filter₀ : List ℕ} {at : ℕ} (f : HoistedFront t old filter₀ at) (b : ℕ) (u : List ℕ) (to : ℕ) (new filter : List ℕ) : Type 0 where
   pub front : HoistedFront t new filter to
   pub front-items : front .items ≡ f .items ++ items-of (verdict-at b u)
   pub front-tail : front .tail ≡ drop (to - at) (f .tail)
 
-abbrev pub SectionBehindTo : (new filter t old filter₀ : List ℕ) → ℕ → ℕ → List ℕ → ℕ → Type 0
-SectionBehindTo new filter t old filter₀ at b u to = (f : HoistedFront t old filter₀ at) → SectionBehind f b u to new filter
+abbrev pub SectionAfterTo : (new filter t old filter₀ : List ℕ) → ℕ → ℕ → List ℕ → ℕ → Type 0
+SectionAfterTo new filter t old filter₀ at b u to = (f : HoistedFront t old filter₀ at) → SectionAfter f b u to new filter

@@ -2,7 +2,7 @@ use borrow.Author.Needs.{needs}
 use Rattle.items.proofs.clusters.cluster_head.Statement.{statement}
 use Rattle.items.proofs.clusters.cluster_head.Tie as tie
 use Rattle.items.specs.clusters.{cluster-head}
-use Rattle.lexing.proofs.names.Laws.{named-in, named-took, keyword-name-on, code-behind-on, number-at-took, number-at-lost}
+use Rattle.lexing.proofs.names.Laws.{named-in, named-took, keyword-name-on, code-after-on, number-at-took, number-at-lost}
 use mathlib.Core.Path.{refl}
 use native.Mathlib.Omega.{arith}
 use Rattle.lexing.proofs.Slicing.{rest-self, begin, on, fall, done}
@@ -72,11 +72,11 @@ unfolding cluster-head
 returns-3 c = read-not _ refl tt (begin (cluster-head) _ _ (on _ (skip-took side-on (rest-self _ _) (c .before .before .before .before .before .before .before .before .before .before .before .o .given .1) (opt-skips (c .before .before .before .before .before .before .before .before .before .before .before .before .before .before .side .result) (c .before .before .before .before .before .before .before .before .before .before .before .before .before .before .side .ensures) (c .before .before .before .before .before .before .before .before .before .before .before .before .before .optional .ensures))) (three-go _ _ _ _ (named-took (c .before .before .before .before .before .before .before .keyword-name .ensures) (c .before .before .before .before .before .named .given .1) (keyword-name-on _) (c .before .before .before .before .before .before .before .before .before .rest-at .ensures)) (four-lose _ _ _ _ _ (c .number-lost .result) (c .before .before .before .blank-equals-code .ensures .at) (number-at-lost (c .before .before .before .blank-equals-code .ensures) (c .number-lost .ensures) (c .before .enum-told3 .given .1))))))
 
 blank-at-requires : tie.Need-blank-at-requires
-blank-at-requires c κs = let t = number-at-took (c .before .before .before .blank-equals-code .ensures) code-behind-on (c .before .number .given .1) in omega (arith, t .up, t .inside, c .before .before .before .blank-equals-code .ensures .at .from, c .before .before .before .before .before .before .before .before .before .before .before .before .before .before .before .before .pre)
+blank-at-requires c κs = let t = number-at-took (c .before .before .before .blank-equals-code .ensures) code-after-on (c .before .number .given .1) in omega (arith, t .up, t .inside, c .before .before .before .blank-equals-code .ensures .at .from, c .before .before .before .before .before .before .before .before .before .before .before .before .before .before .before .before .pre)
 
 returns-4 : tie.Need-returns-4
 unfolding cluster-head
-returns-4 c = read-is refl (begin (cluster-head) _ _ (on _ (skip-took side-on (rest-self _ _) (c .before .before .before .before .before .before .before .before .before .before .before .before .o .given .1) (opt-skips (c .before .before .before .before .before .before .before .before .before .before .before .before .before .before .before .side .result) (c .before .before .before .before .before .before .before .before .before .before .before .before .before .before .before .side .ensures) (c .before .before .before .before .before .before .before .before .before .before .before .before .before .before .optional .ensures))) (three-go _ _ _ _ (named-took (c .before .before .before .before .before .before .before .before .keyword-name .ensures) (c .before .before .before .before .before .before .named .given .1) (keyword-name-on _) (c .before .before .before .before .before .before .before .before .before .before .rest-at .ensures)) (four-go _ _ _ _ _ (number-at-took (c .before .before .before .before .blank-equals-code .ensures) code-behind-on (c .before .before .number .given .1)) (on _ (blank-at-took (c .blank-at .ensures)) (done _ _ _ _)))))) (let w = named-in (c .before .before .before .before .before .before .before .before .keyword-name .ensures) (c .before .before .before .before .before .before .named .given .1) in record { from = omega (arith, w .from, c .before .before .before .before .before .before .before .before .before .before .rest-at .ensures .from); up = w .up; inside = omega (arith, w .inside, (number-at-took (c .before .before .before .before .blank-equals-code .ensures) code-behind-on (c .before .before .number .given .1)) .up, (blank-at-took (c .blank-at .ensures)) .up) })
+returns-4 c = read-is refl (begin (cluster-head) _ _ (on _ (skip-took side-on (rest-self _ _) (c .before .before .before .before .before .before .before .before .before .before .before .before .o .given .1) (opt-skips (c .before .before .before .before .before .before .before .before .before .before .before .before .before .before .before .side .result) (c .before .before .before .before .before .before .before .before .before .before .before .before .before .before .before .side .ensures) (c .before .before .before .before .before .before .before .before .before .before .before .before .before .before .optional .ensures))) (three-go _ _ _ _ (named-took (c .before .before .before .before .before .before .before .before .keyword-name .ensures) (c .before .before .before .before .before .before .named .given .1) (keyword-name-on _) (c .before .before .before .before .before .before .before .before .before .before .rest-at .ensures)) (four-go _ _ _ _ _ (number-at-took (c .before .before .before .before .blank-equals-code .ensures) code-after-on (c .before .before .number .given .1)) (on _ (blank-at-took (c .blank-at .ensures)) (done _ _ _ _)))))) (let w = named-in (c .before .before .before .before .before .before .before .before .keyword-name .ensures) (c .before .before .before .before .before .before .named .given .1) in record { from = omega (arith, w .from, c .before .before .before .before .before .before .before .before .before .before .rest-at .ensures .from); up = w .up; inside = omega (arith, w .inside, (number-at-took (c .before .before .before .before .blank-equals-code .ensures) code-after-on (c .before .before .number .given .1)) .up, (blank-at-took (c .blank-at .ensures)) .up) })
 
 pub cluster-head-spec : {M : Type 1} → statement M
 cluster-head-spec =

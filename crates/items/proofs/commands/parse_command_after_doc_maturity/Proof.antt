@@ -8,8 +8,8 @@ use native.Mathlib.Omega.{arith}
 use Rattle.lexing.proofs.Slicing.{walks, rest-self, begin, go, lose, done}
 use Rattle.lexing.proofs.AnswerLaws.{read-lost, read-took}
 use Rattle.lexing.proofs.Pairs.{pair-on, pair-fall, four-go, four-lose}
-use Rattle.lexing.proofs.steps.Laws.{tag-behind-took, skips-lost}
-use Rattle.lexing.proofs.names.Laws.{code-behind-on, number-at-took, number-at-lost}
+use Rattle.lexing.proofs.steps.Laws.{tag-after-took, skips-lost}
+use Rattle.lexing.proofs.names.Laws.{code-after-on, number-at-took, number-at-lost}
 use Rattle.items.proofs.Locality.{command-head-inside}
 use Rattle.lexing.proofs.Locality.{chain-inside}
 use Rattle.items.specs.inner.commands.{commandHeadLost, commandTypesLost}
@@ -65,8 +65,8 @@ returns-3 : tie.Need-returns-3
 unfolding parse-command-after-doc-maturity
 returns-3 c = command-not _ λ d m. (begin (parse-command-after-doc-maturity d m) _ _ (go _ (read-took (c .before .before .before .before .before .before .before .before .before .before .before .before .command-head .ensures) (c .before .before .before .before .before .before .before .before .before .before .r1 .given .1) (walks (chain-inside command-head-inside)) (rest-self _ _) refl) (go _ (command-types-took (c .before .before .before .before .before .before .before .command-types .ensures) (c .before .before .before .before .before .r2 .given .1) (c .before .before .before .before .before .before .before .before .rest-at .ensures)) (four-lose _ _ _ _ _ (c .number-lost .result) (c .before .before .before .blank-equals-code .ensures .at) (number-at-lost (c .before .before .before .blank-equals-code .ensures) (c .number-lost .ensures) (c .before .enum-told3 .given .1))))))
 
-tag-behind-requires : tie.Need-tag-behind-requires
-tag-behind-requires c κs = let t = number-at-took (c .before .before .before .blank-equals-code .ensures) code-behind-on (c .before .number .given .1) in omega (arith, t .up, t .inside, c .before .before .before .blank-equals-code .ensures .at .from, c .before .before .before .before .before .before .before .before .before .before .before .before .before .before .pre)
+tag-after-requires : tie.Need-tag-after-requires
+tag-after-requires c κs = let t = number-at-took (c .before .before .before .blank-equals-code .ensures) code-after-on (c .before .number .given .1) in omega (arith, t .up, t .inside, c .before .before .before .blank-equals-code .ensures .at .from, c .before .before .before .before .before .before .before .before .before .before .before .before .before .before .pre)
 
 enum-known-semicolon : tie.Need-enum-known-semicolon
 enum-known-semicolon c = c .match4 .keys1
@@ -79,11 +79,11 @@ step-lost-requires c κs = tt
 
 returns-4 : tie.Need-returns-4
 unfolding parse-command-after-doc-maturity
-returns-4 c = command-not _ λ d m. (begin (parse-command-after-doc-maturity d m) _ _ (go _ (read-took (c .before .before .before .before .before .before .before .before .before .before .before .before .before .before .before .before .command-head .ensures) (c .before .before .before .before .before .before .before .before .before .before .before .before .before .before .r1 .given .1) (walks (chain-inside command-head-inside)) (rest-self _ _) refl) (go _ (command-types-took (c .before .before .before .before .before .before .before .before .before .before .before .command-types .ensures) (c .before .before .before .before .before .before .before .before .before .r2 .given .1) (c .before .before .before .before .before .before .before .before .before .before .before .before .rest-at .ensures)) (four-go _ _ _ _ _ (number-at-took (c .before .before .before .before .before .before .before .blank-equals-code .ensures) code-behind-on (c .before .before .before .before .before .number .given .1)) (pair-fall _ _ _ (c .step-lost .result) (c .before .before .before .tag-behind .ensures .at) (skips-lost (c .step-lost .ensures) (c .before .enum-told4 .given .1) (c .before .before .before .tag-behind .ensures)))))))
+returns-4 c = command-not _ λ d m. (begin (parse-command-after-doc-maturity d m) _ _ (go _ (read-took (c .before .before .before .before .before .before .before .before .before .before .before .before .before .before .before .before .command-head .ensures) (c .before .before .before .before .before .before .before .before .before .before .before .before .before .before .r1 .given .1) (walks (chain-inside command-head-inside)) (rest-self _ _) refl) (go _ (command-types-took (c .before .before .before .before .before .before .before .before .before .before .before .command-types .ensures) (c .before .before .before .before .before .before .before .before .before .r2 .given .1) (c .before .before .before .before .before .before .before .before .before .before .before .before .rest-at .ensures)) (four-go _ _ _ _ _ (number-at-took (c .before .before .before .before .before .before .before .blank-equals-code .ensures) code-after-on (c .before .before .before .before .before .number .given .1)) (pair-fall _ _ _ (c .step-lost .result) (c .before .before .before .tag-after .ensures .at) (skips-lost (c .step-lost .ensures) (c .before .enum-told4 .given .1) (c .before .before .before .tag-after .ensures)))))))
 
 returns-5 : tie.Need-returns-5
 unfolding parse-command-after-doc-maturity
-returns-5 c = command-is (command-head-within (c .before .before .before .before .before .before .before .before .before .before .before .before .before .before .before .before .command-head .ensures) (c .before .before .before .before .before .before .before .before .before .before .before .before .before .before .r1 .given .1)) (command-types-within (c .before .before .before .before .before .before .before .before .before .before .before .command-types .ensures) (c .before .before .before .before .before .before .before .before .before .r2 .given .1)) (omega (arith, (number-at-took (c .before .before .before .before .before .before .before .blank-equals-code .ensures) code-behind-on (c .before .before .before .before .before .number .given .1)) .up, (tag-behind-took 59 (c .before .semicolon .given .1) (c .before .before .before .tag-behind .ensures)) .up)) λ d m. (begin (parse-command-after-doc-maturity d m) _ _ (go _ (read-took (c .before .before .before .before .before .before .before .before .before .before .before .before .before .before .before .before .command-head .ensures) (c .before .before .before .before .before .before .before .before .before .before .before .before .before .before .r1 .given .1) (walks (chain-inside command-head-inside)) (rest-self _ _) refl) (go _ (command-types-took (c .before .before .before .before .before .before .before .before .before .before .before .command-types .ensures) (c .before .before .before .before .before .before .before .before .before .r2 .given .1) (c .before .before .before .before .before .before .before .before .before .before .before .before .rest-at .ensures)) (four-go _ _ _ _ _ (number-at-took (c .before .before .before .before .before .before .before .blank-equals-code .ensures) code-behind-on (c .before .before .before .before .before .number .given .1)) (pair-on _ _ _ (tag-behind-took 59 (c .before .semicolon .given .1) (c .before .before .before .tag-behind .ensures)) (done _ _ _ _))))))
+returns-5 c = command-is (command-head-within (c .before .before .before .before .before .before .before .before .before .before .before .before .before .before .before .before .command-head .ensures) (c .before .before .before .before .before .before .before .before .before .before .before .before .before .before .r1 .given .1)) (command-types-within (c .before .before .before .before .before .before .before .before .before .before .before .command-types .ensures) (c .before .before .before .before .before .before .before .before .before .r2 .given .1)) (omega (arith, (number-at-took (c .before .before .before .before .before .before .before .blank-equals-code .ensures) code-after-on (c .before .before .before .before .before .number .given .1)) .up, (tag-after-took 59 (c .before .semicolon .given .1) (c .before .before .before .tag-after .ensures)) .up)) λ d m. (begin (parse-command-after-doc-maturity d m) _ _ (go _ (read-took (c .before .before .before .before .before .before .before .before .before .before .before .before .before .before .before .before .command-head .ensures) (c .before .before .before .before .before .before .before .before .before .before .before .before .before .before .r1 .given .1) (walks (chain-inside command-head-inside)) (rest-self _ _) refl) (go _ (command-types-took (c .before .before .before .before .before .before .before .before .before .before .before .command-types .ensures) (c .before .before .before .before .before .before .before .before .before .r2 .given .1) (c .before .before .before .before .before .before .before .before .before .before .before .before .rest-at .ensures)) (four-go _ _ _ _ _ (number-at-took (c .before .before .before .before .before .before .before .blank-equals-code .ensures) code-after-on (c .before .before .before .before .before .number .given .1)) (pair-on _ _ _ (tag-after-took 59 (c .before .semicolon .given .1) (c .before .before .before .tag-after .ensures)) (done _ _ _ _))))))
 
 pub parse-command-after-doc-maturity-spec : {M : Type 1} → statement M
 parse-command-after-doc-maturity-spec =
@@ -105,7 +105,7 @@ parse-command-after-doc-maturity-spec =
     enum-told-3
     number-lost-requires
     returns-3
-    tag-behind-requires
+    tag-after-requires
     enum-known-semicolon
     enum-told-4
     step-lost-requires

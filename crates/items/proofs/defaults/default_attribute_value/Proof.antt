@@ -8,7 +8,7 @@ use Rattle.lexing.specs.bytes.{ascii}
 use Rattle.lexing.specs.answers.{wordAt}
 use Rattle.lexing.proofs.Slicing.{rest-self, begin, on, fall, keyword-took, step-lost}
 use Rattle.lexing.proofs.Pairs.{pair-on, pair-fall}
-use Rattle.lexing.proofs.steps.Laws.{blank-at-took, tag-behind-took, skips-lost}
+use Rattle.lexing.proofs.steps.Laws.{blank-at-took, tag-after-took, skips-lost}
 
 slice-aggregate-keyword : tie.Need-slice-aggregate-keyword
 slice-aggregate-keyword c = search needs
@@ -29,8 +29,8 @@ returns : tie.Need-returns
 unfolding default-attribute-value
 returns c = value-not default-attribute-value _ (begin (default-attribute-value) _ _ (fall _ _ (c .step-lost .result) (rest-self _ _) (step-lost (wordAt _ _) (c .step-lost .ensures) (c .before .enum-told .given .1) _ _ _ (c .before .before .before .keyword .ensures))))
 
-tag-behind-requires : tie.Need-tag-behind-requires
-tag-behind-requires c κs = let t = keyword-took (rest-self _ _) (c .before .key .given .1) (ascii "default") (c .before .before .before .keyword .ensures) in omega (arith, t .up, t .inside, c .before .before .before .before .before .before .pre)
+tag-after-requires : tie.Need-tag-after-requires
+tag-after-requires c κs = let t = keyword-took (rest-self _ _) (c .before .key .given .1) (ascii "default") (c .before .before .before .keyword .ensures) in omega (arith, t .up, t .inside, c .before .before .before .before .before .before .pre)
 
 enum-known-equals : tie.Need-enum-known-equals
 enum-known-equals c = c .match2 .keys1
@@ -43,10 +43,10 @@ step-lost-requires-2 c κs = tt
 
 returns-2 : tie.Need-returns-2
 unfolding default-attribute-value
-returns-2 c = value-not default-attribute-value _ (begin (default-attribute-value) _ _ (on _ (keyword-took (rest-self _ _) (c .before .before .before .before .before .key .given .1) (ascii "default") (c .before .before .before .before .before .before .before .keyword .ensures)) (pair-fall _ _ _ (c .step-lost2 .result) (c .before .before .before .tag-behind .ensures .at) (skips-lost (c .step-lost2 .ensures) (c .before .enum-told2 .given .1) (c .before .before .before .tag-behind .ensures)))))
+returns-2 c = value-not default-attribute-value _ (begin (default-attribute-value) _ _ (on _ (keyword-took (rest-self _ _) (c .before .before .before .before .before .key .given .1) (ascii "default") (c .before .before .before .before .before .before .before .keyword .ensures)) (pair-fall _ _ _ (c .step-lost2 .result) (c .before .before .before .tag-after .ensures .at) (skips-lost (c .step-lost2 .ensures) (c .before .enum-told2 .given .1) (c .before .before .before .tag-after .ensures)))))
 
 blank-at-requires : tie.Need-blank-at-requires
-blank-at-requires c κs = let t = tag-behind-took 61 (c .before .equals .given .1) (c .before .before .before .tag-behind .ensures) in omega (arith, t .up, t .inside, c .before .before .before .tag-behind .ensures .at .from, c .before .before .before .before .before .before .before .before .before .before .pre)
+blank-at-requires c κs = let t = tag-after-took 61 (c .before .equals .given .1) (c .before .before .before .tag-after .ensures) in omega (arith, t .up, t .inside, c .before .before .before .tag-after .ensures .at .from, c .before .before .before .before .before .before .before .before .before .before .pre)
 
 rest-at-requires : tie.Need-rest-at-requires
 rest-at-requires c κs = let t = blank-at-took (c .blank-at .ensures) in omega (arith, t .up, t .inside, c .blank-at .ensures .at .from)
@@ -56,7 +56,7 @@ value-tries-requires c κs = omega (arith, c .rest-at .ensures .size, c .before 
 
 returns-3 : tie.Need-returns-3
 unfolding default-attribute-value
-returns-3 c = value-end values-on default-attribute-value (c .value-tries .result) (c .before .rest-at .ensures) (λ X e. begin default-attribute-value _ _ (on _ (keyword-took (rest-self _ _) (c .before .before .before .before .before .before .before .before .key .given .1) (ascii "default") (c .before .before .before .before .before .before .before .before .before .before .keyword .ensures)) (pair-on _ _ _ (tag-behind-took 61 (c .before .before .before .before .equals .given .1) (c .before .before .before .before .before .before .tag-behind .ensures)) (on _ (blank-at-took (c .before .before .blank-at .ensures)) e)))) (c .value-tries .ensures)
+returns-3 c = value-end values-on default-attribute-value (c .value-tries .result) (c .before .rest-at .ensures) (λ X e. begin default-attribute-value _ _ (on _ (keyword-took (rest-self _ _) (c .before .before .before .before .before .before .before .before .key .given .1) (ascii "default") (c .before .before .before .before .before .before .before .before .before .before .keyword .ensures)) (pair-on _ _ _ (tag-after-took 61 (c .before .before .before .before .equals .given .1) (c .before .before .before .before .before .before .tag-after .ensures)) (on _ (blank-at-took (c .before .before .blank-at .ensures)) e)))) (c .value-tries .ensures)
 
 pub default-attribute-value-spec : {M : Type 1} → statement M
 default-attribute-value-spec =
@@ -68,7 +68,7 @@ default-attribute-value-spec =
     enum-told
     step-lost-requires
     returns
-    tag-behind-requires
+    tag-after-requires
     enum-known-equals
     enum-told-2
     step-lost-requires-2

@@ -2,7 +2,7 @@ use borrow.Author.Needs.{needs}
 use Rattle.items.proofs.endpoints.device_type.Statement.{statement}
 use Rattle.items.proofs.endpoints.device_type.Tie as tie
 use Rattle.items.specs.endpoints.{device-type}
-use Rattle.lexing.proofs.names.Laws.{named-in, named-took, number-took, code-behind-on, number-at-took, number-at-lost, two-keywords-name-on}
+use Rattle.lexing.proofs.names.Laws.{named-in, named-took, number-took, code-after-on, number-at-took, number-at-lost, two-keywords-name-on}
 use mathlib.Core.Path.{refl}
 use native.Mathlib.Omega.{arith}
 use Rattle.lexing.specs.bytes.{ascii}
@@ -51,7 +51,7 @@ unfolding device-type
 returns-2 c = read-not _ refl tt (begin (device-type) _ _ (go _ (named-took (c .before .before .before .before .before .before .before .two-keywords-name .ensures) (c .before .before .before .before .before .named .given .1) (two-keywords-name-on (ascii "device") (ascii "type")) (rest-self _ _)) (four-lose _ _ _ _ _ (c .number-lost .result) (c .before .before .before .blank-equals-code .ensures .at) (number-at-lost (c .before .before .before .blank-equals-code .ensures) (c .number-lost .ensures) (c .before .enum-told2 .given .1)))))
 
 rest-at-requires : tie.Need-rest-at-requires
-rest-at-requires c κs = let t = number-at-took (c .before .before .before .blank-equals-code .ensures) code-behind-on (c .before .number .given .1) in omega (arith, t .up, t .inside, c .before .before .before .blank-equals-code .ensures .at .from)
+rest-at-requires c κs = let t = number-at-took (c .before .before .before .blank-equals-code .ensures) code-after-on (c .before .number .given .1) in omega (arith, t .up, t .inside, c .before .before .before .blank-equals-code .ensures .at .from)
 
 device-version-requires : tie.Need-device-version-requires
 device-version-requires c κs = omega (arith, c .rest-at .ensures .size, c .before .before .before .before .before .before .before .before .before .before .before .before .pre)
@@ -67,11 +67,11 @@ number-lost-requires-2 c κs = tt
 
 returns-3 : tie.Need-returns-3
 unfolding device-type
-returns-3 c = read-not _ refl tt (begin (device-type) _ _ (go _ (named-took (c .before .before .before .before .before .before .before .before .before .before .before .before .two-keywords-name .ensures) (c .before .before .before .before .before .before .before .before .before .before .named .given .1) (two-keywords-name-on (ascii "device") (ascii "type")) (rest-self _ _)) (four-go _ _ _ _ _ (number-at-took (c .before .before .before .before .before .before .before .before .blank-equals-code .ensures) code-behind-on (c .before .before .before .before .before .before .number .given .1)) (lose _ _ (c .number-lost2 .result) (c .before .before .before .before .rest-at .ensures) (integer-lost (c .number-lost2 .ensures) (c .before .enum-told3 .given .1) _ _ _ (c .before .before .before .device-version .ensures))))))
+returns-3 c = read-not _ refl tt (begin (device-type) _ _ (go _ (named-took (c .before .before .before .before .before .before .before .before .before .before .before .before .two-keywords-name .ensures) (c .before .before .before .before .before .before .before .before .before .before .named .given .1) (two-keywords-name-on (ascii "device") (ascii "type")) (rest-self _ _)) (four-go _ _ _ _ _ (number-at-took (c .before .before .before .before .before .before .before .before .blank-equals-code .ensures) code-after-on (c .before .before .before .before .before .before .number .given .1)) (lose _ _ (c .number-lost2 .result) (c .before .before .before .before .rest-at .ensures) (integer-lost (c .number-lost2 .ensures) (c .before .enum-told3 .given .1) _ _ _ (c .before .before .before .device-version .ensures))))))
 
 returns-4 : tie.Need-returns-4
 unfolding device-type
-returns-4 c = read-is refl (begin (device-type) _ _ (go _ (named-took (c .before .before .before .before .before .before .before .before .before .before .before .before .two-keywords-name .ensures) (c .before .before .before .before .before .before .before .before .before .before .named .given .1) (two-keywords-name-on (ascii "device") (ascii "type")) (rest-self _ _)) (four-go _ _ _ _ _ (number-at-took (c .before .before .before .before .before .before .before .before .blank-equals-code .ensures) code-behind-on (c .before .before .before .before .before .before .number .given .1)) (go _ (number-took device-version-on (c .before .before .before .before .rest-at .ensures) (c .before .last .given .1) (c .before .before .before .device-version .ensures)) (done _ _ _ _))))) (let w = named-in (c .before .before .before .before .before .before .before .before .before .before .before .before .two-keywords-name .ensures) (c .before .before .before .before .before .before .before .before .before .before .named .given .1) in record { from = w .from; up = w .up; inside = omega (arith, w .inside, (number-at-took (c .before .before .before .before .before .before .before .before .blank-equals-code .ensures) code-behind-on (c .before .before .before .before .before .before .number .given .1)) .up, (number-took device-version-on (c .before .before .before .before .rest-at .ensures) (c .before .last .given .1) (c .before .before .before .device-version .ensures)) .up) })
+returns-4 c = read-is refl (begin (device-type) _ _ (go _ (named-took (c .before .before .before .before .before .before .before .before .before .before .before .before .two-keywords-name .ensures) (c .before .before .before .before .before .before .before .before .before .before .named .given .1) (two-keywords-name-on (ascii "device") (ascii "type")) (rest-self _ _)) (four-go _ _ _ _ _ (number-at-took (c .before .before .before .before .before .before .before .before .blank-equals-code .ensures) code-after-on (c .before .before .before .before .before .before .number .given .1)) (go _ (number-took device-version-on (c .before .before .before .before .rest-at .ensures) (c .before .last .given .1) (c .before .before .before .device-version .ensures)) (done _ _ _ _))))) (let w = named-in (c .before .before .before .before .before .before .before .before .before .before .before .before .two-keywords-name .ensures) (c .before .before .before .before .before .before .before .before .before .before .named .given .1) in record { from = w .from; up = w .up; inside = omega (arith, w .inside, (number-at-took (c .before .before .before .before .before .before .before .before .blank-equals-code .ensures) code-after-on (c .before .before .before .before .before .before .number .given .1)) .up, (number-took device-version-on (c .before .before .before .before .rest-at .ensures) (c .before .last .given .1) (c .before .before .before .device-version .ensures)) .up) })
 
 pub device-type-spec : {M : Type 1} → statement M
 device-type-spec =

@@ -9,7 +9,7 @@ use Rattle.lexing.proofs.Repetition.{ManyAt, many0-start, many0-step}
 use Rattle.items.specs.entries.{Annotation, blank-annotation}
 use Rattle.lexing.proofs.answers.Laws.{skip-took}
 use Rattle.lexing.proofs.Dropping.{many0-skips}
-use Rattle.items.proofs.entries.Laws.{annotation-behind, blank-annotation-onward, blank-annotation-consumes}
+use Rattle.items.proofs.entries.Laws.{annotation-after, blank-annotation-onward, blank-annotation-consumes}
 
 abbrev Inv-loop : tie.InvT-loop
 Inv-loop part base c₀ c = (l : List Annotation) × ManyAt blank-annotation base part c l
@@ -36,13 +36,13 @@ optional-requires : tie.Need-optional-requires Inv-loop μ-loop
 optional-requires c κs = tt
 
 returns : tie.Need-returns Inv-loop μ-loop
-returns c = many0-skips blank-annotation-consumes _ (c .before .before .before .before .before .loop .inv .1) (c .before .before .before .before .rest-at .ensures) (annotation-behind (c .before .before .before .constant-annotation .ensures)) (c .before .enum-told .given .1) (c .optional .ensures)
+returns c = many0-skips blank-annotation-consumes _ (c .before .before .before .before .before .loop .inv .1) (c .before .before .before .before .rest-at .ensures) (annotation-after (c .before .before .before .constant-annotation .ensures)) (c .before .enum-told .given .1) (c .optional .ensures)
 
 loop-less : tie.Need-loop-less Inv-loop μ-loop
-loop-less c = let s = many0-step blank-annotation-consumes (c .before .before .before .before .before .loop .inv .1) (skip-took blank-annotation-onward (c .before .before .before .before .rest-at .ensures) (c .before .r .given .1) (annotation-behind (c .before .before .before .constant-annotation .ensures))) in omega (arith, s .1, s .0 .inside)
+loop-less c = let s = many0-step blank-annotation-consumes (c .before .before .before .before .before .loop .inv .1) (skip-took blank-annotation-onward (c .before .before .before .before .rest-at .ensures) (c .before .r .given .1) (annotation-after (c .before .before .before .constant-annotation .ensures))) in omega (arith, s .1, s .0 .inside)
 
 loop-again : tie.Need-loop-again Inv-loop μ-loop
-loop-again c = let s = many0-step blank-annotation-consumes (c .before .before .before .before .before .loop .inv .1) (skip-took blank-annotation-onward (c .before .before .before .before .rest-at .ensures) (c .before .r .given .1) (annotation-behind (c .before .before .before .constant-annotation .ensures))) in (_, s .0)
+loop-again c = let s = many0-step blank-annotation-consumes (c .before .before .before .before .before .loop .inv .1) (skip-took blank-annotation-onward (c .before .before .before .before .rest-at .ensures) (c .before .r .given .1) (annotation-after (c .before .before .before .constant-annotation .ensures))) in (_, s .0)
 
 pub annotations-spec : {M : Type 1} → statement M
 annotations-spec =

@@ -45,12 +45,12 @@ returns-2 : tie.Need-returns-2
 unfolding annotations-in-brackets
 returns-2 c = skip-not _ [] _ _ _ (begin (annotations-in-brackets) _ _ (on _ (tag-took (rest-self _ _) (c .before .before .before .before .before .before .bracket .given .1) 91 (c .before .before .before .before .before .before .before .before .tag .ensures)) (lose _ _ (c .step-lost2 .result) (c .before .before .before .before .rest-at .ensures) (skip-lost (c .step-lost2 .ensures) (c .before .enum-told2 .given .1) _ _ (c .before .before .before .annotations .ensures)))))
 
-tag-behind-requires : tie.Need-tag-behind-requires
-tag-behind-requires c κs = let t = skip-took annotations-onward (c .before .before .before .before .rest-at .ensures) (c .before .run .given .1) (c .before .before .before .annotations .ensures) in omega (arith, t .up, t .inside, c .before .before .before .before .rest-at .ensures .from, c .before .before .before .before .before .before .before .before .before .before .pre)
+tag-after-requires : tie.Need-tag-after-requires
+tag-after-requires c κs = let t = skip-took annotations-onward (c .before .before .before .before .rest-at .ensures) (c .before .run .given .1) (c .before .before .before .annotations .ensures) in omega (arith, t .up, t .inside, c .before .before .before .before .rest-at .ensures .from, c .before .before .before .before .before .before .before .before .before .before .pre)
 
 returns-3 : tie.Need-returns-3
 unfolding annotations-in-brackets
-returns-3 c = skip-all _ _ (begin (annotations-in-brackets) _ _ (on _ (tag-took (rest-self _ _) (c .before .before .before .before .before .before .before .bracket .given .1) 91 (c .before .before .before .before .before .before .before .before .before .tag .ensures)) (go _ (skip-took annotations-onward (c .before .before .before .before .before .rest-at .ensures) (c .before .before .run .given .1) (c .before .before .before .before .annotations .ensures)) (sym ((last-pair 93 (c .tag-behind .result) (c .tag-behind .ensures)) .goes)))))
+returns-3 c = skip-all _ _ (begin (annotations-in-brackets) _ _ (on _ (tag-took (rest-self _ _) (c .before .before .before .before .before .before .before .bracket .given .1) 91 (c .before .before .before .before .before .before .before .before .before .tag .ensures)) (go _ (skip-took annotations-onward (c .before .before .before .before .before .rest-at .ensures) (c .before .before .run .given .1) (c .before .before .before .before .annotations .ensures)) (sym ((last-pair 93 (c .tag-after .result) (c .tag-after .ensures)) .goes)))))
 
 pub annotations-in-brackets-spec : {M : Type 1} → statement M
 annotations-in-brackets-spec =
@@ -67,5 +67,5 @@ annotations-in-brackets-spec =
     enum-told-2
     step-lost-requires-2
     returns-2
-    tag-behind-requires
+    tag-after-requires
     returns-3)

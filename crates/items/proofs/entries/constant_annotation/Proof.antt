@@ -8,7 +8,7 @@ use native.Mathlib.Omega.{arith}
 use Rattle.lexing.specs.answers.{spanTo}
 use Rattle.lexing.proofs.Slicing.{begin, go, on, lose, step-lost}
 use Rattle.lexing.proofs.Pairs.{pair-go, pair-on, pair-lose, pair-fall}
-use Rattle.lexing.proofs.steps.Laws.{blank-at-took, tag-behind-took, skips-lost}
+use Rattle.lexing.proofs.steps.Laws.{blank-at-took, tag-after-took, skips-lost}
 use Rattle.lexing.proofs.names.Laws.{named-at-took, named-at-lost, blank-word-on}
 
 blank-word-requires : tie.Need-blank-word-requires
@@ -27,8 +27,8 @@ returns : tie.Need-returns
 unfolding constant-annotation
 returns c = skip-not _ no-annotation _ _ _ (begin (constant-annotation) _ _ (pair-lose _ _ _ (c .named-lost .result) (c .before .before .before .blank-word .ensures .at) (named-at-lost (c .before .before .before .blank-word .ensures) (c .named-lost .ensures) (c .before .enum-told .given .1))))
 
-tag-behind-requires : tie.Need-tag-behind-requires
-tag-behind-requires c κs = let t = named-at-took (c .before .before .before .blank-word .ensures) (c .before .key .given .1) blank-word-on in omega (arith, t .up, t .inside, c .before .before .before .before .before .pre)
+tag-after-requires : tie.Need-tag-after-requires
+tag-after-requires c κs = let t = named-at-took (c .before .before .before .blank-word .ensures) (c .before .key .given .1) blank-word-on in omega (arith, t .up, t .inside, c .before .before .before .before .before .pre)
 
 enum-known-equals : tie.Need-enum-known-equals
 enum-known-equals c = c .match2 .keys1
@@ -41,10 +41,10 @@ step-lost-requires c κs = tt
 
 returns-2 : tie.Need-returns-2
 unfolding constant-annotation
-returns-2 c = skip-not _ no-annotation _ _ _ (begin (constant-annotation) _ _ (pair-go _ _ _ (named-at-took (c .before .before .before .before .before .before .before .blank-word .ensures) (c .before .before .before .before .before .key .given .1) blank-word-on) (pair-fall _ _ _ (c .step-lost .result) (c .before .before .before .tag-behind .ensures .at) (skips-lost (c .step-lost .ensures) (c .before .enum-told2 .given .1) (c .before .before .before .tag-behind .ensures)))))
+returns-2 c = skip-not _ no-annotation _ _ _ (begin (constant-annotation) _ _ (pair-go _ _ _ (named-at-took (c .before .before .before .before .before .before .before .blank-word .ensures) (c .before .before .before .before .before .key .given .1) blank-word-on) (pair-fall _ _ _ (c .step-lost .result) (c .before .before .before .tag-after .ensures .at) (skips-lost (c .step-lost .ensures) (c .before .enum-told2 .given .1) (c .before .before .before .tag-after .ensures)))))
 
 blank-at-requires : tie.Need-blank-at-requires
-blank-at-requires c κs = let t = tag-behind-took 61 (c .before .equals .given .1) (c .before .before .before .tag-behind .ensures) in omega (arith, t .up, t .inside, c .before .before .before .tag-behind .ensures .at .from, c .before .before .before .before .before .before .before .before .before .pre)
+blank-at-requires c κs = let t = tag-after-took 61 (c .before .equals .given .1) (c .before .before .before .tag-after .ensures) in omega (arith, t .up, t .inside, c .before .before .before .tag-after .ensures .at .from, c .before .before .before .before .before .before .before .before .before .pre)
 
 rest-at-requires : tie.Need-rest-at-requires
 rest-at-requires c κs = let t = blank-at-took (c .blank-at .ensures) in omega (arith, t .up, t .inside, c .blank-at .ensures .at .from)
@@ -63,7 +63,7 @@ step-lost-requires-2 c κs = tt
 
 returns-3 : tie.Need-returns-3
 unfolding constant-annotation
-returns-3 c = skip-not _ no-annotation _ _ _ (begin (constant-annotation) _ _ (pair-go _ _ _ (named-at-took (c .before .before .before .before .before .before .before .before .before .before .before .before .before .blank-word .ensures) (c .before .before .before .before .before .before .before .before .before .before .before .key .given .1) blank-word-on) (pair-on _ _ _ (tag-behind-took 61 (c .before .before .before .before .before .before .before .equals .given .1) (c .before .before .before .before .before .before .before .before .before .tag-behind .ensures)) (on _ (blank-at-took (c .before .before .before .before .before .blank-at .ensures)) (lose _ _ (c .step-lost2 .result) (c .before .before .before .before .rest-at .ensures) (step-lost (spanTo _) (c .step-lost2 .ensures) (c .before .enum-told3 .given .1) _ _ _ (c .before .before .before .quoted-string .ensures)))))))
+returns-3 c = skip-not _ no-annotation _ _ _ (begin (constant-annotation) _ _ (pair-go _ _ _ (named-at-took (c .before .before .before .before .before .before .before .before .before .before .before .before .before .blank-word .ensures) (c .before .before .before .before .before .before .before .before .before .before .before .key .given .1) blank-word-on) (pair-on _ _ _ (tag-after-took 61 (c .before .before .before .before .before .before .before .equals .given .1) (c .before .before .before .before .before .before .before .before .before .tag-after .ensures)) (on _ (blank-at-took (c .before .before .before .before .before .blank-at .ensures)) (lose _ _ (c .step-lost2 .result) (c .before .before .before .before .rest-at .ensures) (step-lost (spanTo _) (c .step-lost2 .ensures) (c .before .enum-told3 .given .1) _ _ _ (c .before .before .before .quoted-string .ensures)))))))
 
 blank-at-requires-2 : tie.Need-blank-at-requires-2
 blank-at-requires-2 c κs = let t = quoted-took (c .before .before .before .before .rest-at .ensures) (c .before .value .given .1) (c .before .before .before .quoted-string .ensures) in omega (arith, t .up, t .inside, c .before .before .before .before .rest-at .ensures .from, c .before .before .before .before .before .before .before .before .before .before .before .before .before .before .before .pre)
@@ -76,7 +76,7 @@ optional-comma-requires c κs = omega (arith, c .rest-at2 .ensures .size, c .bef
 
 returns-4 : tie.Need-returns-4
 unfolding constant-annotation
-returns-4 c = skip-all _ _ (begin (constant-annotation) _ _ (pair-go _ _ _ (named-at-took (c .before .before .before .before .before .before .before .before .before .before .before .before .before .before .before .before .blank-word .ensures) (c .before .before .before .before .before .before .before .before .before .before .before .before .before .before .key .given .1) blank-word-on) (pair-on _ _ _ (tag-behind-took 61 (c .before .before .before .before .before .before .before .before .before .before .equals .given .1) (c .before .before .before .before .before .before .before .before .before .before .before .before .tag-behind .ensures)) (on _ (blank-at-took (c .before .before .before .before .before .before .before .before .blank-at .ensures)) (go _ (quoted-took (c .before .before .before .before .before .before .before .rest-at .ensures) (c .before .before .before .before .value .given .1) (c .before .before .before .before .before .before .quoted-string .ensures)) (on _ (blank-at-took (c .before .before .blank-at2 .ensures)) (sym ((last-skips comma-onward (c .optional-comma .result) (c .before .rest-at2 .ensures) (c .optional-comma .ensures)) .goes))))))))
+returns-4 c = skip-all _ _ (begin (constant-annotation) _ _ (pair-go _ _ _ (named-at-took (c .before .before .before .before .before .before .before .before .before .before .before .before .before .before .before .before .blank-word .ensures) (c .before .before .before .before .before .before .before .before .before .before .before .before .before .before .key .given .1) blank-word-on) (pair-on _ _ _ (tag-after-took 61 (c .before .before .before .before .before .before .before .before .before .before .equals .given .1) (c .before .before .before .before .before .before .before .before .before .before .before .before .tag-after .ensures)) (on _ (blank-at-took (c .before .before .before .before .before .before .before .before .blank-at .ensures)) (go _ (quoted-took (c .before .before .before .before .before .before .before .rest-at .ensures) (c .before .before .before .before .value .given .1) (c .before .before .before .before .before .before .quoted-string .ensures)) (on _ (blank-at-took (c .before .before .blank-at2 .ensures)) (sym ((last-skips comma-onward (c .optional-comma .result) (c .before .rest-at2 .ensures) (c .optional-comma .ensures)) .goes))))))))
 
 pub constant-annotation-spec : {M : Type 1} → statement M
 constant-annotation-spec =
@@ -87,7 +87,7 @@ constant-annotation-spec =
     enum-told
     named-lost-requires
     returns
-    tag-behind-requires
+    tag-after-requires
     enum-known-equals
     enum-told-2
     step-lost-requires

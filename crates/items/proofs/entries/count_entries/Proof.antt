@@ -10,7 +10,7 @@ use Rattle.items.specs.records.{entry-record}
 use Rattle.items.proofs.Locality.{blank-entry-consumes}
 use Rattle.items.proofs.RecordWords.{map-elementwise}
 use Rattle.items.proofs.counts.Laws.{Counting, counting-start, count-element, counting-ends}
-use Rattle.items.proofs.entries.Laws.{entry-took, entry-lost, entry-behind, blank-entry-onward, entry-elements}
+use Rattle.items.proofs.entries.Laws.{entry-took, entry-lost, entry-after, blank-entry-onward, entry-elements}
 
 abbrev Inv-loop : tie.InvT-loop
 Inv-loop part base c₀ n₀ c n = Counting (map entry-record) blank-entry base part c n
@@ -41,16 +41,16 @@ count-end-requires c κs = tt
 
 returns : tie.Need-returns Inv-loop μ-loop
 unfolding constant-entries
-returns c = counting-ends blank-entry-consumes (c .before .entry-lost .result) (c .before .before .before .before .before .before .loop .inv) (c .before .before .before .before .before .rest-at .ensures) (entry-lost blank-entry-onward (c .before .before .before .before .before .rest-at .ensures) (entry-behind (c .before .before .before .before .constant-entry .ensures)) _ _ (c .before .entry-lost .ensures) (c .before .before .enum-told .given .1)) (c .count-end .ensures)
+returns c = counting-ends blank-entry-consumes (c .before .entry-lost .result) (c .before .before .before .before .before .before .loop .inv) (c .before .before .before .before .before .rest-at .ensures) (entry-lost blank-entry-onward (c .before .before .before .before .before .rest-at .ensures) (entry-after (c .before .before .before .before .constant-entry .ensures)) _ _ (c .before .entry-lost .ensures) (c .before .before .enum-told .given .1)) (c .count-end .ensures)
 
 add-n : tie.Need-add-n Inv-loop μ-loop
 add-n c = omega (arith, c .before .before .before .before .before .loop .inv .few, c .before .before .before .before .before .loop .inv .run .inside, c .before .before .before .before .before .before .before .pre)
 
 loop-less : tie.Need-loop-less Inv-loop μ-loop
-loop-less c = let s = count-element entry-elements (c .before .before .before .before .before .loop .inv) (entry-took blank-entry-onward (c .before .before .before .before .rest-at .ensures) (entry-behind (c .before .before .before .constant-entry .ensures)) _ _ (c .before .r .given .1)) in omega (arith, s .1, s .0 .run .inside)
+loop-less c = let s = count-element entry-elements (c .before .before .before .before .before .loop .inv) (entry-took blank-entry-onward (c .before .before .before .before .rest-at .ensures) (entry-after (c .before .before .before .constant-entry .ensures)) _ _ (c .before .r .given .1)) in omega (arith, s .1, s .0 .run .inside)
 
 loop-again : tie.Need-loop-again Inv-loop μ-loop
-loop-again c = let s = count-element entry-elements (c .before .before .before .before .before .loop .inv) (entry-took blank-entry-onward (c .before .before .before .before .rest-at .ensures) (entry-behind (c .before .before .before .constant-entry .ensures)) _ _ (c .before .r .given .1)) in s .0
+loop-again c = let s = count-element entry-elements (c .before .before .before .before .before .loop .inv) (entry-took blank-entry-onward (c .before .before .before .before .rest-at .ensures) (entry-after (c .before .before .before .constant-entry .ensures)) _ _ (c .before .r .given .1)) in s .0
 
 pub count-entries-spec : {M : Type 1} → statement M
 count-entries-spec =

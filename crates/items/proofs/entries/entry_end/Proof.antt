@@ -30,12 +30,12 @@ returns : tie.Need-returns
 unfolding entry-end
 returns c = end-not _ _ _ λ e. (begin (entry-end e) _ _ (on _ (blank-at-took (c .before .before .before .before .before .blank-at .ensures)) (fall _ _ (c .step-lost .result) (c .before .before .before .before .rest-at .ensures) (skip-lost (c .step-lost .ensures) (c .before .enum-told .given .1) _ _ (c .before .before .before .constant-annotations-list .ensures)))))
 
-tag-behind-requires : tie.Need-tag-behind-requires
-tag-behind-requires c κs = let t = skip-took annotations-list-onward (c .before .before .before .before .rest-at .ensures) (c .before .notes .given .1) (c .before .before .before .constant-annotations-list .ensures) in omega (arith, t .up, t .inside, c .before .before .before .before .rest-at .ensures .from, c .before .before .before .before .before .before .before .pre)
+tag-after-requires : tie.Need-tag-after-requires
+tag-after-requires c κs = let t = skip-took annotations-list-onward (c .before .before .before .before .rest-at .ensures) (c .before .notes .given .1) (c .before .before .before .constant-annotations-list .ensures) in omega (arith, t .up, t .inside, c .before .before .before .before .rest-at .ensures .from, c .before .before .before .before .before .before .before .pre)
 
 returns-2 : tie.Need-returns-2
 unfolding entry-end
-returns-2 c = end-is _ _ _ λ e. (begin (entry-end e) _ _ (on _ (blank-at-took (c .before .before .before .before .before .before .blank-at .ensures)) (on _ (skip-took annotations-list-onward (c .before .before .before .before .before .rest-at .ensures) (c .before .before .notes .given .1) (c .before .before .before .before .constant-annotations-list .ensures)) (sym ((last-pair 59 (c .tag-behind .result) (c .tag-behind .ensures)) .goes)))))
+returns-2 c = end-is _ _ _ λ e. (begin (entry-end e) _ _ (on _ (blank-at-took (c .before .before .before .before .before .before .blank-at .ensures)) (on _ (skip-took annotations-list-onward (c .before .before .before .before .before .rest-at .ensures) (c .before .before .notes .given .1) (c .before .before .before .before .constant-annotations-list .ensures)) (sym ((last-pair 59 (c .tag-after .result) (c .tag-after .ensures)) .goes)))))
 
 pub entry-end-spec : {M : Type 1} → statement M
 entry-end-spec =
@@ -48,5 +48,5 @@ entry-end-spec =
     enum-told
     step-lost-requires
     returns
-    tag-behind-requires
+    tag-after-requires
     returns-2)

@@ -12,7 +12,7 @@ use Rattle.items.proofs.RecordWords.{map-elementwise}
 use Rattle.lexing.proofs.AnswerLaws.{read-within}
 use Rattle.items.specs.inner.entries.{entryLost}
 use Rattle.items.proofs.writing.Laws.{Writing, writing-start, writing-same, element-fits, write-element, elements-end}
-use Rattle.items.proofs.entries.Laws.{entry-took, entry-lost, entry-behind, blank-entry-onward, entry-elements, entry-parts}
+use Rattle.items.proofs.entries.Laws.{entry-took, entry-lost, entry-after, blank-entry-onward, entry-elements, entry-parts}
 
 abbrev Inv-loop : tie.InvT-loop
 Inv-loop part base out₀ at c₀ to₀ out c to = Writing (map entry-record) blank-entry base part c at out₀ out to
@@ -42,23 +42,23 @@ same-length c = writing-same (map-elementwise entry-record) _ _ _ _ _ (c .before
 
 returns : tie.Need-returns Inv-loop μ-loop
 unfolding constant-entries
-returns c = elements-end entry-elements (c .before .before .before .before .before .before .before .pre .1) (c .before .before .before .before .loop .inv) (entryLost (c .before .before .constant-entry .result)) (c .before .before .before .rest-at .ensures) (entry-lost blank-entry-onward (c .before .before .before .rest-at .ensures) (entry-behind (c .before .before .constant-entry .ensures)) _ _ refl (c .enum-told .given .1))
+returns c = elements-end entry-elements (c .before .before .before .before .before .before .before .pre .1) (c .before .before .before .before .loop .inv) (entryLost (c .before .before .constant-entry .result)) (c .before .before .before .rest-at .ensures) (entry-lost blank-entry-onward (c .before .before .before .rest-at .ensures) (entry-after (c .before .before .constant-entry .ensures)) _ _ refl (c .enum-told .given .1))
 
 put-entry-requires : tie.Need-put-entry-requires Inv-loop μ-loop
 unfolding constant-entries
-put-entry-requires c κs = let f = element-fits entry-elements (c .before .before .before .before .before .before .before .before .before .pre .1) (c .before .before .before .before .before .before .loop .inv) (entry-took blank-entry-onward (c .before .before .before .before .before .rest-at .ensures) (entry-behind (c .before .before .before .before .constant-entry .ensures)) _ _ (c .before .before .r .given .1)) in let v = (read-within (entry-behind (c .before .before .before .before .constant-entry .ensures)) (c .before .before .r .given .1)) in (f .0, (v .small, (v .up, omega (arith, v .inside, f .1 .1, c .before .before .before .before .before .before .before .before .before .pre .0))))
+put-entry-requires c κs = let f = element-fits entry-elements (c .before .before .before .before .before .before .before .before .before .pre .1) (c .before .before .before .before .before .before .loop .inv) (entry-took blank-entry-onward (c .before .before .before .before .before .rest-at .ensures) (entry-after (c .before .before .before .before .constant-entry .ensures)) _ _ (c .before .before .r .given .1)) in let v = (read-within (entry-after (c .before .before .before .before .constant-entry .ensures)) (c .before .before .r .given .1)) in (f .0, (v .small, (v .up, omega (arith, v .inside, f .1 .1, c .before .before .before .before .before .before .before .before .before .pre .0))))
 
 add-to : tie.Need-add-to Inv-loop μ-loop
 unfolding constant-entries
-add-to c = let f = element-fits entry-elements (c .before .before .before .before .before .before .before .before .before .before .before .before .pre .1) (c .before .before .before .before .before .before .before .before .before .loop .inv) (entry-took blank-entry-onward (c .before .before .before .before .before .before .before .before .rest-at .ensures) (entry-behind (c .before .before .before .before .before .before .before .constant-entry .ensures)) _ _ (c .before .before .before .before .before .r .given .1)) in omega (arith, f .0, writing-same (map-elementwise entry-record) _ _ _ _ _ (c .before .before .before .before .before .before .before .before .before .before .before .before .pre .1) (c .before .before .before .before .before .before .before .before .before .loop .inv))
+add-to c = let f = element-fits entry-elements (c .before .before .before .before .before .before .before .before .before .before .before .before .pre .1) (c .before .before .before .before .before .before .before .before .before .loop .inv) (entry-took blank-entry-onward (c .before .before .before .before .before .before .before .before .rest-at .ensures) (entry-after (c .before .before .before .before .before .before .before .constant-entry .ensures)) _ _ (c .before .before .before .before .before .r .given .1)) in omega (arith, f .0, writing-same (map-elementwise entry-record) _ _ _ _ _ (c .before .before .before .before .before .before .before .before .before .before .before .before .pre .1) (c .before .before .before .before .before .before .before .before .before .loop .inv))
 
 loop-less : tie.Need-loop-less Inv-loop μ-loop
 unfolding constant-entries
-loop-less c = let f = element-fits entry-elements (c .before .before .before .before .before .before .before .before .before .before .before .before .pre .1) (c .before .before .before .before .before .before .before .before .before .loop .inv) (entry-took blank-entry-onward (c .before .before .before .before .before .before .before .before .rest-at .ensures) (entry-behind (c .before .before .before .before .before .before .before .constant-entry .ensures)) _ _ (c .before .before .before .before .before .r .given .1)) in omega (arith, f .1)
+loop-less c = let f = element-fits entry-elements (c .before .before .before .before .before .before .before .before .before .before .before .before .pre .1) (c .before .before .before .before .before .before .before .before .before .loop .inv) (entry-took blank-entry-onward (c .before .before .before .before .before .before .before .before .rest-at .ensures) (entry-after (c .before .before .before .before .before .before .before .constant-entry .ensures)) _ _ (c .before .before .before .before .before .r .given .1)) in omega (arith, f .1)
 
 loop-again : tie.Need-loop-again Inv-loop μ-loop
 unfolding constant-entries
-loop-again c = let f = element-fits entry-elements (c .before .before .before .before .before .before .before .before .before .before .before .before .pre .1) (c .before .before .before .before .before .before .before .before .before .loop .inv) (entry-took blank-entry-onward (c .before .before .before .before .before .before .before .before .rest-at .ensures) (entry-behind (c .before .before .before .before .before .before .before .constant-entry .ensures)) _ _ (c .before .before .before .before .before .r .given .1)) in write-element entry-elements (c .before .before .before .before .before .before .before .before .before .before .before .before .pre .1) (c .before .before .before .before .before .before .before .before .before .loop .inv) (entry-took blank-entry-onward (c .before .before .before .before .before .before .before .before .rest-at .ensures) (entry-behind (c .before .before .before .before .before .before .before .constant-entry .ensures)) _ _ (c .before .before .before .before .before .r .given .1)) (entry-parts _ (c .before .before .before .before .before .before .before .before .rest-at .ensures) (read-within (entry-behind (c .before .before .before .before .before .before .before .constant-entry .ensures)) (c .before .before .before .before .before .r .given .1)) (f .1 .1)) (c .before .before .put-entry .ensures)
+loop-again c = let f = element-fits entry-elements (c .before .before .before .before .before .before .before .before .before .before .before .before .pre .1) (c .before .before .before .before .before .before .before .before .before .loop .inv) (entry-took blank-entry-onward (c .before .before .before .before .before .before .before .before .rest-at .ensures) (entry-after (c .before .before .before .before .before .before .before .constant-entry .ensures)) _ _ (c .before .before .before .before .before .r .given .1)) in write-element entry-elements (c .before .before .before .before .before .before .before .before .before .before .before .before .pre .1) (c .before .before .before .before .before .before .before .before .before .loop .inv) (entry-took blank-entry-onward (c .before .before .before .before .before .before .before .before .rest-at .ensures) (entry-after (c .before .before .before .before .before .before .before .constant-entry .ensures)) _ _ (c .before .before .before .before .before .r .given .1)) (entry-parts _ (c .before .before .before .before .before .before .before .before .rest-at .ensures) (read-within (entry-after (c .before .before .before .before .before .before .before .constant-entry .ensures)) (c .before .before .before .before .before .r .given .1)) (f .1 .1)) (c .before .before .put-entry .ensures)
 
 pub write-entries-spec : {M : Type 1} → statement M
 write-entries-spec =

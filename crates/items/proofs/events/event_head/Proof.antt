@@ -2,7 +2,7 @@ use borrow.Author.Needs.{needs}
 use Rattle.items.proofs.events.event_head.Statement.{statement}
 use Rattle.items.proofs.events.event_head.Tie as tie
 use Rattle.items.specs.members.{event-head}
-use Rattle.lexing.proofs.names.Laws.{named-in, named-at-took, named-at-lost, blank-word-on, code-behind-on, number-at-took, number-at-lost}
+use Rattle.lexing.proofs.names.Laws.{named-in, named-at-took, named-at-lost, blank-word-on, code-after-on, number-at-took, number-at-lost}
 use Rattle.items.proofs.events.Laws.{event-qualities-small}
 use mathlib.Core.Path.{refl}
 use native.Mathlib.Omega.{arith}
@@ -63,11 +63,11 @@ unfolding event-head
 returns-3 c = read-not _ refl tt (begin (event-head) _ _ (go _ (read-took (c .before .before .before .before .before .before .before .before .before .before .before .event-qualities .ensures) (c .before .before .before .before .before .before .before .before .before .qualities .given .1) (walks (chain-inside event-qualities-inside)) (rest-self _ _) refl) (pair-go _ _ _ (named-at-took (c .before .before .before .before .before .before .before .blank-word .ensures) (c .before .before .before .before .before .named .given .1) blank-word-on) (four-lose _ _ _ _ _ (c .number-lost .result) (c .before .before .before .blank-equals-code .ensures .at) (number-at-lost (c .before .before .before .blank-equals-code .ensures) (c .number-lost .ensures) (c .before .enum-told3 .given .1))))))
 
 blank-at-requires : tie.Need-blank-at-requires
-blank-at-requires c κs = let t = number-at-took (c .before .before .before .blank-equals-code .ensures) code-behind-on (c .before .number .given .1) in omega (arith, t .up, t .inside, c .before .before .before .blank-equals-code .ensures .at .from, c .before .before .before .before .before .before .before .before .before .before .before .before .before .pre)
+blank-at-requires c κs = let t = number-at-took (c .before .before .before .blank-equals-code .ensures) code-after-on (c .before .number .given .1) in omega (arith, t .up, t .inside, c .before .before .before .blank-equals-code .ensures .at .from, c .before .before .before .before .before .before .before .before .before .before .before .before .before .pre)
 
 returns-4 : tie.Need-returns-4
 unfolding event-head
-returns-4 c = read-is refl (begin (event-head) _ _ (go _ (read-took (c .before .before .before .before .before .before .before .before .before .before .before .before .event-qualities .ensures) (c .before .before .before .before .before .before .before .before .before .before .qualities .given .1) (walks (chain-inside event-qualities-inside)) (rest-self _ _) refl) (pair-go _ _ _ (named-at-took (c .before .before .before .before .before .before .before .before .blank-word .ensures) (c .before .before .before .before .before .before .named .given .1) blank-word-on) (four-go _ _ _ _ _ (number-at-took (c .before .before .before .before .blank-equals-code .ensures) code-behind-on (c .before .before .number .given .1)) (on _ (blank-at-took (c .blank-at .ensures)) (done _ _ _ _)))))) (let w = event-qualities-small (c .before .before .before .before .before .before .before .before .before .before .before .before .event-qualities .ensures) (c .before .before .before .before .before .before .before .before .before .before .qualities .given .1) in let n = (named-in (c .before .before .before .before .before .before .before .before .blank-word .ensures .named) (c .before .before .before .before .before .before .named .given .1)) in record { sensitive = w .sensitive; rank = w .rank; privilege = w .privilege; name-from = omega (arith, (read-took (c .before .before .before .before .before .before .before .before .before .before .before .before .event-qualities .ensures) (c .before .before .before .before .before .before .before .before .before .before .qualities .given .1) (walks (chain-inside event-qualities-inside)) (rest-self _ _) refl) .up, n .from); name-to = n .up; before = omega (arith, n .inside, (number-at-took (c .before .before .before .before .blank-equals-code .ensures) code-behind-on (c .before .before .number .given .1)) .up, (blank-at-took (c .blank-at .ensures)) .up) })
+returns-4 c = read-is refl (begin (event-head) _ _ (go _ (read-took (c .before .before .before .before .before .before .before .before .before .before .before .before .event-qualities .ensures) (c .before .before .before .before .before .before .before .before .before .before .qualities .given .1) (walks (chain-inside event-qualities-inside)) (rest-self _ _) refl) (pair-go _ _ _ (named-at-took (c .before .before .before .before .before .before .before .before .blank-word .ensures) (c .before .before .before .before .before .before .named .given .1) blank-word-on) (four-go _ _ _ _ _ (number-at-took (c .before .before .before .before .blank-equals-code .ensures) code-after-on (c .before .before .number .given .1)) (on _ (blank-at-took (c .blank-at .ensures)) (done _ _ _ _)))))) (let w = event-qualities-small (c .before .before .before .before .before .before .before .before .before .before .before .before .event-qualities .ensures) (c .before .before .before .before .before .before .before .before .before .before .qualities .given .1) in let n = (named-in (c .before .before .before .before .before .before .before .before .blank-word .ensures .named) (c .before .before .before .before .before .before .named .given .1)) in record { sensitive = w .sensitive; rank = w .rank; privilege = w .privilege; name-from = omega (arith, (read-took (c .before .before .before .before .before .before .before .before .before .before .before .before .event-qualities .ensures) (c .before .before .before .before .before .before .before .before .before .before .qualities .given .1) (walks (chain-inside event-qualities-inside)) (rest-self _ _) refl) .up, n .from); name-to = n .up; before = omega (arith, n .inside, (number-at-took (c .before .before .before .before .blank-equals-code .ensures) code-after-on (c .before .before .number .given .1)) .up, (blank-at-took (c .blank-at .ensures)) .up) })
 
 pub event-head-spec : {M : Type 1} → statement M
 event-head-spec =

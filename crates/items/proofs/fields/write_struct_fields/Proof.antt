@@ -5,7 +5,7 @@ use mathlib.Core.Path.{refl, sym, ap}
 use native.Mathlib.Omega.{arith}
 use Rattle.lexing.specs.answers.{lostOf}
 use Rattle.lexing.proofs.Slicing.{rest-self, tag-took, told-not}
-use Rattle.lexing.proofs.steps.Laws.{tag-behind-took, skips-lost}
+use Rattle.lexing.proofs.steps.Laws.{tag-after-took, skips-lost}
 use Rattle.items.specs.structs.{fields-run, struct-fields}
 use Rattle.items.proofs.Braces.{braces-open, braces-room, braces-close, braces-written}
 use Rattle.items.proofs.writing.Laws.{written-took, written-same}
@@ -31,8 +31,8 @@ write-fields-requires : tie.Need-write-fields-requires
 unfolding struct-fields
 write-fields-requires c κs = (omega (arith, c .before .rest-at .ensures .size, c .before .before .before .before .before .before .before .before .pre .0), braces-room fields-run (c .before .before .before .before .before .before .before .before .pre .1) fields-run-on (tag-took (rest-self _ _) (c .before .before .before .brace .given .1) 123 (c .before .before .before .before .before .tag .ensures)) (c .before .rest-at .ensures))
 
-tag-behind-requires : tie.Need-tag-behind-requires
-tag-behind-requires c κs = omega (arith, (written-took fields-run-on (c .before .before .before .before .rest-at .ensures) (c .before .before .write-fields .ensures)) .up, (written-took fields-run-on (c .before .before .before .before .rest-at .ensures) (c .before .before .write-fields .ensures)) .inside, c .before .before .before .before .rest-at .ensures .from, c .before .before .before .before .before .before .before .before .before .before .before .pre .0)
+tag-after-requires : tie.Need-tag-after-requires
+tag-after-requires c κs = omega (arith, (written-took fields-run-on (c .before .before .before .before .rest-at .ensures) (c .before .before .write-fields .ensures)) .up, (written-took fields-run-on (c .before .before .before .before .rest-at .ensures) (c .before .before .write-fields .ensures)) .inside, c .before .before .before .before .rest-at .ensures .from, c .before .before .before .before .before .before .before .before .before .before .before .pre .0)
 
 enum-known-close : tie.Need-enum-known-close
 enum-known-close c = c .match2 .keys1
@@ -46,7 +46,7 @@ same-length c = written-same (braces-room fields-run (c .before .before .before 
 
 returns-2 : tie.Need-returns-2
 unfolding struct-fields
-returns-2 c = absurd (braces-close fields-run (c .before .before .before .before .before .before .before .before .before .before .before .before .before .before .pre .1) fields-run-on (tag-took (rest-self _ _) (c .before .before .before .before .before .before .before .before .before .brace .given .1) 123 (c .before .before .before .before .before .before .before .before .before .before .before .tag .ensures)) (c .before .before .before .before .before .before .before .rest-at .ensures) (c .before .before .before .before .before .write-fields .ensures) (c .enum-told2 .given .0 .0) (skips-lost (sym (ap lostOf (c .enum-told2 .given .1))) (c .enum-told2 .given .1) (c .before .before .tag-behind .ensures)))
+returns-2 c = absurd (braces-close fields-run (c .before .before .before .before .before .before .before .before .before .before .before .before .before .before .pre .1) fields-run-on (tag-took (rest-self _ _) (c .before .before .before .before .before .before .before .before .before .brace .given .1) 123 (c .before .before .before .before .before .before .before .before .before .before .before .tag .ensures)) (c .before .before .before .before .before .before .before .rest-at .ensures) (c .before .before .before .before .before .write-fields .ensures) (c .enum-told2 .given .0 .0) (skips-lost (sym (ap lostOf (c .enum-told2 .given .1))) (c .enum-told2 .given .1) (c .before .before .tag-after .ensures)))
 
 same-length-2 : tie.Need-same-length-2
 unfolding struct-fields
@@ -54,7 +54,7 @@ same-length-2 c = written-same (braces-room fields-run (c .before .before .befor
 
 returns-3 : tie.Need-returns-3
 unfolding struct-fields
-returns-3 c = braces-written fields-run (c .before .before .before .before .before .before .before .before .before .before .before .before .before .before .before .pre .1) fields-run-on (tag-took (rest-self _ _) (c .before .before .before .before .before .before .before .before .before .before .brace .given .1) 123 (c .before .before .before .before .before .before .before .before .before .before .before .before .tag .ensures)) (c .before .before .before .before .before .before .before .before .rest-at .ensures) (c .before .before .before .before .before .before .write-fields .ensures) (tag-behind-took 125 (c .before .close .given .1) (c .before .before .before .tag-behind .ensures))
+returns-3 c = braces-written fields-run (c .before .before .before .before .before .before .before .before .before .before .before .before .before .before .before .pre .1) fields-run-on (tag-took (rest-self _ _) (c .before .before .before .before .before .before .before .before .before .before .brace .given .1) 123 (c .before .before .before .before .before .before .before .before .before .before .before .before .tag .ensures)) (c .before .before .before .before .before .before .before .before .rest-at .ensures) (c .before .before .before .before .before .before .write-fields .ensures) (tag-after-took 125 (c .before .close .given .1) (c .before .before .before .tag-after .ensures))
 
 pub write-struct-fields-spec : {M : Type 1} → statement M
 write-struct-fields-spec =
@@ -66,7 +66,7 @@ write-struct-fields-spec =
     returns
     rest-at-requires
     write-fields-requires
-    tag-behind-requires
+    tag-after-requires
     enum-known-close
     enum-told-2
     same-length

@@ -11,7 +11,7 @@ use mathlib.Core.Path.{refl}
 use native.Mathlib.Omega.{arith}
 use Rattle.lexing.proofs.Slicing.{rest-self, begin, go, on, lose, fall, done}
 use Rattle.lexing.proofs.Pairs.{pair-on, pair-fall, three-go, three-lose}
-use Rattle.lexing.proofs.steps.Laws.{gap-at-took, tag-behind-took, skips-lost}
+use Rattle.lexing.proofs.steps.Laws.{gap-at-took, tag-after-took, skips-lost}
 use Rattle.lexing.specs.answers.names.{namedLost}
 use Rattle.items.proofs.levels.Laws.{level-took, level-lost, handling-on}
 
@@ -88,8 +88,8 @@ returns-4 : tie.Need-returns-4
 unfolding attribute-instantiation
 returns-4 c = attribute-not _ (begin (attribute-instantiation) _ _ (go _ (level-took (c .before .before .before .before .before .before .before .before .before .before .before .before .before .before .before .before .before .before .attribute-handling-type .ensures) handling-on (rest-self _ _) (c .before .before .before .before .before .before .before .before .before .before .before .before .before .before .before .before .held .given .1)) (on _ (gap-at-took (c .before .before .before .before .before .before .before .before .before .before .before .before .gap .given .1) (c .before .before .before .before .before .before .before .before .before .before .before .before .before .before .gap-at .ensures)) (three-go _ _ _ _ (named-took (c .before .before .before .before .before .before .before .before .keyword-name .ensures) (c .before .before .before .before .before .before .named .given .1) (keyword-name-on _) (c .before .before .before .before .before .before .before .before .before .before .rest-at .ensures)) (lose _ _ (c .default-lost .result) (c .before .before .before .before .rest-at2 .ensures) (read-lost (c .before .before .before .optional-default .ensures) (c .before .enum-told4 .given .1) defaultLost (c .default-lost .ensures) refl))))))
 
-tag-behind-requires : tie.Need-tag-behind-requires
-tag-behind-requires c κs = let t = read-took (c .before .before .before .optional-default .ensures) (c .before .optional .given .1) optional-on (c .before .before .before .before .rest-at2 .ensures) refl in omega (arith, t .up, t .inside, c .before .before .before .before .rest-at2 .ensures .from, c .before .before .before .before .before .before .before .before .before .before .before .before .before .before .before .before .before .before .before .before .pre)
+tag-after-requires : tie.Need-tag-after-requires
+tag-after-requires c κs = let t = read-took (c .before .before .before .optional-default .ensures) (c .before .optional .given .1) optional-on (c .before .before .before .before .rest-at2 .ensures) refl in omega (arith, t .up, t .inside, c .before .before .before .before .rest-at2 .ensures .from, c .before .before .before .before .before .before .before .before .before .before .before .before .before .before .before .before .before .before .before .before .pre)
 
 enum-known-semicolon : tie.Need-enum-known-semicolon
 enum-known-semicolon c = c .match5 .keys1
@@ -102,11 +102,11 @@ step-lost-requires-2 c κs = tt
 
 returns-5 : tie.Need-returns-5
 unfolding attribute-instantiation
-returns-5 c = attribute-not _ (begin (attribute-instantiation) _ _ (go _ (level-took (c .before .before .before .before .before .before .before .before .before .before .before .before .before .before .before .before .before .before .before .before .before .before .attribute-handling-type .ensures) handling-on (rest-self _ _) (c .before .before .before .before .before .before .before .before .before .before .before .before .before .before .before .before .before .before .before .before .held .given .1)) (on _ (gap-at-took (c .before .before .before .before .before .before .before .before .before .before .before .before .before .before .before .before .gap .given .1) (c .before .before .before .before .before .before .before .before .before .before .before .before .before .before .before .before .before .before .gap-at .ensures)) (three-go _ _ _ _ (named-took (c .before .before .before .before .before .before .before .before .before .before .before .before .keyword-name .ensures) (c .before .before .before .before .before .before .before .before .before .before .named .given .1) (keyword-name-on _) (c .before .before .before .before .before .before .before .before .before .before .before .before .before .before .rest-at .ensures)) (go _ (read-took (c .before .before .before .before .before .before .before .optional-default .ensures) (c .before .before .before .before .before .optional .given .1) optional-on (c .before .before .before .before .before .before .before .before .rest-at2 .ensures) refl) (pair-fall _ _ _ (c .step-lost2 .result) (c .before .before .before .tag-behind .ensures .at) (skips-lost (c .step-lost2 .ensures) (c .before .enum-told5 .given .1) (c .before .before .before .tag-behind .ensures))))))))
+returns-5 c = attribute-not _ (begin (attribute-instantiation) _ _ (go _ (level-took (c .before .before .before .before .before .before .before .before .before .before .before .before .before .before .before .before .before .before .before .before .before .before .attribute-handling-type .ensures) handling-on (rest-self _ _) (c .before .before .before .before .before .before .before .before .before .before .before .before .before .before .before .before .before .before .before .before .held .given .1)) (on _ (gap-at-took (c .before .before .before .before .before .before .before .before .before .before .before .before .before .before .before .before .gap .given .1) (c .before .before .before .before .before .before .before .before .before .before .before .before .before .before .before .before .before .before .gap-at .ensures)) (three-go _ _ _ _ (named-took (c .before .before .before .before .before .before .before .before .before .before .before .before .keyword-name .ensures) (c .before .before .before .before .before .before .before .before .before .before .named .given .1) (keyword-name-on _) (c .before .before .before .before .before .before .before .before .before .before .before .before .before .before .rest-at .ensures)) (go _ (read-took (c .before .before .before .before .before .before .before .optional-default .ensures) (c .before .before .before .before .before .optional .given .1) optional-on (c .before .before .before .before .before .before .before .before .rest-at2 .ensures) refl) (pair-fall _ _ _ (c .step-lost2 .result) (c .before .before .before .tag-after .ensures .at) (skips-lost (c .step-lost2 .ensures) (c .before .enum-told5 .given .1) (c .before .before .before .tag-after .ensures))))))))
 
 returns-6 : tie.Need-returns-6
 unfolding attribute-instantiation
-returns-6 c = attribute-is (begin (attribute-instantiation) _ _ (go _ (level-took (c .before .before .before .before .before .before .before .before .before .before .before .before .before .before .before .before .before .before .before .before .before .before .attribute-handling-type .ensures) handling-on (rest-self _ _) (c .before .before .before .before .before .before .before .before .before .before .before .before .before .before .before .before .before .before .before .before .held .given .1)) (on _ (gap-at-took (c .before .before .before .before .before .before .before .before .before .before .before .before .before .before .before .before .gap .given .1) (c .before .before .before .before .before .before .before .before .before .before .before .before .before .before .before .before .before .before .gap-at .ensures)) (three-go _ _ _ _ (named-took (c .before .before .before .before .before .before .before .before .before .before .before .before .keyword-name .ensures) (c .before .before .before .before .before .before .before .before .before .before .named .given .1) (keyword-name-on _) (c .before .before .before .before .before .before .before .before .before .before .before .before .before .before .rest-at .ensures)) (go _ (read-took (c .before .before .before .before .before .before .before .optional-default .ensures) (c .before .before .before .before .before .optional .given .1) optional-on (c .before .before .before .before .before .before .before .before .rest-at2 .ensures) refl) (pair-on _ _ _ (tag-behind-took 59 (c .before .semicolon .given .1) (c .before .before .before .tag-behind .ensures)) (done _ _ _ _))))))) (let w = named-in (c .before .before .before .before .before .before .before .before .before .before .before .before .keyword-name .ensures) (c .before .before .before .before .before .before .before .before .before .before .named .given .1) in record { small = read-within (c .before .before .before .before .before .before .before .before .before .before .before .before .before .before .before .before .before .before .before .before .before .before .attribute-handling-type .ensures) (c .before .before .before .before .before .before .before .before .before .before .before .before .before .before .before .before .before .before .before .before .held .given .1); named = record { from = omega (arith, w .from, c .before .before .before .before .before .before .before .before .before .before .before .before .before .before .rest-at .ensures .from); up = w .up; inside = omega (arith, w .inside, (read-took (c .before .before .before .before .before .before .before .optional-default .ensures) (c .before .before .before .before .before .optional .given .1) optional-on (c .before .before .before .before .before .before .before .before .rest-at2 .ensures) refl) .up, (tag-behind-took 59 (c .before .semicolon .given .1) (c .before .before .before .tag-behind .ensures)) .up) }; spanned = default-within (c .before .before .before .before .before .optional .given .0 .0) (c .before .before .before .before .before .optional .given .0 .1 .0) (c .before .semicolon .given .0 .0) (read-within (c .before .before .before .before .before .before .before .optional-default .ensures) (c .before .before .before .before .before .optional .given .1)) (omega (arith, (tag-behind-took 59 (c .before .semicolon .given .1) (c .before .before .before .tag-behind .ensures)) .up)) })
+returns-6 c = attribute-is (begin (attribute-instantiation) _ _ (go _ (level-took (c .before .before .before .before .before .before .before .before .before .before .before .before .before .before .before .before .before .before .before .before .before .before .attribute-handling-type .ensures) handling-on (rest-self _ _) (c .before .before .before .before .before .before .before .before .before .before .before .before .before .before .before .before .before .before .before .before .held .given .1)) (on _ (gap-at-took (c .before .before .before .before .before .before .before .before .before .before .before .before .before .before .before .before .gap .given .1) (c .before .before .before .before .before .before .before .before .before .before .before .before .before .before .before .before .before .before .gap-at .ensures)) (three-go _ _ _ _ (named-took (c .before .before .before .before .before .before .before .before .before .before .before .before .keyword-name .ensures) (c .before .before .before .before .before .before .before .before .before .before .named .given .1) (keyword-name-on _) (c .before .before .before .before .before .before .before .before .before .before .before .before .before .before .rest-at .ensures)) (go _ (read-took (c .before .before .before .before .before .before .before .optional-default .ensures) (c .before .before .before .before .before .optional .given .1) optional-on (c .before .before .before .before .before .before .before .before .rest-at2 .ensures) refl) (pair-on _ _ _ (tag-after-took 59 (c .before .semicolon .given .1) (c .before .before .before .tag-after .ensures)) (done _ _ _ _))))))) (let w = named-in (c .before .before .before .before .before .before .before .before .before .before .before .before .keyword-name .ensures) (c .before .before .before .before .before .before .before .before .before .before .named .given .1) in record { small = read-within (c .before .before .before .before .before .before .before .before .before .before .before .before .before .before .before .before .before .before .before .before .before .before .attribute-handling-type .ensures) (c .before .before .before .before .before .before .before .before .before .before .before .before .before .before .before .before .before .before .before .before .held .given .1); named = record { from = omega (arith, w .from, c .before .before .before .before .before .before .before .before .before .before .before .before .before .before .rest-at .ensures .from); up = w .up; inside = omega (arith, w .inside, (read-took (c .before .before .before .before .before .before .before .optional-default .ensures) (c .before .before .before .before .before .optional .given .1) optional-on (c .before .before .before .before .before .before .before .before .rest-at2 .ensures) refl) .up, (tag-after-took 59 (c .before .semicolon .given .1) (c .before .before .before .tag-after .ensures)) .up) }; spanned = default-within (c .before .before .before .before .before .optional .given .0 .0) (c .before .before .before .before .before .optional .given .0 .1 .0) (c .before .semicolon .given .0 .0) (read-within (c .before .before .before .before .before .before .before .optional-default .ensures) (c .before .before .before .before .before .optional .given .1)) (omega (arith, (tag-after-took 59 (c .before .semicolon .given .1) (c .before .before .before .tag-after .ensures)) .up)) })
 
 pub attribute-instantiation-spec : {M : Type 1} → statement M
 attribute-instantiation-spec =
@@ -135,7 +135,7 @@ attribute-instantiation-spec =
     enum-told-4
     default-lost-requires
     returns-4
-    tag-behind-requires
+    tag-after-requires
     enum-known-semicolon
     enum-told-5
     step-lost-requires-2

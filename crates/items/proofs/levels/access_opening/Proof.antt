@@ -5,7 +5,7 @@ use mathlib.Core.Path.{refl}
 use native.Mathlib.Omega.{arith}
 use Rattle.lexing.specs.bytes.{ascii}
 use Rattle.lexing.proofs.Slicing.{keyword-took}
-use Rattle.lexing.proofs.steps.Laws.{blank-at-took, keyword-behind-is}
+use Rattle.lexing.proofs.steps.Laws.{blank-at-took, keyword-after-is}
 use Rattle.items.proofs.levels.Laws.{opening-not, opening-is}
 
 blank-at-requires : tie.Need-blank-at-requires
@@ -27,13 +27,13 @@ enum-told : tie.Need-enum-told
 enum-told c = c .match .keys2
 
 returns : tie.Need-returns
-returns c = opening-not (keyword-behind-is (c .before .before .before .before .before .blank-at .ensures .at) (c .before .before .before .before .before .blank-at .ensures .skips) (c .before .before .before .before .rest-at .ensures) (ascii "access") (c .before .before .keyword .result) (c .before .before .keyword .ensures)) (c .enum-told .given .1)
+returns c = opening-not (keyword-after-is (c .before .before .before .before .before .blank-at .ensures .at) (c .before .before .before .before .before .blank-at .ensures .skips) (c .before .before .before .before .rest-at .ensures) (ascii "access") (c .before .before .keyword .result) (c .before .before .keyword .ensures)) (c .enum-told .given .1)
 
-tag-behind-requires : tie.Need-tag-behind-requires
-tag-behind-requires c κs = let t = (keyword-took (c .before .before .before .before .before .rest-at .ensures) (c .before .access .given .1) (ascii "access") (c .before .before .before .keyword .ensures)) in omega (arith, t .up, t .inside, c .before .before .before .before .before .rest-at .ensures .from, c .before .before .before .before .before .before .before .before .pre)
+tag-after-requires : tie.Need-tag-after-requires
+tag-after-requires c κs = let t = (keyword-took (c .before .before .before .before .before .rest-at .ensures) (c .before .access .given .1) (ascii "access") (c .before .before .before .keyword .ensures)) in omega (arith, t .up, t .inside, c .before .before .before .before .before .rest-at .ensures .from, c .before .before .before .before .before .before .before .before .pre)
 
 returns-2 : tie.Need-returns-2
-returns-2 c = opening-is (keyword-behind-is (c .before .before .before .before .before .before .before .blank-at .ensures .at) (c .before .before .before .before .before .before .before .blank-at .ensures .skips) (c .before .before .before .before .before .before .rest-at .ensures) (ascii "access") (c .before .before .before .before .keyword .result) (c .before .before .before .before .keyword .ensures)) (c .tag-behind .result) (c .before .before .access .given .1) (c .tag-behind .ensures)
+returns-2 c = opening-is (keyword-after-is (c .before .before .before .before .before .before .before .blank-at .ensures .at) (c .before .before .before .before .before .before .before .blank-at .ensures .skips) (c .before .before .before .before .before .before .rest-at .ensures) (ascii "access") (c .before .before .before .before .keyword .result) (c .before .before .before .before .keyword .ensures)) (c .tag-after .result) (c .before .before .access .given .1) (c .tag-after .ensures)
 
 pub access-opening-spec : {M : Type 1} → statement M
 access-opening-spec =
@@ -46,5 +46,5 @@ access-opening-spec =
     enum-known-access
     enum-told
     returns
-    tag-behind-requires
+    tag-after-requires
     returns-2)

@@ -9,7 +9,7 @@ use Rattle.lexing.proofs.Slicing.{told-not, rest-self, begin, on, fall, done, k
 use Rattle.lexing.proofs.Pairs.{four-fall, pair-on, pair-fall, three-go, three-lose, four-on}
 use native.Mathlib.Omega.{arith}
 use Rattle.lexing.specs.answers.{wordAt}
-use Rattle.lexing.proofs.steps.Laws.{blank-at-took, tag-behind-took}
+use Rattle.lexing.proofs.steps.Laws.{blank-at-took, tag-after-took}
 use Rattle.lexing.proofs.answers.Laws.{skip-took}
 
 access-opening-requires : tie.Need-access-opening-requires
@@ -57,8 +57,8 @@ returns-3 : tie.Need-returns-3
 unfolding access-to
 returns-3 c = privilege-none (c .before .before .before .before .before .before .before .before .before .before .before .before .before .before .before .args .key .now) (c .before .before .before .before .before .before .before .before .before .before .before .before .before .before .before .args .otherwise) (c .enum-told3 .given .0 .0) (c .before .before .before .before .before .before .before .before .before .before .before .before .before .before .before .pre .1 .0) (begin (whitespace0 >> access-to (c .before .before .before .before .before .before .before .before .before .before .before .before .before .before .before .args .key .now)) _ _ (four-on _ _ _ _ _ (skip-took opening-on (rest-self _ _) (c .before .before .before .before .before .before .before .before .before .before .opening .given .1) (c .before .before .before .before .before .before .before .before .before .before .before .before .access-opening .ensures)) (on _ (blank-at-took (c .before .before .before .before .before .before .before .before .blank-at .ensures)) (on _ (keyword-took (c .before .before .before .before .before .before .before .rest-at .ensures) (c .before .before .before .before .operation .given .1) _ (c .before .before .before .before .before .before .keyword .ensures)) (three-lose _ _ _ _ (c .enum-told3 .given .0 .0) (c .before .before .colon-privilege .ensures .at) (level-at-none (c .before .before .colon-privilege .ensures) (c .enum-told3 .given .1)))))))
 
-tag-behind-requires : tie.Need-tag-behind-requires
-tag-behind-requires c κs = let t = level-at-took (c .before .before .before .colon-privilege .ensures) colon-on (c .before .granted .given .1) in omega (arith, t .up, t .inside, c .before .before .before .colon-privilege .ensures .at .from, c .before .before .before .before .before .before .before .before .before .before .before .before .before .before .before .before .pre)
+tag-after-requires : tie.Need-tag-after-requires
+tag-after-requires c κs = let t = level-at-took (c .before .before .before .colon-privilege .ensures) colon-on (c .before .granted .given .1) in omega (arith, t .up, t .inside, c .before .before .before .colon-privilege .ensures .at .from, c .before .before .before .before .before .before .before .before .before .before .before .before .before .before .before .before .pre)
 
 enum-known-closing : tie.Need-enum-known-closing
 enum-known-closing c = c .match4 .keys1
@@ -68,11 +68,11 @@ enum-told-4 c = c .match4 .keys2
 
 returns-4 : tie.Need-returns-4
 unfolding access-to
-returns-4 c = privilege-none (c .before .before .before .before .before .before .before .before .before .before .before .before .before .before .before .before .before .before .before .args .key .now) (c .before .before .before .before .before .before .before .before .before .before .before .before .before .before .before .before .before .before .before .args .otherwise) (c .enum-told4 .given .0 .0) (c .before .before .before .before .before .before .before .before .before .before .before .before .before .before .before .before .before .before .before .pre .1 .0) (begin (whitespace0 >> access-to (c .before .before .before .before .before .before .before .before .before .before .before .before .before .before .before .before .before .before .before .args .key .now)) _ _ (four-on _ _ _ _ _ (skip-took opening-on (rest-self _ _) (c .before .before .before .before .before .before .before .before .before .before .before .before .before .before .opening .given .1) (c .before .before .before .before .before .before .before .before .before .before .before .before .before .before .before .before .access-opening .ensures)) (on _ (blank-at-took (c .before .before .before .before .before .before .before .before .before .before .before .before .blank-at .ensures)) (on _ (keyword-took (c .before .before .before .before .before .before .before .before .before .before .before .rest-at .ensures) (c .before .before .before .before .before .before .before .before .operation .given .1) _ (c .before .before .before .before .before .before .before .before .before .before .keyword .ensures)) (three-go _ _ _ _ (level-at-took (c .before .before .before .before .before .before .colon-privilege .ensures) colon-on (c .before .before .before .before .granted .given .1)) (pair-fall _ _ _ (c .enum-told4 .given .0 .0) (c .before .before .tag-behind .ensures .at) (skips-none (c .enum-told4 .given .1) (c .before .before .tag-behind .ensures))))))))
+returns-4 c = privilege-none (c .before .before .before .before .before .before .before .before .before .before .before .before .before .before .before .before .before .before .before .args .key .now) (c .before .before .before .before .before .before .before .before .before .before .before .before .before .before .before .before .before .before .before .args .otherwise) (c .enum-told4 .given .0 .0) (c .before .before .before .before .before .before .before .before .before .before .before .before .before .before .before .before .before .before .before .pre .1 .0) (begin (whitespace0 >> access-to (c .before .before .before .before .before .before .before .before .before .before .before .before .before .before .before .before .before .before .before .args .key .now)) _ _ (four-on _ _ _ _ _ (skip-took opening-on (rest-self _ _) (c .before .before .before .before .before .before .before .before .before .before .before .before .before .before .opening .given .1) (c .before .before .before .before .before .before .before .before .before .before .before .before .before .before .before .before .access-opening .ensures)) (on _ (blank-at-took (c .before .before .before .before .before .before .before .before .before .before .before .before .blank-at .ensures)) (on _ (keyword-took (c .before .before .before .before .before .before .before .before .before .before .before .rest-at .ensures) (c .before .before .before .before .before .before .before .before .operation .given .1) _ (c .before .before .before .before .before .before .before .before .before .before .keyword .ensures)) (three-go _ _ _ _ (level-at-took (c .before .before .before .before .before .before .colon-privilege .ensures) colon-on (c .before .before .before .before .granted .given .1)) (pair-fall _ _ _ (c .enum-told4 .given .0 .0) (c .before .before .tag-after .ensures .at) (skips-none (c .enum-told4 .given .1) (c .before .before .tag-after .ensures))))))))
 
 returns-5 : tie.Need-returns-5
 unfolding access-to
-returns-5 c = privilege-is (c .before .before .before .before .before .before .before .before .before .before .before .before .before .before .before .before .before .before .before .before .args .key .now) (c .before .before .before .before .before .before .before .before .before .before .before .before .before .before .before .before .before .before .before .before .args .otherwise) (level-small (c .before .before .before .before .before .before .before .colon-privilege .ensures .to) (c .before .before .before .before .before .granted .given .1)) (begin (whitespace0 >> access-to (c .before .before .before .before .before .before .before .before .before .before .before .before .before .before .before .before .before .before .before .before .args .key .now)) _ _ (four-on _ _ _ _ _ (skip-took opening-on (rest-self _ _) (c .before .before .before .before .before .before .before .before .before .before .before .before .before .before .before .opening .given .1) (c .before .before .before .before .before .before .before .before .before .before .before .before .before .before .before .before .before .access-opening .ensures)) (on _ (blank-at-took (c .before .before .before .before .before .before .before .before .before .before .before .before .before .blank-at .ensures)) (on _ (keyword-took (c .before .before .before .before .before .before .before .before .before .before .before .before .rest-at .ensures) (c .before .before .before .before .before .before .before .before .before .operation .given .1) _ (c .before .before .before .before .before .before .before .before .before .before .before .keyword .ensures)) (three-go _ _ _ _ (level-at-took (c .before .before .before .before .before .before .before .colon-privilege .ensures) colon-on (c .before .before .before .before .before .granted .given .1)) (pair-on _ _ _ (tag-behind-took 41 (c .before .closing .given .1) (c .before .before .before .tag-behind .ensures)) (done _ _ _ _)))))))
+returns-5 c = privilege-is (c .before .before .before .before .before .before .before .before .before .before .before .before .before .before .before .before .before .before .before .before .args .key .now) (c .before .before .before .before .before .before .before .before .before .before .before .before .before .before .before .before .before .before .before .before .args .otherwise) (level-small (c .before .before .before .before .before .before .before .colon-privilege .ensures .to) (c .before .before .before .before .before .granted .given .1)) (begin (whitespace0 >> access-to (c .before .before .before .before .before .before .before .before .before .before .before .before .before .before .before .before .before .before .before .before .args .key .now)) _ _ (four-on _ _ _ _ _ (skip-took opening-on (rest-self _ _) (c .before .before .before .before .before .before .before .before .before .before .before .before .before .before .before .opening .given .1) (c .before .before .before .before .before .before .before .before .before .before .before .before .before .before .before .before .before .access-opening .ensures)) (on _ (blank-at-took (c .before .before .before .before .before .before .before .before .before .before .before .before .before .blank-at .ensures)) (on _ (keyword-took (c .before .before .before .before .before .before .before .before .before .before .before .before .rest-at .ensures) (c .before .before .before .before .before .before .before .before .before .operation .given .1) _ (c .before .before .before .before .before .before .before .before .before .before .before .keyword .ensures)) (three-go _ _ _ _ (level-at-took (c .before .before .before .before .before .before .before .colon-privilege .ensures) colon-on (c .before .before .before .before .before .granted .given .1)) (pair-on _ _ _ (tag-after-took 41 (c .before .closing .given .1) (c .before .before .before .tag-after .ensures)) (done _ _ _ _)))))))
 
 pub access-to-spec : {M : Type 1} → statement M
 access-to-spec =
@@ -92,7 +92,7 @@ access-to-spec =
     enum-known-granted
     enum-told-3
     returns-3
-    tag-behind-requires
+    tag-after-requires
     enum-known-closing
     enum-told-4
     returns-4

@@ -8,7 +8,7 @@ use Rattle.lexing.proofs.Slicing.{rest-self, begin, go, on, blank-took}
 use Rattle.lexing.proofs.steps.Laws.{rest-clear}
 use Rattle.items.specs.clusters.{member-tries, parse-cluster-member}
 use Rattle.items.proofs.maturity.Laws.{blanked, between-clear}
-use Rattle.items.proofs.counts.Laws.{count-behind}
+use Rattle.items.proofs.counts.Laws.{count-after}
 use Rattle.items.proofs.members.Laws.{member-tries-on}
 
 whitespace0-requires : tie.Need-whitespace0-requires
@@ -28,7 +28,7 @@ count-member-tries-requires c κs = (omega (arith, c .rest-at2 .ensures .size, c
 
 returns : tie.Need-returns
 unfolding parse-cluster-member
-returns c = let m = (blanked (c .before .before .before .rest-at .ensures) (between-clear (rest-clear (blank-took (rest-self _ _) (c .before .before .before .before .whitespace0 .ensures)) (c .before .before .before .rest-at .ensures)) (c .before .before .maturity-between .ensures))) in record { counts = λ p. count-behind _ parse-cluster-member (member-tries (docOf (c .before .before .before .before .whitespace0 .result .doc)) (c .before .before .maturity-between .result .level)) (member-tries-on (docOf (c .before .before .before .before .whitespace0 .result .doc)) (c .before .before .maturity-between .result .level)) (c .count-member-tries .result) (c .before .rest-at2 .ensures) (begin parse-cluster-member _ _ (go _ (blank-took (rest-self _ _) (c .before .before .before .before .whitespace0 .ensures)) (go _ (m .said) (on _ (m .blanks) refl)))) (c .count-member-tries .ensures .counts p) }
+returns c = let m = (blanked (c .before .before .before .rest-at .ensures) (between-clear (rest-clear (blank-took (rest-self _ _) (c .before .before .before .before .whitespace0 .ensures)) (c .before .before .before .rest-at .ensures)) (c .before .before .maturity-between .ensures))) in record { counts = λ p. count-after _ parse-cluster-member (member-tries (docOf (c .before .before .before .before .whitespace0 .result .doc)) (c .before .before .maturity-between .result .level)) (member-tries-on (docOf (c .before .before .before .before .whitespace0 .result .doc)) (c .before .before .maturity-between .result .level)) (c .count-member-tries .result) (c .before .rest-at2 .ensures) (begin parse-cluster-member _ _ (go _ (blank-took (rest-self _ _) (c .before .before .before .before .whitespace0 .ensures)) (go _ (m .said) (on _ (m .blanks) refl)))) (c .count-member-tries .ensures .counts p) }
 
 pub count-member-spec : {M : Type 1} → statement M
 count-member-spec =

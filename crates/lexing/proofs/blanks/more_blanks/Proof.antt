@@ -19,7 +19,7 @@ loop-holds : tie.Need-loop-holds Inv-loop μ-loop
 loop-holds c = (blanks-start _ _ _ (c .before .pre .1 .0), c .before .pre .1 .1)
 
 one-blank-requires : tie.Need-one-blank-requires Inv-loop μ-loop
-one-blank-requires c κs = ((c .loop .inv .0) .run .from, ((c .loop .inv .0) .run .inside, ((c .loop .inv .0) .behind, c .before .before .pre .0)))
+one-blank-requires c κs = ((c .loop .inv .0) .run .from, ((c .loop .inv .0) .run .inside, ((c .loop .inv .0) .following, c .before .before .pre .0)))
 
 enum-known-t : tie.Need-enum-known-t Inv-loop μ-loop
 enum-known-t c = c .match .keys1

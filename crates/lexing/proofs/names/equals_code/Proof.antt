@@ -23,8 +23,8 @@ step-lost-requires c κs = tt
 returns : tie.Need-returns
 returns c = record { at = (rest-from _ _ _ (c .before .before .before .before .before .before .pre .0 .0) (c .before .before .before .before .before .before .pre .0 .1)); reads = fall _ _ (c .step-lost .result) (c .before .before .before .before .rest-at .ensures) (step-lost (λ c. tt) (c .step-lost .ensures) (c .before .enum-told .given .1) _ _ _ (c .before .before .before .tag .ensures)) }
 
-integer-behind-requires : tie.Need-integer-behind-requires
-integer-behind-requires c κs = let t = (tag-took (c .before .before .before .before .rest-at .ensures) (c .before .equals .given .1) 61 (c .before .before .before .tag .ensures)) in omega (arith, t .up, t .inside, c .before .before .before .before .before .before .pre)
+integer-after-requires : tie.Need-integer-after-requires
+integer-after-requires c κs = let t = (tag-took (c .before .before .before .before .rest-at .ensures) (c .before .equals .given .1) 61 (c .before .before .before .tag .ensures)) in omega (arith, t .up, t .inside, c .before .before .before .before .before .before .pre)
 
 enum-known-number : tie.Need-enum-known-number
 enum-known-number c = c .match2 .keys1
@@ -36,10 +36,10 @@ number-lost-requires : tie.Need-number-lost-requires
 number-lost-requires c κs = tt
 
 returns-2 : tie.Need-returns-2
-returns-2 c = number-after integer-on (NoNumber (c .number-lost .result)) (rest-from _ _ _ (c .before .before .before .before .before .before .before .before .before .before .pre .0 .0) (c .before .before .before .before .before .before .before .before .before .before .pre .0 .1)) (tag-took (c .before .before .before .before .before .before .before .before .rest-at .ensures) (c .before .before .before .before .before .equals .given .1) 61 (c .before .before .before .before .before .before .before .tag .ensures)) (number-at-not (c .before .before .before .integer-behind .ensures) (c .number-lost .ensures) (c .before .enum-told2 .given .1))
+returns-2 c = number-after integer-on (NoNumber (c .number-lost .result)) (rest-from _ _ _ (c .before .before .before .before .before .before .before .before .before .before .pre .0 .0) (c .before .before .before .before .before .before .before .before .before .before .pre .0 .1)) (tag-took (c .before .before .before .before .before .before .before .before .rest-at .ensures) (c .before .before .before .before .before .equals .given .1) 61 (c .before .before .before .before .before .before .before .tag .ensures)) (number-at-not (c .before .before .before .integer-after .ensures) (c .number-lost .ensures) (c .before .enum-told2 .given .1))
 
 returns-3 : tie.Need-returns-3
-returns-3 c = number-after integer-on (Value _ _) (rest-from _ _ _ (c .before .before .before .before .before .before .before .before .before .before .pre .0 .0) (c .before .before .before .before .before .before .before .before .before .before .pre .0 .1)) (tag-took (c .before .before .before .before .before .before .before .before .rest-at .ensures) (c .before .before .before .before .before .equals .given .1) 61 (c .before .before .before .before .before .before .before .tag .ensures)) (number-at-is (c .before .before .before .integer-behind .ensures) (c .before .number .given .1))
+returns-3 c = number-after integer-on (Value _ _) (rest-from _ _ _ (c .before .before .before .before .before .before .before .before .before .before .pre .0 .0) (c .before .before .before .before .before .before .before .before .before .before .pre .0 .1)) (tag-took (c .before .before .before .before .before .before .before .before .rest-at .ensures) (c .before .before .before .before .before .equals .given .1) 61 (c .before .before .before .before .before .before .before .tag .ensures)) (number-at-is (c .before .before .before .integer-after .ensures) (c .before .number .given .1))
 
 pub equals-code-spec : {M : Type 1} → statement M
 equals-code-spec =
@@ -51,7 +51,7 @@ equals-code-spec =
     enum-told
     step-lost-requires
     returns
-    integer-behind-requires
+    integer-after-requires
     enum-known-number
     enum-told-2
     number-lost-requires

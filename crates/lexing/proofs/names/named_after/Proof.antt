@@ -8,7 +8,7 @@ use native.Mathlib.Omega.{arith}
 use Rattle.lexing.proofs.Slicing.{rest-self, begin, go, lose, done}
 use Rattle.lexing.proofs.AnswerLaws.{read-is, read-not, read-lost}
 use Rattle.lexing.proofs.Pairs.{pair-on, pair-fall}
-use Rattle.lexing.proofs.steps.Laws.{tag-behind-took, skips-lost}
+use Rattle.lexing.proofs.steps.Laws.{tag-after-took, skips-lost}
 use Rattle.lexing.specs.answers.names.{namedLost}
 
 two-keywords-name-requires : tie.Need-two-keywords-name-requires
@@ -27,8 +27,8 @@ returns : tie.Need-returns
 unfolding named-after
 returns c = read-not _ refl tt (begin (named-after _ _) _ _ (lose _ _ (c .named-lost .result) (rest-self _ _) (read-lost (c .before .before .before .two-keywords-name .ensures) (c .before .enum-told .given .1) namedLost (c .named-lost .ensures) refl)))
 
-tag-behind-requires : tie.Need-tag-behind-requires
-tag-behind-requires c κs = let t = named-took (c .before .before .before .two-keywords-name .ensures) (c .before .named .given .1) (two-keywords-name-on _ _) (rest-self _ _) in omega (arith, t .up, t .inside, c .before .before .before .before .before .before .before .pre)
+tag-after-requires : tie.Need-tag-after-requires
+tag-after-requires c κs = let t = named-took (c .before .before .before .two-keywords-name .ensures) (c .before .named .given .1) (two-keywords-name-on _ _) (rest-self _ _) in omega (arith, t .up, t .inside, c .before .before .before .before .before .before .before .pre)
 
 enum-known-semicolon : tie.Need-enum-known-semicolon
 enum-known-semicolon c = c .match2 .keys1
@@ -41,11 +41,11 @@ step-lost-requires c κs = tt
 
 returns-2 : tie.Need-returns-2
 unfolding named-after
-returns-2 c = read-not _ refl tt (begin (named-after _ _) _ _ (go _ (named-took (c .before .before .before .before .before .before .before .two-keywords-name .ensures) (c .before .before .before .before .before .named .given .1) (two-keywords-name-on _ _) (rest-self _ _)) (pair-fall _ _ _ (c .step-lost .result) (c .before .before .before .tag-behind .ensures .at) (skips-lost (c .step-lost .ensures) (c .before .enum-told2 .given .1) (c .before .before .before .tag-behind .ensures)))))
+returns-2 c = read-not _ refl tt (begin (named-after _ _) _ _ (go _ (named-took (c .before .before .before .before .before .before .before .two-keywords-name .ensures) (c .before .before .before .before .before .named .given .1) (two-keywords-name-on _ _) (rest-self _ _)) (pair-fall _ _ _ (c .step-lost .result) (c .before .before .before .tag-after .ensures .at) (skips-lost (c .step-lost .ensures) (c .before .enum-told2 .given .1) (c .before .before .before .tag-after .ensures)))))
 
 returns-3 : tie.Need-returns-3
 unfolding named-after
-returns-3 c = read-is refl (begin (named-after _ _) _ _ (go _ (named-took (c .before .before .before .before .before .before .before .two-keywords-name .ensures) (c .before .before .before .before .before .named .given .1) (two-keywords-name-on _ _) (rest-self _ _)) (pair-on _ _ _ (tag-behind-took 59 (c .before .semicolon .given .1) (c .before .before .before .tag-behind .ensures)) (done _ _ _ _)))) (named-wider (c .before .before .before .before .before .before .before .two-keywords-name .ensures) (c .before .before .before .before .before .named .given .1) (omega arith) ((tag-behind-took 59 (c .before .semicolon .given .1) (c .before .before .before .tag-behind .ensures)) .up))
+returns-3 c = read-is refl (begin (named-after _ _) _ _ (go _ (named-took (c .before .before .before .before .before .before .before .two-keywords-name .ensures) (c .before .before .before .before .before .named .given .1) (two-keywords-name-on _ _) (rest-self _ _)) (pair-on _ _ _ (tag-after-took 59 (c .before .semicolon .given .1) (c .before .before .before .tag-after .ensures)) (done _ _ _ _)))) (named-wider (c .before .before .before .before .before .before .before .two-keywords-name .ensures) (c .before .before .before .before .before .named .given .1) (omega arith) ((tag-after-took 59 (c .before .semicolon .given .1) (c .before .before .before .tag-after .ensures)) .up))
 
 pub named-after-spec : {M : Type 1} → statement M
 named-after-spec =
@@ -56,7 +56,7 @@ named-after-spec =
     enum-told
     named-lost-requires
     returns
-    tag-behind-requires
+    tag-after-requires
     enum-known-semicolon
     enum-told-2
     step-lost-requires

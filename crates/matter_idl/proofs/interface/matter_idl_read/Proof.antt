@@ -12,7 +12,7 @@ use lib.ListN.{length, length-replicate}
 use Rattle.matter_idl.proofs.interface.Outcomes.{refused-result, refused-left, told-refused, told-accepted, refused-outcome, size-now, short-outcome, written-outcome, read-left, written-result, written-left}
 use Rattle.matter_idl.proofs.Around.{part-whole}
 use Rattle.matter_idl.proofs.reading.Judged.{accepted-room}
-use Rattle.matter_idl.proofs.reading.Marked.{front-none, behind-same}
+use Rattle.matter_idl.proofs.reading.Marked.{front-none, after-same}
 
 verdict-on-requires : tie.Need-verdict-on-requires
 verdict-on-requires c κs = tt
@@ -54,7 +54,7 @@ returns-2 : tie.Need-returns-2
 returns-2 c = (refused-result (refused-outcome (c .before .before .before .before .before .before .before .args .text .now) (length (now (c .before .before .before .before .before .before .before .args .catalogue))) (told-refused (c .before .before .before .before .verdict-on .result) (c .before .before .before .before .before .before .before .args .text .now) (c .before .before .before .before .verdict-on .ensures) (c .before .before .v .given .1))) (c .packed .ensures), refused-left (refused-outcome (c .before .before .before .before .before .before .before .args .text .now) (length (now (c .before .before .before .before .before .before .before .args .catalogue))) (told-refused (c .before .before .before .before .verdict-on .result) (c .before .before .before .before .before .before .before .args .text .now) (c .before .before .before .before .verdict-on .ensures) (c .before .before .v .given .1))) (now (c .before .before .before .before .before .before .before .args .catalogue)))
 
 same-length : tie.Need-same-length
-same-length c = behind-same (accepted-room ((told-accepted (c .before .before .before .before .before .before .before .before .before .before .before .verdict-on .result) (c .before .before .before .before .before .before .before .before .before .before .before .before .before .before .args .text .now) (c .before .before .before .before .before .before .before .before .before .before .before .verdict-on .ensures) (c .before .before .before .before .before .before .before .before .before .v2 .given .1)) .whole) (omega (arith, c .before .before .before .before .before .before .before .if1 .left))) (c .before .before .before .before .write-items .ensures (front-none (c .before .before .before .before .before .before .before .before .before .before .before .before .before .before .args .text .now) (now (c .before .before .before .before .before .before .before .before .before .before .before .before .before .before .args .catalogue)) (length-replicate {A = ℕ} 65536 0)))
+same-length c = after-same (accepted-room ((told-accepted (c .before .before .before .before .before .before .before .before .before .before .before .verdict-on .result) (c .before .before .before .before .before .before .before .before .before .before .before .before .before .before .args .text .now) (c .before .before .before .before .before .before .before .before .before .before .before .verdict-on .ensures) (c .before .before .before .before .before .before .before .before .before .v2 .given .1)) .whole) (omega (arith, c .before .before .before .before .before .before .before .if1 .left))) (c .before .before .before .before .write-items .ensures (front-none (c .before .before .before .before .before .before .before .before .before .before .before .before .before .before .args .text .now) (now (c .before .before .before .before .before .before .before .before .before .before .before .before .before .before .args .catalogue)) (length-replicate {A = ℕ} 65536 0)))
 
 returns-3 : tie.Need-returns-3
 returns-3 c = (written-result (written-outcome (c .before .before .before .before .before .before .before .before .before .before .before .before .before .before .args .text .now) (length (now (c .before .before .before .before .before .before .before .before .before .before .before .before .before .before .args .catalogue))) (told-accepted (c .before .before .before .before .before .before .before .before .before .before .before .verdict-on .result) (c .before .before .before .before .before .before .before .before .before .before .before .before .before .before .args .text .now) (c .before .before .before .before .before .before .before .before .before .before .before .verdict-on .ensures) (c .before .before .before .before .before .before .before .before .before .v2 .given .1)) (le-leb _ _ (c .before .before .before .before .before .before .before .if1 .left))) (size-now (c .before .before .before .before .before .before .before .before .before .before .before .before .before .before .args .text .now) (length (now (c .before .before .before .before .before .before .before .before .before .before .before .before .before .before .args .catalogue))) (told-accepted (c .before .before .before .before .before .before .before .before .before .before .before .verdict-on .result) (c .before .before .before .before .before .before .before .before .before .before .before .before .before .before .args .text .now) (c .before .before .before .before .before .before .before .before .before .before .before .verdict-on .ensures) (c .before .before .before .before .before .before .before .before .before .v2 .given .1))) (c .packed3 .ensures), written-left (written-outcome (c .before .before .before .before .before .before .before .before .before .before .before .before .before .before .args .text .now) (length (now (c .before .before .before .before .before .before .before .before .before .before .before .before .before .before .args .catalogue))) (told-accepted (c .before .before .before .before .before .before .before .before .before .before .before .verdict-on .result) (c .before .before .before .before .before .before .before .before .before .before .before .before .before .before .args .text .now) (c .before .before .before .before .before .before .before .before .before .before .before .verdict-on .ensures) (c .before .before .before .before .before .before .before .before .before .v2 .given .1)) (le-leb _ _ (c .before .before .before .before .before .before .before .if1 .left))) (now (c .before .before .before .before .before .before .before .before .before .before .before .before .before .before .args .catalogue)) (read-left (c .before .before .before .before .before .before .before .before .before .before .before .before .before .before .args .text .now) (length (now (c .before .before .before .before .before .before .before .before .before .before .before .before .before .before .args .catalogue))) (told-accepted (c .before .before .before .before .before .before .before .before .before .before .before .verdict-on .result) (c .before .before .before .before .before .before .before .before .before .before .before .before .before .before .args .text .now) (c .before .before .before .before .before .before .before .before .before .before .before .verdict-on .ensures) (c .before .before .before .before .before .before .before .before .before .v2 .given .1)) (length-replicate {A = ℕ} 65536 0) (c .before .before .before .before .write-items .ensures)))

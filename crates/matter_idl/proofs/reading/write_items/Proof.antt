@@ -9,10 +9,10 @@ use Rattle.lexing.proofs.Slicing.{blank-took}
 use Rattle.lexing.proofs.steps.Laws.{rest-clear}
 use Rattle.items.proofs.writing.Laws.{doc-in-limit}
 use Rattle.matter_idl.proofs.reading.Laws.{hoisting-same, hoisting-room}
-use Rattle.matter_idl.proofs.reading.Marked.{HoistingBehind, behind-start, mark-asks, mark-turn, hoisted-all}
+use Rattle.matter_idl.proofs.reading.Marked.{HoistingAfter, after-start, mark-asks, mark-turn, hoisted-all}
 
 abbrev Inv-loop : tie.InvT-loop
-Inv-loop text part base out₀ filter₀ at end c₀ to₀ out filter c to = HoistingBehind text base part c at out₀ filter₀ out filter to
+Inv-loop text part base out₀ filter₀ at end c₀ to₀ out filter c to = HoistingAfter text base part c at out₀ filter₀ out filter to
 
 abbrev μ-loop : tie.MeasureT-loop
 μ-loop text part base out₀ filter₀ at end c₀ to₀ out filter c to = base + length part - c
@@ -21,7 +21,7 @@ add-end : tie.Need-add-end Inv-loop μ-loop
 add-end c = search needs
 
 loop-holds : tie.Need-loop-holds Inv-loop μ-loop
-loop-holds c = behind-start _ _ _ _ _ _ (c .before .before .before .before .pre .1 .1 .0)
+loop-holds c = after-start _ _ _ _ _ _ (c .before .before .before .before .pre .1 .1 .0)
 
 rest-at-requires : tie.Need-rest-at-requires Inv-loop μ-loop
 rest-at-requires c κs = omega (arith, ((c .loop .inv) (c .before .before .before .before .before .pre .1 .1 .1)) .writing .run .from, ((c .loop .inv) (c .before .before .before .before .before .pre .1 .1 .1)) .writing .run .inside)

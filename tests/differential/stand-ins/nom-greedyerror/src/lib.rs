@@ -1,4 +1,4 @@
-//! Stand-in for nom-greedyerror: of two errors it keeps the one that stands further, as document 01's rule of the refused place says.
+//! Stand-in for nom-greedyerror: of two errors it keeps the one that is further on, as document 01's rule of the refused place says.
 //! Which error an `alt` keeps therefore rests on document 01 and is not compared with the original crate.
 use nom::error::{ErrorKind, ParseError};
 use nom_locate::LocatedSpan;

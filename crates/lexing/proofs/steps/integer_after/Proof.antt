@@ -1,8 +1,8 @@
 use borrow.Author.Needs.{needs}
-use Rattle.lexing.proofs.steps.integer_behind.Statement.{statement}
-use Rattle.lexing.proofs.steps.integer_behind.Tie as tie
+use Rattle.lexing.proofs.steps.integer_after.Statement.{statement}
+use Rattle.lexing.proofs.steps.integer_after.Tie as tie
 use native.Mathlib.Omega.{arith}
-use Rattle.lexing.proofs.steps.Laws.{blank-bounds, integer-behind-is}
+use Rattle.lexing.proofs.steps.Laws.{blank-bounds, integer-after-is}
 
 blank-at-requires : tie.Need-blank-at-requires
 blank-at-requires c κs = search needs
@@ -14,8 +14,8 @@ positive-integer-requires : tie.Need-positive-integer-requires
 positive-integer-requires c κs = omega (arith, c .rest-at .ensures .size, c .before .before .before .pre .1)
 
 returns : tie.Need-returns
-returns c = integer-behind-is (c .before .before .blank-at .ensures .at) (c .before .before .blank-at .ensures .skips) (c .before .rest-at .ensures) _ (c .positive-integer .ensures)
+returns c = integer-after-is (c .before .before .blank-at .ensures .at) (c .before .before .blank-at .ensures .skips) (c .before .rest-at .ensures) _ (c .positive-integer .ensures)
 
-pub integer-behind-spec : {M : Type 1} → statement M
-integer-behind-spec =
+pub integer-after-spec : {M : Type 1} → statement M
+integer-after-spec =
     tie.close (tie.spec blank-at-requires rest-at-requires positive-integer-requires returns)
