@@ -59,6 +59,16 @@ static size_t comment(const char *unused, uint8_t *bytes, size_t size) {
     return size;
 }
 
+/* One entry's annotations, with what is after them. */
+static size_t list(const char *end, uint8_t *bytes, size_t size) {
+    static const char front[] = "enum E:t{a=1[";
+    size_t n = strlen(front), rest = strlen(end);
+    memcpy(bytes, front, n);
+    n += repeated("b=\"\",", bytes + n, size - n - rest);
+    memcpy(bytes + n, end, rest);
+    return n + rest;
+}
+
 static size_t from_file(const char *name, uint8_t *bytes, size_t size) {
     FILE *f = fopen(name, "rb");
     if (!f) {
@@ -113,5 +123,8 @@ int main(int count, char **names) {
     same("a section a line, accepted", "enum E:t{\n}");
     same("a section a line, spoilt", "x\n}");
     same("an open /* after every item", "enum E:t{\n}/*");
+    same("entries with two annotations each", "enum E:t{a=1[b=\"c\",d=\"e\"];b=2[b=\"c\",d=\"e\"];}");
+    shape("one list of annotations", list, "];}", "];}");
+    shape("one list that is not closed", list, "", "");
     return 0;
 }

@@ -1,4 +1,4 @@
-/* A section's records as a person wants them: one line for each declaration at the top. */
+/* A section's records as a person wants them: one line for each declaration at the top, and below it names for screens. */
 #include "explain.h"
 #include "matter_idl.h"
 
@@ -99,12 +99,12 @@ static void count(struct declaration *current, const uint8_t *record, int within
 }
 
 /* A name is letters, digits and `_` of ASCII, so it can be printed as it is. */
-static void print_name(struct text text, const uint8_t *record) {
+void print_name(struct text text, const uint8_t *record) {
     struct matter_idl_span name = matter_idl_name(record);
     fwrite(text.bytes + name.offset, 1, name.length, stdout);
 }
 
-static void print_maturity(const uint8_t *record) {
+void print_maturity(const uint8_t *record) {
     static const char *const words[4] = {"", "provisional ", "internal ", "deprecated "};
     fputs(words[matter_idl_maturity_of(record)], stdout);
 }
@@ -161,13 +161,11 @@ static void print_endpoint(const struct declaration *current) {
     print_counts(current, parts);
 }
 
-static void print_choice(struct text text, const struct declaration *current) {
-    static const struct part parts[] = {{MATTER_IDL_ENTRY, "entry", "entries"}, {0, NULL, NULL}};
-    print_maturity(current->record);
-    fputs(matter_idl_is_shared(current->record) ? "shared " : "", stdout);
-    fputs(matter_idl_kind_of(current->record) == MATTER_IDL_ENUM ? "enum " : "bitmap ", stdout);
-    print_name(text, current->record);
-    print_counts(current, parts);
+void print_choice(struct text text, const uint8_t *record) {
+    print_maturity(record);
+    fputs(matter_idl_is_shared(record) ? "shared " : "", stdout);
+    fputs(matter_idl_kind_of(record) == MATTER_IDL_ENUM ? "enum " : "bitmap ", stdout);
+    print_name(text, record);
 }
 
 static void print_struct(struct text text, const struct declaration *current) {
@@ -183,7 +181,9 @@ static void print_struct(struct text text, const struct declaration *current) {
     print_counts(current, parts);
 }
 
-static void print_declaration(struct text text, const struct declaration *current, const char *lead) {
+/* The declaration's records end where the next one's start. */
+static void print_declaration(struct text text, const struct declaration *current, const uint8_t *end, const char *lead) {
+    static const struct part entries[] = {{MATTER_IDL_ENTRY, "entry", "entries"}, {0, NULL, NULL}};
     printf("%-14s ", lead);
     switch (matter_idl_kind_of(current->record)) {
     case MATTER_IDL_CLUSTER:
@@ -196,9 +196,11 @@ static void print_declaration(struct text text, const struct declaration *curren
         print_struct(text, current);
         break;
     default:
-        print_choice(text, current);
+        print_choice(text, current->record);
+        print_counts(current, entries);
     }
     putchar('\n');
+    tell_entries(text, current->record, (size_t)(end - current->record));
 }
 
 void tell_declarations(struct text text, const uint8_t *records, size_t length, const char *lead, struct totals *totals) {
@@ -208,7 +210,7 @@ void tell_declarations(struct text text, const uint8_t *records, size_t length, 
     for (size_t at = 0; (record = matter_idl_record_at(records, length, at)) != NULL; at = matter_idl_next(records, length, at)) {
         int starts = starts_declaration(text, &current, record);
         if (starts && current.record) {
-            print_declaration(text, &current, lead);
+            print_declaration(text, &current, record, lead);
             lead = "";
         }
         if (starts)
@@ -216,5 +218,5 @@ void tell_declarations(struct text text, const uint8_t *records, size_t length, 
         count(&current, record, !starts, totals);
     }
     if (current.record)
-        print_declaration(text, &current, lead);
+        print_declaration(text, &current, records + length, lead);
 }

@@ -157,6 +157,7 @@ static void print_help(FILE *file) {
     fprintf(file, "usage: %s [FILE]\n", program);
     fputs("Tells what a Matter IDL text (FILE, or standard input) declares, section by section, and where and why\n"
           "a section is refused. A section ends with a `}` at the start of a line.\n"
+          "Of an enum or a bitmap that has annotations it tells the entries with the annotations' values.\n"
           "  --help      print this\n"
           "  --version   print the version\n"
           "Exit status: 0 all sections are accepted; 1 one or more are refused; 2 the input can't be read or is\n"

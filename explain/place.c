@@ -1,4 +1,4 @@
-/* A place of the text, shown to a person: its line, made safe for a terminal, and a caret below. */
+/* A place of the text, shown to a person: its line, made safe for a terminal, and a caret below; and a string, made as safe. */
 #include "explain.h"
 
 #include <stdio.h>
@@ -161,4 +161,13 @@ void show_place(struct text text, size_t place, size_t number) {
     printf("%7zu | %s", number, cut_left ? DOTS : "");
     print_columns(text, line, cut_left ? from + strlen(DOTS) : 0, from + WINDOW - (cut_right ? strlen(DOTS) : 0));
     printf("%s\n%7s | %*s^\n", cut_right ? DOTS : "", "", (int)(caret - from), "");
+}
+
+void show_string(struct text string) {
+    struct line line = {0, string.length};
+    size_t width;
+    characters_before(string, line, line.end, &width);
+    int cut = width > WINDOW;
+    print_columns(string, line, 0, WINDOW - (cut ? strlen(DOTS) : 0));
+    fputs(cut ? DOTS : "", stdout);
 }

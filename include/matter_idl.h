@@ -11,7 +11,8 @@
  * Nothing else. No call keeps a pointer, allocates, or has any state; calls may run at the same time on buffers of their own.
  *
  * What a client writes by the names below survives a change of the catalogue's layout (MATTER_IDL_FORMAT): it is compiled
- * anew and is right again. So take records apart by the functions here and not by shifts and offsets.
+ * anew and is right again. So take records apart by the functions here and not by shifts and offsets, and pass over records
+ * of kinds that you don't use, wherever they are: a format may have kinds that an earlier one has not.
  *
  * For C99 and later, and for C++11 and later.
  */
@@ -29,13 +30,14 @@ extern "C" {
 #endif
 
 /* The version of this header and of the library that it comes with. */
-#define MATTER_IDL_VERSION "0.1.0"
+#define MATTER_IDL_VERSION "0.2.0"
 #define MATTER_IDL_VERSION_MAJOR 0
-#define MATTER_IDL_VERSION_MINOR 1
+#define MATTER_IDL_VERSION_MINOR 2
 #define MATTER_IDL_VERSION_PATCH 0
 
-/* The layout of catalogue and report. A catalogue is read by a header of the same format. */
-#define MATTER_IDL_FORMAT 1
+/* The layout of catalogue and report. This header reads catalogues of this format, and those of format 1 as they are: they
+   have no annotations, and all else is the same. A header of format 1 does not read catalogues of this format. */
+#define MATTER_IDL_FORMAT 2
 
 /* The longest text, in bytes. A longer one is refused by MATTER_IDL_TEXT_TOO_LONG. */
 #define MATTER_IDL_TEXT_LIMIT 1048575
@@ -76,10 +78,11 @@ uint64_t matter_idl_survey(const uint8_t *text, size_t text_length, uint8_t *cat
                            uint8_t *report, size_t report_length);
 
 /*
- * Turns the bytes between a default string's quotes (matter_idl_default_string) into those that they mean. An output as long
- * as the part is always enough.
+ * Turns the bytes between the quotes of a default string (matter_idl_default_string) or of an annotation's value
+ * (matter_idl_annotation_value) into those that they mean. An output as long as the part is always enough.
  * Returns acceptance with the bytes written, or a refusal by 9 or 10, tested in this order. A part of 2^56 bytes or more,
- * which no machine can lend, is refused by 1 with 2^56 - 1.
+ * which no machine can lend, is refused by 1 with 2^56 - 1. The value of an annotation that reading or the survey hands out
+ * is never refused by 9.
  * A refusal leaves the output as it was; acceptance leaves the bytes after those written as they were.
  */
 uint64_t matter_idl_unescape(const uint8_t *part, size_t part_length, uint8_t *output, size_t output_length);
@@ -88,14 +91,14 @@ uint64_t matter_idl_unescape(const uint8_t *part, size_t part_length, uint8_t *o
    header does not link with it. `used` keeps the reference from the compiler, `retain` from `ld --gc-sections`.
    A program that calls no entry, as one that only reads stored catalogues, defines MATTER_IDL_NO_LIBRARY first and needs no
    library. */
-uint64_t matter_idl_format_1(void);
+uint64_t matter_idl_format_2(void);
 #if defined __GNUC__ && !defined MATTER_IDL_NO_LIBRARY
 #ifdef __has_attribute
 #if __has_attribute(retain)
 __attribute__((retain))
 #endif
 #endif
-__attribute__((used)) static uint64_t (*const matter_idl_needs_format)(void) = matter_idl_format_1;
+__attribute__((used)) static uint64_t (*const matter_idl_needs_format)(void) = matter_idl_format_2;
 #endif
 
 /* The number of a result. */
@@ -130,11 +133,12 @@ enum matter_idl_kind {
     MATTER_IDL_INSTANTIATION = 13, /* of a cluster, in an endpoint */
     MATTER_IDL_ATTRIBUTE_INSTANCE = 14,
     MATTER_IDL_COMMAND_INSTANCE = 15,
-    MATTER_IDL_EVENT_INSTANCE = 16
+    MATTER_IDL_EVENT_INSTANCE = 16,
+    MATTER_IDL_ANNOTATION = 17 /* of the entry that it follows; its name is the key */
 };
 
 /* The highest kind: an array over the kinds has one element more. */
-#define MATTER_IDL_KINDS 16
+#define MATTER_IDL_KINDS 17
 
 enum matter_idl_place { MATTER_IDL_IN_PARENT = 0, MATTER_IDL_GLOBAL = 1, MATTER_IDL_DROPPED = 2 };
 
@@ -221,7 +225,7 @@ static inline unsigned matter_idl_kind_of(const uint8_t *record) {
 
 /* How many bytes a record of a kind takes; 0 if there is no such kind. */
 static inline size_t matter_idl_record_bytes(unsigned kind) {
-    static const uint8_t words[MATTER_IDL_KINDS + 1] = {0, 4, 3, 3, 2, 3, 4, 2, 5, 3, 2, 3, 1, 1, 2, 1, 1};
+    static const uint8_t words[MATTER_IDL_KINDS + 1] = {0, 4, 3, 3, 2, 3, 4, 2, 5, 3, 2, 3, 1, 1, 2, 1, 1, 2};
     return kind <= MATTER_IDL_KINDS ? MATTER_IDL_CAST(size_t, 8) * words[kind] : 0;
 }
 
@@ -306,7 +310,7 @@ static inline struct matter_idl_span matter_idl_doc(const uint8_t *record) {
 /* The code of a cluster, an entry, a response struct, a field, a command, an event or a device type. An attribute's is that
    of its field. */
 static inline uint64_t matter_idl_code(const uint8_t *record) {
-    static const uint8_t words[MATTER_IDL_KINDS + 1] = {0, 2, 0, 0, 1, 2, 2, 0, 4, 2, 0, 1, 0, 0, 0, 0, 0};
+    static const uint8_t words[MATTER_IDL_KINDS + 1] = {0, 2, 0, 0, 1, 2, 2, 0, 4, 2, 0, 1, 0, 0, 0, 0, 0, 0};
     unsigned k = record[0] <= MATTER_IDL_KINDS ? words[record[0]] : 0;
     return k != 0 ? matter_idl_word(record + 8 * k) : 0;
 }
@@ -330,6 +334,12 @@ static inline int matter_idl_is_fabric_scoped(const uint8_t *record) {
 static inline int matter_idl_is_shared(const uint8_t *record) {
     return matter_idl_struct_type_of(record) == MATTER_IDL_STRUCT_SHARED ||
            matter_idl_flags(record, MATTER_IDL_ONE(MATTER_IDL_ENUM) | MATTER_IDL_ONE(MATTER_IDL_BITMAP), 6, 1) != 0;
+}
+
+/* An annotation's value: the bytes between its quotes, for matter_idl_unescape. One may be empty; its offset is then that of
+   the closing quote. */
+static inline struct matter_idl_span matter_idl_annotation_value(const uint8_t *record) {
+    return matter_idl_as_span(matter_idl_further(record, MATTER_IDL_ONE(MATTER_IDL_ANNOTATION), 1));
 }
 
 /* A field. */

@@ -1,4 +1,5 @@
-/* clusters FILE: surveys a Matter IDL text and prints its clusters with their codes and, below each, its attributes. */
+/* clusters FILE: surveys a Matter IDL text and prints its clusters with their codes and, below each, its attributes; and its enums
+   and bitmaps with their entries and, below each entry, its annotations. */
 #include <matter_idl.h>
 
 #include <inttypes.h>
@@ -42,16 +43,56 @@ static void print_attribute(const uint8_t *text, const uint8_t *attribute, const
     putchar('\n');
 }
 
+/* An enum or a bitmap: one that is its cluster's own is indented, one that is global or dropped is not. */
+static void print_choice(const uint8_t *text, const uint8_t *record) {
+    fputs(matter_idl_place_of(record) == MATTER_IDL_IN_PARENT ? "  " : "", stdout);
+    fputs(matter_idl_kind_of(record) == MATTER_IDL_ENUM ? "enum " : "bitmap ", stdout);
+    print_name(text, record);
+    putchar('\n');
+}
+
+/* An annotation's value as it is meant. No value is longer than a text. It may hold any character, controls too: a program that
+   shows it to a person decides what becomes of them. */
+static void print_annotation(const uint8_t *text, const uint8_t *record) {
+    static uint8_t value[MATTER_IDL_TEXT_LIMIT];
+    struct matter_idl_span part = matter_idl_annotation_value(record);
+    uint64_t result = matter_idl_unescape(text + part.offset, part.length, value, sizeof value);
+    printf("          ");
+    print_name(text, record);
+    fputs(": ", stdout);
+    fwrite(value, 1, (size_t)matter_idl_value(result), stdout);
+    putchar('\n');
+}
+
+static void print_record(const uint8_t *text, const uint8_t *record) {
+    switch (matter_idl_kind_of(record)) {
+    case MATTER_IDL_CLUSTER:
+        print_name(text, record);
+        printf(" = %" PRIu64 "\n", matter_idl_code(record));
+        break;
+    case MATTER_IDL_ENUM:
+    case MATTER_IDL_BITMAP:
+        print_choice(text, record);
+        break;
+    case MATTER_IDL_ENTRY:
+        printf("    %5" PRIu64 " ", matter_idl_code(record));
+        print_name(text, record);
+        putchar('\n');
+        break;
+    case MATTER_IDL_ANNOTATION:
+        print_annotation(text, record);
+        break;
+    }
+}
+
 static void print_catalogue(const uint8_t *text, const uint8_t *catalogue, size_t length) {
     const uint8_t *record;
     for (size_t at = 0; (record = matter_idl_record_at(catalogue, length, at)) != NULL; at = matter_idl_next(catalogue, length, at)) {
         const uint8_t *field = matter_idl_attribute_field(catalogue, length, at);
         if (field)
             print_attribute(text, record, field);
-        if (matter_idl_kind_of(record) != MATTER_IDL_CLUSTER)
-            continue;
-        print_name(text, record);
-        printf(" = %" PRIu64 "\n", matter_idl_code(record));
+        else
+            print_record(text, record);
     }
 }
 

@@ -74,7 +74,7 @@ static inline void put_span(struct line *line, const uint8_t *text, const char *
 static inline void put_common(struct line *line, const uint8_t *text, const uint8_t *record) {
     static const char *const kinds[] = {"", "cluster", "enum", "bitmap", "entry", "struct", "field", "attribute", "command", "event",
                                         "endpoint", "device_type", "binding", "instantiation", "attribute_instance", "command_instance",
-                                        "event_instance"};
+                                        "event_instance", "annotation"};
     static const char *const places[] = {"", "global", "dropped", "place=3"};
     static const char *const maturities[] = {"", "provisional", "internal", "deprecated"};
     unsigned kind = matter_idl_kind_of(record);
@@ -154,6 +154,7 @@ static inline void describe(struct line *line, const uint8_t *text, const uint8_
     line->length = 0;
     put_common(line, text, record);
     put_type(line, text, record);
+    put_span(line, text, "value", matter_idl_annotation_value(record));
     put_field(line, text, record);
     put_member(line, text, record);
     put_number(line, "id", matter_idl_endpoint_id(record));

@@ -153,6 +153,17 @@ static void put_field(struct text *text, uint64_t *s) {
     put(text, PICK(s, "; ", ";\n", ";"));
 }
 
+/* An entry's list, of up to three annotations; now and then a value holds the survey's cut. */
+static void put_annotations(struct text *text, uint64_t *s) {
+    put(text, PICK(s, "[", " [ ", " /* c */ ["));
+    for (size_t n = below(s, 4); n > 0; n--) {
+        put(text, PICK(s, "name", "_1", "stable", "spec_name "));
+        put(text, PICK(s, "=\"\"", " = \"Left side\"", "=\"a \\\" b\\\\\"", "=\"\xc3\xa9 // ] /*\"", "=\"\n}\"", " =\n\"\t\\\\\""));
+        put(text, PICK(s, "", ",", ", ", " , // c\n"));
+    }
+    put(text, "]");
+}
+
 static void put_choice(struct text *text, uint64_t *s) {
     put_maturity(text, s);
     put(text, PICK(s, "enum ", "bitmap ", "shared enum ", "shared bitmap "));
@@ -163,7 +174,9 @@ static void put_choice(struct text *text, uint64_t *s) {
         put_name(text, s);
         put(text, " = ");
         put_number(text, s);
-        put(text, PICK(s, ";", "; ", " [spec_name = \"a \\\" b\\\\\"];", "\n;"));
+        if (below(s, 2) == 0)
+            put_annotations(text, s);
+        put(text, PICK(s, ";", "; ", "\n;"));
     }
     put_close(text, s);
 }
@@ -329,7 +342,7 @@ static void make_part(struct text *text, uint64_t *s) {
 struct state {
     struct region text, catalogue, report;
     uint64_t random;
-    uint64_t calls, accepted, refused[11];
+    uint64_t calls, accepted, refused[11], values;
     /* What the last text's reading, or the last part's unescaping, wrote; known once a call was accepted. */
     uint8_t kept[MATTER_IDL_CATALOGUE_BYTES(sizeof(struct text))];
     size_t kept_length;
@@ -436,6 +449,27 @@ static void try_filling(struct state *state, const struct text *text, filling *c
     }
 }
 
+/* Comes after the reading of the same text: the value of each annotation is between quotes of the text, and is unescaped into a
+ * buffer of its length. */
+static void try_values(struct state *state, const struct text *text) {
+    size_t length = state->known ? state->kept_length : 0;
+    const uint8_t *lent_text = lend_text(state->text, text->bytes, text->length, AT_END), *record;
+    for (size_t at = 0; (record = matter_idl_record_at(state->kept, length, at)) != NULL; at = matter_idl_next(state->kept, length, at)) {
+        if (matter_idl_kind_of(record) != MATTER_IDL_ANNOTATION)
+            continue;
+        struct matter_idl_span value = matter_idl_annotation_value(record);
+        if (value.offset == 0 || value.offset >= text->length || value.length >= text->length - value.offset)
+            fail(text, "an annotation's value is not in the text");
+        if (lent_text[value.offset - 1] != '"' || lent_text[value.offset + value.length] != '"')
+            fail(text, "an annotation's value is not what is between quotes");
+        struct lent lent = lend(state->catalogue, value.length, AT_END);
+        uint64_t result = counted(state, text, matter_idl_unescape(lent_text + value.offset, value.length, lent.bytes, lent.length));
+        if (matter_idl_number(result) != MATTER_IDL_ACCEPTED)
+            fail(text, "an annotation's value can't be unescaped");
+        state->values++;
+    }
+}
+
 /* The report's words say of each section what reading its bytes alone says; the sections make up the text. Answers whether all
  * are accepted. */
 static int check_report(struct state *state, const struct text *text, const uint8_t *lent_text, const uint8_t *report, size_t sections) {
@@ -521,7 +555,7 @@ static void print_counts(const struct state *state, uint64_t texts) {
     printf("guard: %" PRIu64 " calls on %" PRIu64 " texts and parts, %" PRIu64 " accepted, %" PRIu64 " refused (", state->calls, texts, state->accepted, refused);
     for (unsigned i = 1; i <= 10; i++)
         printf("%sby %u: %" PRIu64, i > 1 ? ", " : "", i, state->refused[i]);
-    puts("); no byte outside, and all as promised");
+    printf("), %" PRIu64 " annotations' values unescaped; no byte outside, and all as promised\n", state->values);
 }
 
 int main(int argc, char **argv) {
@@ -543,6 +577,7 @@ int main(int argc, char **argv) {
         text_number = (sig_atomic_t)texts;
         make_text(&text, &state.random);
         try_filling(&state, &text, matter_idl_read, MATTER_IDL_CATALOGUE_TOO_SHORT);
+        try_values(&state, &text);
         try_survey(&state, &text);
         make_part(&text, &state.random);
         try_filling(&state, &text, matter_idl_unescape, MATTER_IDL_OUTPUT_TOO_SHORT);

@@ -18,7 +18,7 @@ static void expect(uint64_t is, uint64_t should, const char *what) {
 #endif
 static void types(void) {
     ENUM(matter_idl_refusal) refusal = MATTER_IDL_OUTPUT_TOO_SHORT;
-    ENUM(matter_idl_kind) kind = MATTER_IDL_EVENT_INSTANCE;
+    ENUM(matter_idl_kind) kind = MATTER_IDL_ANNOTATION;
     ENUM(matter_idl_place) place = MATTER_IDL_DROPPED;
     ENUM(matter_idl_maturity) maturity = MATTER_IDL_DEPRECATED;
     ENUM(matter_idl_privilege) privilege = MATTER_IDL_ADMINISTER;
@@ -60,7 +60,7 @@ static void versions(void) {
     char version[32];
     snprintf(version, sizeof version, "%d.%d.%d", MATTER_IDL_VERSION_MAJOR, MATTER_IDL_VERSION_MINOR, MATTER_IDL_VERSION_PATCH);
     expect_line(MATTER_IDL_VERSION, version);
-    expect(matter_idl_format_1(), MATTER_IDL_FORMAT, "format");
+    expect(matter_idl_format_2(), MATTER_IDL_FORMAT, "format");
 }
 
 /* A record of a kind that is 0 but for one word, to which these bits are added, at a guard page; its words say this. */
@@ -116,6 +116,7 @@ static void single_bits(void) {
         {" persist", " callback", " string", " signed=0", " number=0", "", "", "", "", "", ""},
         {"", "", "", "", "", "", "", "", "", "", ""},
         {"", "", "", "", "", "", "", "", "", "", ""},
+        {"", "", "", "", "", "", "", "", "", "", ""},
     };
     unsigned i;
     for (i = 0; i < (MATTER_IDL_KINDS + 1) * 11; i++) {
@@ -158,6 +159,7 @@ static void further_words(void) {
     expect_record(MATTER_IDL_ENDPOINT, 1, all, "endpoint id" NUMBER);
     expect_record(MATTER_IDL_DEVICE_TYPE, 1, all, "device_type code" NUMBER);
     expect_record(MATTER_IDL_DEVICE_TYPE, 2, all, "device_type version" NUMBER);
+    expect_record(MATTER_IDL_ANNOTATION, 1, all, "annotation value" SPAN);
     /* without a default nothing is one */
     expect_record(MATTER_IDL_ATTRIBUTE_INSTANCE, 1, all, "attribute_instance");
 }
@@ -192,7 +194,7 @@ static void signed_numbers(void) {
 }
 
 static void kinds(void) {
-    static const uint8_t words[MATTER_IDL_KINDS + 1] = {0, 4, 3, 3, 2, 3, 4, 2, 5, 3, 2, 3, 1, 1, 2, 1, 1};
+    static const uint8_t words[MATTER_IDL_KINDS + 1] = {0, 4, 3, 3, 2, 3, 4, 2, 5, 3, 2, 3, 1, 1, 2, 1, 1, 2};
     unsigned kind;
     for (kind = 0; kind <= MATTER_IDL_KINDS; kind++)
         expect(matter_idl_record_bytes(kind), MATTER_IDL_CAST(uint64_t, 8) * words[kind], "bytes of a kind");
@@ -224,15 +226,18 @@ static void expect_walk(const uint8_t *bytes, size_t length, unsigned steps, siz
     expect(matter_idl_attribute_field(catalogue, length, at) == NULL, 1, "the field of no record");
 }
 
-/* An entry and a command, whole and cut off everywhere. */
+/* An entry, an annotation and a command, whole and cut off everywhere. */
 static void cut_off(void) {
-    uint8_t bytes[56] = {MATTER_IDL_ENTRY};
-    size_t length;
-    bytes[16] = MATTER_IDL_COMMAND;
+    uint8_t bytes[72] = {MATTER_IDL_ENTRY};
+    unsigned length;
+    bytes[16] = MATTER_IDL_ANNOTATION;
+    bytes[32] = MATTER_IDL_COMMAND;
     expect_walk(NULL, 0, 0, 0);
-    expect_walk(bytes, 56, 2, 56);
-    for (length = 0; length < 56; length++)
-        expect_walk(bytes, length, length < 16 ? 0 : 1, length < 16 ? 0 : 16);
+    expect_walk(bytes, 72, 3, 72);
+    for (length = 0; length < 72; length++) {
+        unsigned whole = length < 48 ? length / 16 : 2;
+        expect_walk(bytes, length, whole, 16 * MATTER_IDL_CAST(size_t, whole));
+    }
 }
 
 static void damaged(void) {

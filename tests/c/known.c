@@ -1,4 +1,5 @@
-/* Document 01's known answers through the C interface: results, and what each buffer holds afterwards. */
+/* The known answers of document 01 and of request L1 (annotations) through the C interface: results, and what each buffer holds
+   afterwards, with a catalogue of every length up to the one that is needed. */
 #include <stdint.h>
 #include <stdio.h>
 #include <string.h>
@@ -8,6 +9,9 @@ uint64_t matter_idl_unescape(const uint8_t *part, size_t part_length, uint8_t *o
 
 #define REFUSED(number, value) (((uint64_t)(number) << 56) + (value))
 #define WORDS(...) (const uint64_t[]){__VA_ARGS__}, sizeof((const uint64_t[]){__VA_ARGS__}) / sizeof(uint64_t)
+
+/* The enum E with its entry a, in `enum E:t{a=1`. */
+#define ENTRY_A 0x0240000005000010, 0, 0x0000700001000000, 0x0400000009000010, 1
 
 struct known {
     const char *text;
@@ -39,6 +43,36 @@ static const struct known readings[] = {
     {"endpoint 0{server cluster C{ram attribute a default=-9223372036854775808;}}", 0,
      WORDS(0x0a00000000000000, 0, 0x0d0000001a000010, 0x0e0080002a000010, 0x8000000000000000)},
     {"enum E:t{}", 0, WORDS(0x0240000005000010, 0, 0x0000700001000000)},
+    /* Annotations. */
+    {"enum E:t{a=1[b=\"c\"];}", 0, WORDS(ENTRY_A, 0x110000000d000010, 0x0001000001000000)},
+    {"bitmap B:t{a=1[b=\"c\"];}", 0, WORDS(0x0340000007000010, 0, 0x0000900001000000, 0x040000000b000010, 1, 0x110000000f000010, 0x0001200001000000)},
+    {"enum E:t{a=1;}", 0, WORDS(ENTRY_A)},
+    {"enum E:t{a=1[];}", 0, WORDS(ENTRY_A)},
+    {"enum E:t{a=1[ ];}", 0, WORDS(ENTRY_A)},
+    {"enum E:t{a=1[b=\"\"];}", 0, WORDS(ENTRY_A, 0x110000000d000010, 0x0001000000000000)},
+    {"enum E:t{a=1[b=\"c\"d=\"e\",];}", 0, WORDS(ENTRY_A, 0x110000000d000010, 0x0001000001000000, 0x1100000012000010, 0x0001500001000000)},
+    {"enum E:t{a=1[b=\"c\",d=\"e\"];}", 0, WORDS(ENTRY_A, 0x110000000d000010, 0x0001000001000000, 0x1100000013000010, 0x0001600001000000)},
+    {"enum E:t{a=1[b=\"c\",b=\"c\"];}", 0, WORDS(ENTRY_A, 0x110000000d000010, 0x0001000001000000, 0x1100000013000010, 0x0001600001000000)},
+    {"enum E:t{a=1[b=\"x\"];c=2[d=\"y\"];}", 0, WORDS(ENTRY_A, 0x110000000d000010, 0x0001000001000000, 0x0400000014000010, 2, 0x1100000018000010, 0x0001b00001000000)},
+    {"enum E:t{a=1[b=\"x\"];c=2;}", 0, WORDS(ENTRY_A, 0x110000000d000010, 0x0001000001000000, 0x0400000014000010, 2)},
+    {"enum E:t{a=1[b=\"\\\"\\\\\"];}", 0, WORDS(ENTRY_A, 0x110000000d000010, 0x0001000004000000)},
+    {"enum E:t{a=1[b=\"\n}\"];}", 0, WORDS(ENTRY_A, 0x110000000d000010, 0x0001000002000000)},
+    {"enum E:t{a=1[b=\"\xc3\xa9\"];}", 0, WORDS(ENTRY_A, 0x110000000d000010, 0x0001000002000000)},
+    {"enum E:t{a=1[b=\"//\"];}", 0, WORDS(ENTRY_A, 0x110000000d000010, 0x0001000002000000)},
+    {"enum E:t{a=1[b=\"/*\"];}", 0, WORDS(ENTRY_A, 0x110000000d000010, 0x0001000002000000)},
+    {"enum E:t{a=1[b=\"]\"];}", 0, WORDS(ENTRY_A, 0x110000000d000010, 0x0001000001000000)},
+    {"enum E:t{a=1 /**/ [ /**x*/ b /**/ = /**/ \"c\" /**/ , /**/ ] /**/ ;}", 0, WORDS(ENTRY_A, 0x110000001b000010, 0x0002a00001000000)},
+    {"enum E:t{stable stable=1[stable=\"stable\"];}", 0, WORDS(0x0240000005000010, 0, 0x0000700001000000, 0x0400000010000060, 1, 0x1100000019000060, 0x0002100006000000)},
+    {"enum E:t{internal a=1[b=\"c\"];}", 0, WORDS(0x0240000005000010, 0, 0x0000700001000000, 0x0420000012000010, 1, 0x1100000016000010, 0x0001900001000000)},
+    {"enum E:t{a=1[_1=\"c\"];}", 0, WORDS(ENTRY_A, 0x110000000d000020, 0x0001100001000000)},
+    {"enum E:t{a=1[1b=\"c\"];}", REFUSED(3, 9), NULL, 0},
+    /* A dropped type's annotations are there too, and hoisting steps over them. */
+    {"cluster C=1{shared enum E:t{a=1[b=\"c\"];}}cluster D=2{shared enum E:t{a=1[b=\"d\"];}}", 0,
+     WORDS(0x0100000008000010, 0, 1, 0, 0x0244000018000010, 0, 0x0001a00001000000, 0x040000001c000010, 1, 0x1100000020000010, 0x0002300001000000,
+           0x0100000031000010, 0, 2, 0, 0x0284000041000010, 0, 0x0004300001000000, 0x0400000045000010, 1, 0x1100000049000010, 0x0004c00001000000)},
+    {"cluster C=1{shared enum E:t{a=1[b=\"\"];}shared enum F:t{}}", 0,
+     WORDS(0x0100000008000010, 0, 1, 0, 0x0244000018000010, 0, 0x0001a00001000000, 0x040000001c000010, 1, 0x1100000020000010, 0x0002300000000000,
+           0x0244000033000010, 0, 0x0003500001000000)},
 };
 
 static int failed;

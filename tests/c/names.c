@@ -1,6 +1,7 @@
 /*
  * A client that is written from the header alone and uses nothing but its functions: texts with every kind of record, flag,
- * privilege, default, maturity and doc comment. What each function answers for each record is compared with what the text says.
+ * privilege, default, maturity, doc comment and annotation. What each function answers for each record is compared with what
+ * the text says.
  */
 #include "describe.h"
 
@@ -56,6 +57,21 @@ static const struct known texts[] = {
      "bitmap global name[Bits] base_type[bitmap16]\n"
      "entry name[kHigh] code=32768\n"
      "enum global name[Also] base_type[enum16] shared\n"},
+    /* Annotations, right after their entry: none, one, several, an empty value, one with escapes, one that a bitmap has. */
+    {"enum Side : enum8 { provisional kLeft = 1 [name = \"Left side\"]; kRight = 2 [name=\"Right \\\"R\\\\\", short=\"\" name=\"r\",]; kNone = 3 []; }\n"
+     "bitmap Bits : t { kLow = 1 [stable = \"Low\"]; kHigh = 2; }",
+     "enum global name[Side] base_type[enum8]\n"
+     "entry provisional name[kLeft] code=1\n"
+     "annotation name[name] value[Left side]\n"
+     "entry name[kRight] code=2\n"
+     "annotation name[name] value[Right \\\"R\\\\]\n"
+     "annotation name[short] value[]\n"
+     "annotation name[name] value[r]\n"
+     "entry name[kNone] code=3\n"
+     "bitmap global name[Bits] base_type[t]\n"
+     "entry name[kLow] code=1\n"
+     "annotation name[stable] value[Low]\n"
+     "entry name[kHigh] code=2\n"},
     {"enum E : t {} cluster A = 1 { shared enum E : t {} shared enum F : t {} shared bitmap E : t {} bitmap G : t {} }",
      "enum global name[E] base_type[t]\n"
      "cluster name[A] code=1\n"
@@ -208,24 +224,37 @@ static void check(const struct known *known) {
     expect_line(said, known->records);
 }
 
-/* The string of the last text's last default, as it is meant. */
-static void unescaped(void) {
-    static const char means[] = "say \"a\\b\"";
-    static const char part[] = "say \\\"a\\\\b\\\"";
-    uint8_t bytes[sizeof part - 1], output[sizeof part - 1];
+/* The only string of a text, a default or an annotation's value, as it is meant. */
+static void expect_string(const char *source, const char *means) {
+    uint8_t text[128], catalogue[MATTER_IDL_CATALOGUE_BYTES(sizeof text)], output[sizeof text];
+    struct matter_idl_span string = {0, 0};
+    const uint8_t *record;
+    size_t at, length = strlen(source), written;
     uint64_t result;
-    memcpy(bytes, part, sizeof bytes);
-    result = matter_idl_unescape(bytes, sizeof bytes, output, sizeof output);
+    memcpy(text, source, length);
+    written = MATTER_IDL_CAST(size_t, matter_idl_value(matter_idl_read(text, length, catalogue, sizeof catalogue)));
+    for (at = 0; (record = matter_idl_record_at(catalogue, written, at)) != NULL; at = matter_idl_next(catalogue, written, at))
+        if (matter_idl_kind_of(record) == MATTER_IDL_ANNOTATION)
+            string = matter_idl_annotation_value(record);
+        else if (matter_idl_default_of(record) == MATTER_IDL_DEFAULT_STRING)
+            string = matter_idl_default_string(record);
+    result = matter_idl_unescape(text + string.offset, string.length, output, sizeof output);
     expect_line(matter_idl_message(matter_idl_number(result)), "accepted");
     if (matter_idl_value(result) != strlen(means) || memcmp(output, means, strlen(means)) != 0)
         expect_line("another string", means);
+}
+
+static void strings(void) {
+    expect_string("endpoint 3 { server cluster C { ram attribute a default = \"say \\\"a\\\\b\\\"\"; } }", "say \"a\\b\"");
+    expect_string("enum E : t { a = 1 [name = \"say \\\"a\\\\b\\\"\"]; }", "say \"a\\b\"");
+    expect_string("bitmap B : t { a = 1 [name = \"\"]; }", "");
 }
 
 int main(void) {
     size_t i, count = sizeof texts / sizeof texts[0];
     for (i = 0; i < count; i++)
         check(&texts[i]);
-    unescaped();
+    strings();
     printf("%zu texts by the header's names: %s\n", count, failed ? "some answers differ" : "all as they say");
     return failed;
 }

@@ -9,7 +9,7 @@
 
 struct known {
     const char *text;
-    uint64_t words[16];
+    uint64_t words[24];
     size_t count;
     uint64_t sections[4];
     size_t section_count;
@@ -33,6 +33,19 @@ static const struct known surveys[] = {
     /* A doc comment that is empty has an offset, which moves; one that is absent stays 0. */
     {"enum A:t{\n}/***/enum B:t{\n}", WORDS(0x0240000005000010, 0, 0x0000700001000000, 0x0248000015000010, 0x0000e00000000000, 0x0001700001000000),
      WORDS(0x000000000b000000, 0x0000b00010000000, 0x0001b00000000000)},
+    /* Annotations: the key and the value move, an empty value too; those of a dropped type are there. */
+    {"\n}enum E:t{a=1[b=\"c\"];}",
+     WORDS(0x0240000007000010, 0, 0x0000900001000000, 0x040000000b000010, 1, 0x110000000f000010, 0x0001200001000000),
+     WORDS(0x0000000002300001, 0x0000200015000000)},
+    {"\n}bitmap B:t{a=1[b=\"\"];}",
+     WORDS(0x0340000009000010, 0, 0x0000b00001000000, 0x040000000d000010, 1, 0x1100000011000010, 0x0001400000000000),
+     WORDS(0x0000000002300001, 0x0000200016000000)},
+    {"cluster C=1{shared enum E:t{a=1[b=\"c\"];}\n}cluster D=2{shared enum E:t{a=1[b=\"d\"];}\n}",
+     WORDS(0x0100000008000010, 0, 1, 0, 0x0244000018000010, 0, 0x0001a00001000000, 0x040000001c000010, 1, 0x1100000020000010, 0x0002300001000000,
+           0x0100000032000010, 0, 2, 0, 0x0284000042000010, 0, 0x0004400001000000, 0x0400000046000010, 1, 0x110000004a000010, 0x0004d00001000000),
+     WORDS(0x000000002a000000, 0x0002a0002a000000, 0x0005400000000000)},
+    /* A cut inside an annotation's value spoils both sides, though reading accepts the whole text. */
+    {"enum E:t{a=1[b=\"\n}\"];}", NO_WORDS, WORDS(0x0000000012300009, 0x0001200004300012)},
     /* The numbers 2, 4, 5 and 6 with offsets of the whole text. A cut inside a comment spoils both sides. */
     {"\n}\n\xff", NO_WORDS, WORDS(0x0000000002300001, 0x0000200002200003)},
     {"\n}enum E:t{a=18446744073709551616;}", NO_WORDS, WORDS(0x0000000002300001, 0x000020002140000d)},

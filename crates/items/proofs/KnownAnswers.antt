@@ -11,14 +11,14 @@ use Rattle.lexing.specs.words.{offsetOf, bytesOf, parse-id, isKeyword, keyword,
 use Rattle.lexing.specs.integers.{fitting, hex-integer, decimal-integer, positive-integer, largest, in-range, after-sign, signed-integer}
 use Rattle.lexing.specs.strings.{string-rest, span-from, string-with, annotation-escape, quoted-string, default-escape, default-string}
 use Rattle.lexing.specs.word_sets.{next-word, set-step, keywords-set, same-bytes, contains, bit, flags, set-flags, field-set, struct-set, event-set, command-set, attribute-set}
-use Rattle.items.specs.entries.{present, enclosed, where-missing, braces, api-maturity, constant-annotation, blank-annotation, annotations-in-brackets, constant-annotations-list, constant-entry, blank-entry, constant-entries, constant-entries-list, shared-before, choice-head, choice-after-doc-maturity, parse-enum-after-doc-maturity, parse-bitmap-after-doc-maturity}
+use Rattle.items.specs.entries.{present, enclosed, where-missing, braces, api-maturity, constant-annotation, blank-annotation, annotations-in-brackets, constant-annotations-list, annotations-of, constant-entry, blank-entry, constant-entries, constant-entries-list, shared-before, choice-head, choice-after-doc-maturity, parse-enum-after-doc-maturity, parse-bitmap-after-doc-maturity}
 use Rattle.items.specs.structs.{max-length, list-marker, parse-field, parse-struct-field, closed-field, fields-run, struct-fields, response-code, type-by-word, struct-type-of, struct-head, parse-struct-after-doc-maturity}
 use Rattle.items.specs.members.{access-privilege, or-else, event-priority, access-to, event-qualities, event-head, parse-event-after-doc-maturity, command-head, command-types, parse-command-after-doc-maturity, access-entry, comma, separated-list0, access-list, granted-by, default-privileges, listed, attribute-access, parse-attribute-after-doc-maturity}
 use Rattle.items.specs.clusters.{mapped, parse-revision, member-tries, parse-cluster-member, cluster-members, side, cluster-head, cluster-after-doc-maturity, parse-cluster}
 use Rattle.items.specs.endpoints.{intercept, deep-step, deeper, deep-run, deep-place, deep-braces, device-version, device-type, value-tries, default-attribute-value, attribute-handling-type, attribute-instantiation, instance-tries, instantiation-head, cluster-instantiation, part-tries, endpoint-head, endpoint}
 use Rattle.lexing.specs.names.{two-keywords-name, named-after}
 use Rattle.items.specs.items.{with-doc-maturity, item, Item}
-use Rattle.items.specs.records.{moved-extent, moved-further, moved, word-extent, optional-extent, doc-extent, doc-bit, flag, plain, documented, entry-record, choice-records, field-record, struct-number, response-of, struct-records, attribute-records, command-record, event-records, last-revision, member-records, cluster-records, default-number, twos-complement, default-word, instance-record, part-records, endpoint-records, item-records}
+use Rattle.items.specs.records.{moved-extent, moved-further, moved, word-extent, optional-extent, doc-extent, span-extent, doc-bit, flag, plain, documented, annotation-record, entry-record, entry-records, choice-records, field-record, struct-number, response-of, struct-records, attribute-records, command-record, event-records, last-revision, member-records, cluster-records, default-number, twos-complement, default-word, instance-record, part-records, endpoint-records, item-records}
 use Rattle.lexing.specs.buffers.{each, big-endian, words-bytes}
 use Rattle.items.specs.layout.{packed, width, from-top, offset, size, layout, further-word, record-words, catalogue-words, catalogue-bytes}
 
@@ -58,5 +58,5 @@ cases =
     []
 
 pub known-answers : map (λ c. answer (item 0 (ascii (c .0)))) cases ≡ map (λ c. c .1) cases
-unfolding answer cases ret _>>=_ _>>_ catch opt no-nearer _or_ prepend manyWithin many0 iterWithin iter keep position failAt stopAt pick within isLetter isDigit isHex isWord isSpace inLine lower takeWhile dropWhile digit number line-comment one-more until-close comment-kind closed block-comment multispace1 whitespace-group doc-after one-blank whitespace0 whitespace1 offsetOf bytesOf parse-id isKeyword keyword any-keyword tag fitting hex-integer decimal-integer positive-integer largest in-range after-sign signed-integer string-rest span-from string-with annotation-escape quoted-string default-escape default-string next-word set-step keywords-set same-bytes contains bit flags set-flags field-set struct-set event-set command-set attribute-set present enclosed where-missing braces api-maturity constant-annotation blank-annotation annotations-in-brackets constant-annotations-list constant-entry blank-entry constant-entries constant-entries-list shared-before choice-head choice-after-doc-maturity parse-enum-after-doc-maturity parse-bitmap-after-doc-maturity max-length list-marker parse-field parse-struct-field closed-field fields-run struct-fields response-code type-by-word struct-type-of struct-head parse-struct-after-doc-maturity access-privilege or-else event-priority access-to event-qualities event-head parse-event-after-doc-maturity command-head command-types parse-command-after-doc-maturity access-entry comma separated-list0 access-list granted-by default-privileges listed attribute-access parse-attribute-after-doc-maturity mapped parse-revision member-tries parse-cluster-member cluster-members side cluster-head cluster-after-doc-maturity parse-cluster intercept deep-step deeper deep-run deep-place deep-braces two-keywords-name device-version device-type value-tries default-attribute-value attribute-handling-type attribute-instantiation named-after instance-tries instantiation-head cluster-instantiation part-tries endpoint-head endpoint with-doc-maturity item moved-extent moved-further moved word-extent optional-extent doc-extent doc-bit flag plain documented entry-record choice-records field-record struct-number response-of struct-records attribute-records command-record event-records each last-revision member-records cluster-records default-number twos-complement default-word instance-record part-records endpoint-records item-records packed width from-top offset size layout further-word record-words big-endian words-bytes catalogue-words catalogue-bytes take-while take-while1 tag2
+unfolding answer cases ret _>>=_ _>>_ catch opt no-nearer _or_ prepend manyWithin many0 iterWithin iter keep position failAt stopAt pick within isLetter isDigit isHex isWord isSpace inLine lower takeWhile dropWhile digit number line-comment one-more until-close comment-kind closed block-comment multispace1 whitespace-group doc-after one-blank whitespace0 whitespace1 offsetOf bytesOf parse-id isKeyword keyword any-keyword tag fitting hex-integer decimal-integer positive-integer largest in-range after-sign signed-integer string-rest span-from string-with annotation-escape quoted-string default-escape default-string next-word set-step keywords-set same-bytes contains bit flags set-flags field-set struct-set event-set command-set attribute-set present enclosed where-missing braces api-maturity constant-annotation blank-annotation annotations-in-brackets constant-annotations-list annotations-of constant-entry blank-entry constant-entries constant-entries-list shared-before choice-head choice-after-doc-maturity parse-enum-after-doc-maturity parse-bitmap-after-doc-maturity max-length list-marker parse-field parse-struct-field closed-field fields-run struct-fields response-code type-by-word struct-type-of struct-head parse-struct-after-doc-maturity access-privilege or-else event-priority access-to event-qualities event-head parse-event-after-doc-maturity command-head command-types parse-command-after-doc-maturity access-entry comma separated-list0 access-list granted-by default-privileges listed attribute-access parse-attribute-after-doc-maturity mapped parse-revision member-tries parse-cluster-member cluster-members side cluster-head cluster-after-doc-maturity parse-cluster intercept deep-step deeper deep-run deep-place deep-braces two-keywords-name device-version device-type value-tries default-attribute-value attribute-handling-type attribute-instantiation named-after instance-tries instantiation-head cluster-instantiation part-tries endpoint-head endpoint with-doc-maturity item moved-extent moved-further moved word-extent optional-extent doc-extent span-extent doc-bit flag plain documented annotation-record entry-record entry-records choice-records field-record struct-number response-of struct-records attribute-records command-record event-records each last-revision member-records cluster-records default-number twos-complement default-word instance-record part-records endpoint-records item-records packed width from-top offset size layout further-word record-words big-endian words-bytes catalogue-words catalogue-bytes take-while take-while1 tag2
 known-answers = refl

@@ -9,7 +9,7 @@ use native.Mathlib.Omega.{arith}
 use lib.Dec.{eqb}
 use lib.ListN.{length}
 use Rattle.lexing.specs.bytes.{ascii, within, isLetter, isDigit, isSpace}
-use Rattle.lexing.specs.reply.{Reply, ok, fail, stop, Parser, ret, _>>=_, _>>_, failAt, stopAt, catch, pick}
+use Rattle.lexing.specs.reply.{Reply, ok, fail, stop, Parser, ret, _>>=_, _>>_, opt, failAt, stopAt, catch, pick}
 use Rattle.lexing.specs.words.{Word, tag}
 use Rattle.lexing.specs.blanks.{Doc, whitespace0}
 use Rattle.lexing.proofs.Tests.{eq-of, or-true}
@@ -209,6 +209,17 @@ constant-annotation-local = search (local-rules, keeps-rules) depth 20
 pub constant-annotation-consumes : Consumes constant-annotation
 unfolding constant-annotation
 constant-annotation-consumes = search (consumes-rules, chain-rules, punct-local) depth 20
+
+pub optional-comma-chain : OnChain (opt (tag 44))
+optional-comma-chain = chain-opt (punct-local 44 refl .on-chain)
+
+pub blank-annotation-chain : OnChain blank-annotation
+unfolding blank-annotation
+blank-annotation-chain = chain-then whitespace0-chain (constant-annotation-local .on-chain)
+
+pub blank-annotation-consumes : Consumes blank-annotation
+unfolding blank-annotation
+blank-annotation-consumes = consumes-then-right whitespace0-chain constant-annotation-consumes
 
 pub annotations-in-brackets-inside : LocalInside annotations-in-brackets
 unfolding annotations-in-brackets blank-annotation

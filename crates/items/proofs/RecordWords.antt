@@ -6,9 +6,9 @@ use native.Mathlib.Omega.{arith}
 use lib.ListN.{length, length-append}
 use Rattle.lexing.specs.reply.{Parser}
 use Rattle.lexing.proofs.Locality.{Consumes}
-use Rattle.lexing.proofs.buffers.Laws.{each-append, each-one, words-bytes-append, words-bytes-length}
+use Rattle.lexing.proofs.buffers.Laws.{put-length, each-append, each-one, words-bytes-append, words-bytes-length}
 use Rattle.items.specs.records.{Record}
-use Rattle.lexing.specs.buffers.{each, words-bytes}
+use Rattle.lexing.specs.buffers.{each, words-bytes, put}
 use Rattle.items.specs.layout.{Layout, layout, record-words, catalogue-words, catalogue-bytes, word-count}
 
 -- records as bytes
@@ -19,6 +19,10 @@ catalogue-bytes-append L k l = rw (each-append (record-words L) k l) (words-byte
 pub catalogue-bytes-length : (l : List Record) → length (catalogue-bytes layout l) ≡ 8 * word-count layout l
 unfolding catalogue-bytes word-count
 catalogue-bytes-length l = words-bytes-length (catalogue-words layout l)
+
+-- records that are put into a buffer leave its length as it was
+pub put-same : (at : ℕ) (l : List Record) (old : List ℕ) {new : List ℕ} → new ≡ put at (catalogue-bytes layout l) old → at + 8 * word-count layout l ≤ length old → length new ≡ length old
+put-same at l old e h = ap length e ∙ put-length at (catalogue-bytes layout l) old (omega (arith, h, catalogue-bytes-length l))
 
 pub word-count-append : (k l : List Record) → word-count layout (k ++ l) ≡ word-count layout k + word-count layout l
 unfolding word-count catalogue-words

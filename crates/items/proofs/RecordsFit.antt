@@ -12,20 +12,20 @@ use Rattle.lexing.proofs.Tests.{and-right}
 use Rattle.lexing.specs.words.{Word, word, offsetOf, bytesOf}
 use Rattle.lexing.specs.integers.{Signed, signed, largest}
 use Rattle.lexing.specs.blanks.{Doc, no-doc, doc-at}
-use Rattle.lexing.specs.strings.{span}
+use Rattle.lexing.specs.strings.{Span, span}
 use Rattle.lexing.specs.word_sets.{bit}
-use Rattle.items.specs.entries.{Entry, Choice}
+use Rattle.items.specs.entries.{Annotation, Entry, Choice}
 use Rattle.items.specs.structs.{StructField, StructType, regular, request, response, shared, Struct}
 use Rattle.items.specs.members.{or-else, Event, Command, Attribute}
 use Rattle.items.specs.clusters.{Member, revision, bitmap, enum, struct, attribute, command, event, Cluster}
 use Rattle.items.specs.endpoints.{Default, number, signed-number, truth, text, Instance, attribute-instance, command-instance, event-instance, Part, device, binding, instantiation, Endpoint}
 use Rattle.items.specs.items.{Item, cluster-item, endpoint-item, enum-item, bitmap-item, struct-item, blank-item}
-use Rattle.items.specs.records.{Extent, absent, at, Bits, Further, value, spanned, Record, word-extent, optional-extent, doc-extent, doc-bit, flag, plain, documented, entry-record, choice-records, field-record, struct-number, struct-records, attribute-records, command-record, event-records, last-revision, member-records, cluster-records, default-number, twos-complement, default-word, instance-record, part-records, endpoint-records, further-counts, known-kind, further-of-kind, item-records}
+use Rattle.items.specs.records.{Extent, absent, at, Bits, Further, value, spanned, Record, word-extent, optional-extent, doc-extent, span-extent, doc-bit, flag, plain, documented, annotation-record, entry-record, entry-records, choice-records, field-record, struct-number, struct-records, attribute-records, command-record, event-records, last-revision, member-records, cluster-records, default-number, twos-complement, default-word, instance-record, part-records, endpoint-records, further-counts, known-kind, further-of-kind, item-records}
 use Rattle.lexing.specs.buffers.{each}
 use Rattle.items.specs.layout.{packed, width, offset, size, Field, kind-field, place-field, maturity-field, doc-field, flags-field, offset-field, length-field, first-privilege-field, second-privilege-field, no-field, record-value, Cell, filled, Layout, layout, first-words, span-word, further-word, record-words, words-of-kind, catalogue-words, text-limit}
 use Rattle.items.specs.stored.{field-number, same-field, has-field}
-use Rattle.lexing.proofs.Truth.{All, Maybe, InRange, WordTrue, DocTrue}
-use Rattle.items.proofs.Truth.{EntryTrue, true-entry, ChoiceTrue, true-choice, true-field, StructFieldTrue, true-struct-field, StructTrue, true-struct, EventTrue, true-event, CommandTrue, true-command, true-privileges, AttributeTrue, true-attribute, MemberTrue, ClusterTrue, true-cluster, true-device, DefaultTrue, true-attribute-instance, InstanceTrue, true-instantiation, PartTrue, EndpointTrue, true-endpoint, ItemTrue}
+use Rattle.lexing.proofs.Truth.{All, Maybe, InRange, WordTrue, SpanTrue, DocTrue}
+use Rattle.items.proofs.Truth.{AnnotationTrue, true-annotation, EntryTrue, true-entry, ChoiceTrue, true-choice, true-field, StructFieldTrue, true-struct-field, StructTrue, true-struct, EventTrue, true-event, CommandTrue, true-command, true-privileges, AttributeTrue, true-attribute, MemberTrue, ClusterTrue, true-cluster, true-device, DefaultTrue, true-attribute-instance, InstanceTrue, true-instantiation, PartTrue, EndpointTrue, true-endpoint, ItemTrue}
 use Rattle.items.proofs.Packing.{Fit, packed-less, from-top-less}
 
 -- lists
@@ -145,14 +145,23 @@ module _ (s : ℕ) (t : List ℕ) (end : ℕ) where
   default-in (some (truth z)) h = let k = bit-fits z in omega (arith, k)
   default-in (some (text (span o n))) h = h .1
 
-  entry-fits : (e : Entry) → EntryTrue s t end e → Fits (entry-record e)
-  unfolding entry-record width further-of-kind known-kind
-  entry-fits e (true-entry m n c) = plain-fits _ _ _ _ _ refl m tt (lit≤ tt) (word-in (e .name) n) (c, tt) refl
+  span-in : (x : Span) → SpanTrue s t end x → Inside (span-extent x)
+  unfolding span-extent
+  span-in (span o n) h = h .1
+
+  annotation-fits : (a : Annotation) → AnnotationTrue s t end a → Fits (annotation-record a)
+  unfolding annotation-record width further-of-kind known-kind
+  annotation-fits a (true-annotation k v) = plain-fits _ _ _ _ _ refl (lit< tt) tt (lit≤ tt) (word-in (a .key) k) (span-in (a .value) v, tt) refl
+
+  entry-fits : (e : Entry) → EntryTrue s t end e → All Fits (entry-records e)
+  unfolding entry-records entry-record width further-of-kind known-kind
+  entry-fits e (true-entry m n c l) =
+      (plain-fits _ _ _ _ _ refl m tt (lit≤ tt) (word-in (e .name) n) (c, tt) refl, all-map (AnnotationTrue s t end) Fits annotation-record annotation-fits (e .annotations) l)
 
   choice-fits : (k : ℕ) → known-kind k ≡ true → 2 ≡ further-of-kind k → (p : ℕ) → p < 2 ^ 2 → (c : Choice) → ChoiceTrue s t end c → All Fits (choice-records k p c)
   unfolding choice-records width flag
   choice-fits k hk hc p hp c (true-choice d m n b e) =
-      (documented-fits _ _ _ _ _ _ _ _ _ hk hp m (doc-in (c .doc) d) (bit-fits _, tt) (lit≤ tt) (word-in (c .name) n) (lit< tt) (lit< tt) (word-in (c .base) b, tt) hc, all-map (EntryTrue s t end) Fits entry-record entry-fits (c .entries) e)
+      (documented-fits _ _ _ _ _ _ _ _ _ hk hp m (doc-in (c .doc) d) (bit-fits _, tt) (lit≤ tt) (word-in (c .name) n) (lit< tt) (lit< tt) (word-in (c .base) b, tt) hc, all-each (EntryTrue s t end) Fits entry-records entry-fits (c .entries) e)
 
   field-fits : (f : StructField) → StructFieldTrue s t end f → Fits (field-record f)
   unfolding field-record width flag further-of-kind known-kind

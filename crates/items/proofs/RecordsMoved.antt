@@ -5,17 +5,17 @@ use mathlib.Core.Option.{Option, none, some}
 use mathlib.Core.List.{List, [], _∷_, map, map-append}
 use Rattle.lexing.specs.words.{Word, word}
 use Rattle.lexing.specs.blanks.{Doc, no-doc, doc-at}
-use Rattle.lexing.specs.strings.{span}
+use Rattle.lexing.specs.strings.{Span, span}
 use Rattle.lexing.proofs.Shift.{shiftWord, shiftDoc, shiftOption, shiftSpan}
-use Rattle.items.specs.entries.{Entry, Choice}
+use Rattle.items.specs.entries.{Annotation, Entry, Choice}
 use Rattle.items.specs.structs.{StructField, Struct}
 use Rattle.items.specs.members.{Event, Command, Attribute}
 use Rattle.items.specs.clusters.{Member, revision, bitmap, enum, struct, attribute, command, event, Cluster}
 use Rattle.items.specs.endpoints.{Default, number, signed-number, truth, text, Instance, attribute-instance, command-instance, event-instance, Part, device, binding, instantiation, Endpoint}
 use Rattle.items.specs.items.{Item, cluster-item, endpoint-item, enum-item, bitmap-item, struct-item, blank-item}
-use Rattle.items.specs.records.{moved-extent, moved-further, moved, word-extent, optional-extent, doc-extent, doc-bit, plain, documented, entry-record, choice-records, field-record, struct-records, attribute-records, command-record, event-records, last-revision, member-records, cluster-records, default-number, default-word, instance-record, part-records, endpoint-records, item-records}
+use Rattle.items.specs.records.{moved-extent, moved-further, moved, word-extent, optional-extent, doc-extent, span-extent, doc-bit, plain, documented, annotation-record, entry-record, entry-records, choice-records, field-record, struct-records, attribute-records, command-record, event-records, last-revision, member-records, cluster-records, default-number, default-word, instance-record, part-records, endpoint-records, item-records}
 use Rattle.lexing.specs.buffers.{each}
-use Rattle.items.proofs.Shift.{shiftEntry, shiftChoice, shiftField, shiftStructField, shiftStruct, shiftEvent, shiftCommand, shiftAttribute, shiftMember, shiftCluster, shiftDeviceType, shiftDefault, shiftAttributeInstance, shiftInstance, shiftInstantiation, shiftPart, shiftEndpoint, shiftItem, present-moved}
+use Rattle.items.proofs.Shift.{shiftAnnotation, shiftEntry, shiftChoice, shiftField, shiftStructField, shiftStruct, shiftEvent, shiftCommand, shiftAttribute, shiftMember, shiftCluster, shiftDeviceType, shiftDefault, shiftAttributeInstance, shiftInstance, shiftInstantiation, shiftPart, shiftEndpoint, shiftItem, present-moved}
 
 -- lists
 map-moved : {A B : Type 0} (f : A → B) (g : A → A) (h : B → B) → ((a : A) → f (g a) ≡ h (f a)) → (l : List A) → map f (map g l) ≡ map h (map f l)
@@ -48,6 +48,10 @@ module _ (d : ℕ) where
   doc-bit-moved no-doc = refl
   doc-bit-moved (doc-at o n) = refl
 
+  span-moved : (x : Span) → span-extent (shiftSpan d x) ≡ moved-extent d (span-extent x)
+  unfolding span-extent shiftSpan moved-extent
+  span-moved (span o n) = refl
+
   default-number-moved : (v : Option Default) → default-number (shiftOption (shiftDefault d) v) ≡ default-number v
   unfolding default-number shiftOption shiftDefault
   default-number-moved none = refl
@@ -76,13 +80,17 @@ module _ (d : ℕ) where
   last-revision-moved z (event e ∷ ms) = last-revision-moved z ms
 
   -- entries, enums and bitmaps
-  pub entry-record-moved : (e : Entry) → entry-record (shiftEntry d e) ≡ moved d (entry-record e)
-  unfolding entry-record shiftEntry plain moved moved-further
-  entry-record-moved e = rw (word-moved (e .name))
+  pub annotation-record-moved : (a : Annotation) → annotation-record (shiftAnnotation d a) ≡ moved d (annotation-record a)
+  unfolding annotation-record shiftAnnotation plain moved moved-further
+  annotation-record-moved a = rw (word-moved (a .key), span-moved (a .value))
+
+  pub entry-records-moved : (e : Entry) → entry-records (shiftEntry d e) ≡ map (moved d) (entry-records e)
+  unfolding entry-records entry-record shiftEntry plain moved moved-further
+  entry-records-moved e = rw (word-moved (e .name), map-moved annotation-record (shiftAnnotation d) (moved d) annotation-record-moved (e .annotations))
 
   pub choice-records-moved : (k p : ℕ) (c : Choice) → choice-records k p (shiftChoice d c) ≡ map (moved d) (choice-records k p c)
   unfolding choice-records shiftChoice documented moved moved-further
-  choice-records-moved k p c = rw (doc-bit-moved (c .doc), doc-moved (c .doc), word-moved (c .name), word-moved (c .base), map-moved entry-record (shiftEntry d) (moved d) entry-record-moved (c .entries))
+  choice-records-moved k p c = rw (doc-bit-moved (c .doc), doc-moved (c .doc), word-moved (c .name), word-moved (c .base), each-moved entry-records entry-records (shiftEntry d) (moved d) entry-records-moved (c .entries))
 
   -- fields and structs
   pub field-record-moved : (f : StructField) → field-record (shiftStructField d f) ≡ moved d (field-record f)

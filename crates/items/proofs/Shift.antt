@@ -9,7 +9,7 @@ use Rattle.lexing.specs.words.{Word, bytesOf, parse-id, keyword, tag}
 use Rattle.lexing.specs.integers.{positive-integer}
 use Rattle.lexing.specs.blanks.{Doc, whitespace0, whitespace1}
 use Rattle.lexing.proofs.Shift.{shiftWord, shiftDoc, shiftOption, still, shiftSpan, Shifts, shift-ret, shift-bind, shift-then, shift-opt, shift-or, shift-many0, shift-fail, shift-stop, shift-position, shift-catch, shift-pick, shift-iter, shift-parse-id, shift-keyword, shift-any-keyword, shift-tag, shift-integer, shift-signed, shift-whitespace0, shift-whitespace1, shift-quoted, shift-default-string, shift-set-flags, bytes-shift, offset-shift}
-use Rattle.items.specs.entries.{present, enclosed, where-missing, braces, api-maturity, Annotation, constant-annotation, blank-annotation, annotations-in-brackets, constant-annotations-list, Entry, constant-entry, blank-entry, constant-entries, constant-entries-list, Choice, shared-before, ChoiceHead, choice-head, choice-after-doc-maturity, parse-enum-after-doc-maturity, parse-bitmap-after-doc-maturity}
+use Rattle.items.specs.entries.{present, enclosed, where-missing, braces, api-maturity, Annotation, constant-annotation, blank-annotation, annotations-in-brackets, constant-annotations-list, annotations-of, Entry, constant-entry, blank-entry, constant-entries, constant-entries-list, Choice, shared-before, ChoiceHead, choice-head, choice-after-doc-maturity, parse-enum-after-doc-maturity, parse-bitmap-after-doc-maturity}
 use Rattle.items.specs.structs.{Field, max-length, list-marker, parse-field, StructField, parse-struct-field, closed-field, fields-run, struct-fields, Struct, response-code, type-by-word, struct-type-of, StructHead, struct-head, parse-struct-after-doc-maturity}
 use Rattle.items.specs.members.{access-privilege, event-priority, Event, access-to, event-qualities, EventHead, event-head, parse-event-after-doc-maturity, Command, CommandHead, command-head, CommandTypes, command-types, parse-command-after-doc-maturity, Access, access-entry, comma, separated-list0, access-list, Privileges, granted-by, default-privileges, listed, attribute-access, Attribute, parse-attribute-after-doc-maturity}
 use Rattle.items.specs.clusters.{Member, revision, bitmap, enum, struct, attribute, command, event, mapped, parse-revision, member-tries, parse-cluster-member, cluster-members, Cluster, side, ClusterHead, cluster-head, cluster-after-doc-maturity, parse-cluster}
@@ -22,7 +22,7 @@ unfoldable pub shiftAnnotation : ℕ → Annotation → Annotation
 shiftAnnotation d a = record { key = shiftWord d (a .key); value = shiftSpan d (a .value) }
 
 unfoldable pub shiftEntry : ℕ → Entry → Entry
-shiftEntry d e = record { maturity = e .maturity; name = shiftWord d (e .name); code = e .code }
+shiftEntry d e = record { maturity = e .maturity; name = shiftWord d (e .name); code = e .code; annotations = map (shiftAnnotation d) (e .annotations) }
 
 unfoldable pub shiftChoiceHead : ℕ → ChoiceHead → ChoiceHead
 shiftChoiceHead d h = record { head-shared = h .head-shared; head-name = shiftWord d (h .head-name); head-base = shiftWord d (h .head-base) }
@@ -158,6 +158,11 @@ unfolding present shiftOption
 present-moved f none = refl
 present-moved f (some a) = refl
 
+annotations-moved : (d : ℕ) (o : Option (List Annotation)) → annotations-of (shiftOption (map (shiftAnnotation d)) o) ≡ map (shiftAnnotation d) (annotations-of o)
+unfolding annotations-of shiftOption
+annotations-moved d none = refl
+annotations-moved d (some l) = refl
+
 still-option : {A : Type 0} (o : Option A) → shiftOption still o ≡ o
 unfolding shiftOption still
 still-option none = refl
@@ -243,7 +248,7 @@ module _ (d : ℕ) where
   unfolding constant-entry shiftEntry still
   shift-constant-entry =
       ws0 ▹ shift-api-maturity ▸ λ m' m em. ws0 ▹ name ▸ λ n' n en. ws0 ▹ mark _ ▹ ws0 ▹ int ▸ λ c' c ec. ws0 ▹
-      shift-constant-annotations-list ▹ ws0 ▹ mark _ ▹ shift-ret d _ _ (rw (em, en, ec))
+      shift-constant-annotations-list ▸ λ a' a ea. ws0 ▹ mark _ ▹ shift-ret d _ _ (rw (em, en, ec, ea, annotations-moved d a))
 
   pub shift-blank-entry : Shifts d (shiftEntry d) blank-entry blank-entry
   unfolding blank-entry

@@ -16,16 +16,16 @@ use Rattle.lexing.proofs.Onward.{Onward, advances-onward, tag-advances}
 use Rattle.lexing.proofs.Slicing.{walks}
 use Rattle.lexing.proofs.Locality.{OnChain, LocalInside, Consumes, chain-then, chain-opt, chain-many0, chain-iter, chain-position, chain-local, chain-inside}
 use Rattle.lexing.proofs.TokenLocality.{whitespace0-chain}
-use Rattle.items.specs.entries.{enclosed, where-missing, braces, api-maturity, Entry, constant-entry, blank-entry, constant-entries, constant-entries-list, Choice, ChoiceHead, choice-head, choice-after-doc-maturity, parse-enum-after-doc-maturity, parse-bitmap-after-doc-maturity}
+use Rattle.items.specs.entries.{enclosed, where-missing, braces, api-maturity, Annotation, constant-annotation, blank-annotation, annotations-in-brackets, constant-annotations-list, annotations-of, Entry, constant-entry, blank-entry, constant-entries, constant-entries-list, Choice, ChoiceHead, choice-head, choice-after-doc-maturity, parse-enum-after-doc-maturity, parse-bitmap-after-doc-maturity}
 use Rattle.items.specs.structs.{Field, max-length, parse-field, StructField, parse-struct-field, closed-field, fields-run, struct-fields, StructType, Struct, response-code, type-by-word, struct-type-of, StructHead, struct-head, parse-struct-after-doc-maturity}
 use Rattle.items.specs.members.{access-privilege, or-else, event-priority, Event, access-to, EventQualities, event-qualities, EventHead, event-head, parse-event-after-doc-maturity, Command, CommandHead, invoke-access, command-head, CommandTypes, command-types, parse-command-after-doc-maturity, Access, access-entry, comma, separated-list0, access-list, Privileges, granted-by, default-privileges, listed, attribute-access, Attribute, parse-attribute-after-doc-maturity}
 use Rattle.items.specs.clusters.{Member, revision, bitmap, enum, struct, attribute, command, event, mapped, parse-revision, member-tries, parse-cluster-member, cluster-members, Cluster, ClusterHead, cluster-head, cluster-after-doc-maturity, parse-cluster}
 use Rattle.items.specs.endpoints.{Tried, Deep, intercept, deep-step, deeper, deep-run, deep-place, deep-braces, DeviceType, device-version, device-type, Default, number, signed-number, truth, text, value-tries, default-attribute-value, attribute-handling-type, AttributeInstance, attribute-instantiation, Instance, attribute-instance, command-instance, event-instance, instance-tries, Instantiation, instantiation-head, cluster-instantiation, Part, device, binding, instantiation, part-tries, Endpoint, endpoint-head, endpoint}
 use Rattle.items.specs.items.{Item, cluster-item, endpoint-item, enum-item, bitmap-item, struct-item, blank-item, with-doc-maturity, item}
 use Rattle.items.specs.records.{response-of}
-use Rattle.lexing.proofs.Truth.{All, Maybe, token-onward, InRange, Read, Gives, WordTrue, SpanTrue, DocTrue, gives-ret, gives-fail, gives-stop, gives-pick, gives-catch, gives-or, gives-opt, gives-bind, gives-then, gives-many0, gives-iter, gives-made, gives-last, given, from, word-true, doc-true, integer-true, signed-true, default-string-true, gives-word, gives-any-keyword, two-keywords-name-true, named-after-true, field-flags, struct-flags, event-flags, command-flags, attribute-flags}
+use Rattle.lexing.proofs.Truth.{All, Maybe, token-onward, InRange, Read, Gives, WordTrue, SpanTrue, DocTrue, gives-ret, gives-fail, gives-stop, gives-pick, gives-catch, gives-or, gives-opt, gives-bind, gives-then, gives-many0, gives-iter, gives-made, gives-last, given, from, word-true, doc-true, integer-true, signed-true, default-string-true, quoted-string-true, gives-word, gives-any-keyword, two-keywords-name-true, named-after-true, field-flags, struct-flags, event-flags, command-flags, attribute-flags}
 use Rattle.lexing.proofs.Composed.{onward-ret, onward-fail, onward-stop, onward-pick, onward-catch, onward-bind, onward-then}
-use Rattle.items.proofs.Locality.{braces-chain, mapped-inside, api-maturity-local, constant-annotations-list-inside, blank-entry-inside, constant-entries-list-local, shared-before-local, choice-head-local, choice-after-doc-maturity-local, max-length-local, list-marker-local, parse-field-inside, parse-struct-field-inside, closed-field-inside, struct-fields-local, struct-type-of-local, struct-head-local, parse-struct-local, access-privilege-local, event-priority-local, access-to-inside, event-qualities-inside, event-head-inside, command-head-inside, command-types-inside, access-entry-inside, access-entry-consumes, comma-local, separated-list0-inside, access-list-inside, attribute-access-inside, member-tries-inside, parse-cluster-member-inside, side-local, cluster-head-local, deep-run-inside, two-keywords-name-local, device-version-local, value-tries-local, default-attribute-value-local, attribute-handling-type-local, instance-tries-inside, instance-tries-consumes, instantiation-head-local, instances-local, part-tries-inside, part-tries-consumes, endpoint-head-local, parts-local}
+use Rattle.items.proofs.Locality.{braces-chain, mapped-inside, api-maturity-local, optional-comma-chain, blank-annotation-chain, constant-annotations-list-inside, blank-entry-inside, constant-entries-list-local, shared-before-local, choice-head-local, choice-after-doc-maturity-local, max-length-local, list-marker-local, parse-field-inside, parse-struct-field-inside, closed-field-inside, struct-fields-local, struct-type-of-local, struct-head-local, parse-struct-local, access-privilege-local, event-priority-local, access-to-inside, event-qualities-inside, event-head-inside, command-head-inside, command-types-inside, access-entry-inside, access-entry-consumes, comma-local, separated-list0-inside, access-list-inside, attribute-access-inside, member-tries-inside, parse-cluster-member-inside, side-local, cluster-head-local, deep-run-inside, two-keywords-name-local, device-version-local, value-tries-local, default-attribute-value-local, attribute-handling-type-local, instance-tries-inside, instance-tries-consumes, instantiation-head-local, instances-local, part-tries-inside, part-tries-consumes, endpoint-head-local, parts-local}
 
 -- where a step ends: the rules of tokens and combinators, and the certificates of the productions
 pub ruleset onward-rules = (token-onward, braces-chain, member-tries-inside, value-tries-local, api-maturity-local, constant-annotations-list-inside, constant-entries-list-local, shared-before-local, choice-head-local, max-length-local, list-marker-local, parse-field-inside, parse-struct-field-inside, struct-fields-local, struct-type-of-local, struct-head-local, access-privilege-local, event-priority-local, access-to-inside, event-qualities-inside, event-head-inside, command-head-inside, command-types-inside, comma-local, access-entry-inside, access-entry-consumes, separated-list0-inside, access-list-inside, attribute-access-inside, member-tries-inside, parse-cluster-member-inside, side-local, cluster-head-local, two-keywords-name-local, device-version-local, default-attribute-value-local, attribute-handling-type-local, instantiation-head-local, instances-local, endpoint-head-local, parts-local)
@@ -57,12 +57,33 @@ module _ (s : ℕ) (t : List ℕ) (end : ℕ) where
 
   ruleset value-rules = (gives-rules, onward-rules, token-rules, maturity-true)
 
+  pub data AnnotationTrue (a : Annotation) : Type 0 where
+    true-annotation : WordTrue s t end (a .key) → SpanTrue s t end (a .value) → AnnotationTrue a
+
+  annotation-true : (a : Annotation) → Read s t end blank-annotation a → AnnotationTrue a
+  unfolding blank-annotation constant-annotation
+  annotation-true = from (search (value-rules, true-annotation, quoted-string-true, optional-comma-chain) depth 24)
+
+  annotations-run : (l : List Annotation) → Read s t end (many0 blank-annotation) l → All AnnotationTrue l
+  annotations-run = from (gives-many0 (walks blank-annotation-chain) (given annotation-true))
+
+  gives-annotations : Gives s t end (All AnnotationTrue) annotations-in-brackets
+  unfolding annotations-in-brackets
+  gives-annotations =
+      gives-then (advances-onward (tag-advances 91)) (gives-bind (walks (chain-many0 blank-annotation-chain)) (λ l. onward-then (walks whitespace0-chain) (onward-then (advances-onward (tag-advances 93)) (onward-ret l))) λ l h.
+      gives-then (walks whitespace0-chain) (gives-last _ l (annotations-run l h)))
+
+  annotations-true : (o : Option (List Annotation)) → Read s t end constant-annotations-list o → All AnnotationTrue (annotations-of o)
+  unfolding constant-annotations-list annotations-of
+  annotations-true none h = tt
+  annotations-true (some l) h = gives-opt gives-annotations .holds (some l) h
+
   pub data EntryTrue (e : Entry) : Type 0 where
-    true-entry : e .maturity < 2 ^ 2 → WordTrue s t end (e .name) → e .code < 2 ^ 64 → EntryTrue e
+    true-entry : e .maturity < 2 ^ 2 → WordTrue s t end (e .name) → e .code < 2 ^ 64 → All AnnotationTrue (e .annotations) → EntryTrue e
 
   entry-true : (e : Entry) → Read s t end constant-entry e → EntryTrue e
   unfolding constant-entry
-  entry-true = from (search (value-rules, true-entry) depth 30 fits 5000)
+  entry-true = from (search (value-rules, true-entry, annotations-true) depth 30 fits 5000)
 
   entries-true : (l : List Entry) → Read s t end constant-entries-list l → All EntryTrue l
   unfolding constant-entries-list constant-entries blank-entry

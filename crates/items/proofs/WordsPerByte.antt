@@ -3,7 +3,7 @@
 -- Each token counts as one byte, blanks and optional parts as none, and that is enough.
 use Prim.Native.Nat.{ℕ, zero, suc, _+_, _≤_}
 use mathlib.Core.Path.{_≡_, refl, sym, _∙_, ap}
-use mathlib.Core.Option.{Option}
+use mathlib.Core.Option.{Option, none, some}
 use mathlib.Core.List.{List, [], _∷_, _++_, map, append-assoc, append-nil}
 use native.Mathlib.Omega.{arith}
 use lib.Dec.{lit≤}
@@ -13,27 +13,30 @@ use Rattle.lexing.specs.reply.{Reply, ok, fail, stop, Parser, ret, _>>=_, _>>_,
 use Rattle.lexing.specs.words.{Word}
 use Rattle.lexing.specs.word_sets.{set-flags}
 use Rattle.lexing.specs.blanks.{Doc, whitespace0, whitespace1}
+use Rattle.lexing.specs.strings.{quoted-string}
 use Rattle.lexing.proofs.Runs.{suf-length}
 use Rattle.lexing.proofs.Onward.{Ends, Onward, advances-onward, tag-advances}
 use Rattle.lexing.proofs.Slicing.{walks}
 use Rattle.lexing.proofs.Chain.{Shorter}
 use Rattle.lexing.proofs.Locality.{OnChain, Consumes, chain-then, chain-opt, chain-local, chain-inside, chain-position}
-use Rattle.lexing.proofs.TokenLocality.{parse-id-consumes, keyword-consumes, any-keyword-consumes, tag-consumes, integer-consumes, whitespace1-consumes, parse-id-chain, any-keyword-chain, whitespace0-chain, whitespace1-chain, set-flags-chain}
-use Rattle.items.specs.entries.{enclosed, where-missing, braces, api-maturity, constant-annotations-list, constant-entry, blank-entry, constant-entries, constant-entries-list, choice-head, choice-after-doc-maturity, parse-enum-after-doc-maturity, parse-bitmap-after-doc-maturity}
+use Rattle.lexing.proofs.TokenLocality.{parse-id-consumes, keyword-consumes, any-keyword-consumes, tag-consumes, integer-consumes, whitespace1-consumes, parse-id-chain, any-keyword-chain, whitespace0-chain, whitespace1-chain, quoted-chain, set-flags-chain}
+use Rattle.items.specs.entries.{enclosed, where-missing, braces, api-maturity, constant-annotation, blank-annotation, annotations-in-brackets, constant-annotations-list, annotations-of, constant-entry, blank-entry, constant-entries, constant-entries-list, choice-head, choice-after-doc-maturity, parse-enum-after-doc-maturity, parse-bitmap-after-doc-maturity}
 use Rattle.items.specs.structs.{parse-field, parse-struct-field, closed-field, fields-run, struct-fields, struct-type-of, struct-head, parse-struct-after-doc-maturity}
 use Rattle.items.specs.members.{event-head, parse-event-after-doc-maturity, command-types, parse-command-after-doc-maturity, attribute-access, parse-attribute-after-doc-maturity}
 use Rattle.items.specs.clusters.{Member, bitmap, enum, struct, attribute, command, event, mapped, parse-revision, member-tries, parse-cluster-member, cluster-members, cluster-head, parse-cluster}
 use Rattle.items.specs.endpoints.{Tried, Deep, intercept, deep-step, deeper, deep-run, deep-place, deep-braces, device-version, device-type, attribute-instantiation, attribute-instance, command-instance, event-instance, instance-tries, cluster-instantiation, device, binding, instantiation, part-tries, endpoint-head, endpoint}
 use Rattle.items.specs.items.{Item, cluster-item, endpoint-item, enum-item, bitmap-item, struct-item, blank-item, with-doc-maturity, item}
-use Rattle.items.specs.records.{Record, plain, entry-record, choice-records, field-record, struct-records, attribute-records, command-record, event-records, member-records, cluster-records, instance-record, part-records, endpoint-records, item-records}
+use Rattle.items.specs.records.{Record, plain, annotation-record, entry-records, choice-records, field-record, struct-records, attribute-records, command-record, event-records, member-records, cluster-records, instance-record, part-records, endpoint-records, item-records}
 use Rattle.lexing.specs.buffers.{each}
 use Rattle.items.specs.layout.{layout, record-words, catalogue-words, word-count}
 use Rattle.items.specs.answers.items.{unhoisted-item}
 use Rattle.lexing.proofs.Composed.{onward-then, onward-catch, onward-fail}
-use Rattle.items.proofs.Locality.{api-maturity-local, constant-annotations-list-inside, shared-before-local, max-length-local, list-marker-local, struct-type-of-local, access-to-inside, attribute-access-inside, side-local, device-version-local, default-attribute-value-local, attribute-handling-type-consumes, event-qualities-consumes, command-head-consumes, two-keywords-name-consumes, named-after-consumes, instantiation-head-consumes}
+use Rattle.items.proofs.Locality.{api-maturity-local, punct-local, shared-before-local, max-length-local, list-marker-local, struct-type-of-local, access-to-inside, attribute-access-inside, side-local, device-version-local, default-attribute-value-local, attribute-handling-type-consumes, event-qualities-consumes, command-head-consumes, two-keywords-name-consumes, named-after-consumes, instantiation-head-consumes}
 use Rattle.items.proofs.RecordWords.{word-count-none, Elementwise, each-elementwise, map-elementwise, word-count-more}
 use Rattle.items.proofs.Headed.{Headed, headed-words}
 use Rattle.items.proofs.entries.Laws.{entry-words}
+use Rattle.items.proofs.annotations.Laws.{annotation-words}
+use Rattle.items.specs.inner.annotations.{optional-records}
 use Rattle.items.proofs.choices.Laws.{choice-headed}
 use Rattle.items.proofs.structs.Laws.{struct-headed}
 use Rattle.items.proofs.events.Laws.{event-headed}
@@ -121,6 +124,16 @@ module _ {A : Type 0} {w : A → ℕ} where
       go b u (ok a c r) e i = rw (e, _or_) i
       go b u (fail p) e i = rw (e, _or_) (further-weight w n u p (k b u) (h .weighs b u))
       go b u (stop j p) e i = rw (e, _or_) tt
+
+-- a part that may be absent
+weighs-opt : {A : Type 0} {w : Option A → ℕ} {n : ℕ} {m : Parser A} → w none ≤ n → Weighs n (λ a. w (some a)) m → Weighs n w (opt m)
+unfolding opt
+weighs-opt {A} {w} {n} {m} h v = record { weighs = λ b u. go b u (m b u) refl (v .weighs b u) }
+  where
+    go : (b : ℕ) (u : List ℕ) (x : Reply A) → m b u ≡ x → Weight n (λ a. w (some a)) u x → Weight n w u (opt m b u)
+    go b u (ok a c r) e i = rw (e, opt) i
+    go b u (fail p) e i = rw (e, opt) (omega (arith, h))
+    go b u (stop j p) e i = rw (e, opt) tt
 
 module _ {A B : Type 0} {w : B → ℕ} {m : Parser A} where
   weighs-bind : {n : ℕ} {v : A → ℕ} {k : A → Parser B} → Weighs 0 v m → ((a : A) → Weighs (n + v a) w (k a)) → Weighs n w (m >>= k)
@@ -227,8 +240,8 @@ blank = takes-any whitespace0-chain
 maturity : Takes 0 api-maturity
 maturity = takes-any (chain-local api-maturity-local)
 
-annotations : Takes 0 constant-annotations-list
-annotations = takes-any (chain-inside constant-annotations-list-inside)
+quoted : Takes 0 quoted-string
+quoted = takes-any quoted-chain
 
 optional : {A : Type 0} {m : Parser A} → OnChain m → Takes 0 (opt m)
 optional h = takes-any (chain-opt h)
@@ -248,17 +261,13 @@ version = takes-any (chain-local device-version-local)
 -- the tokens, and what is counted as none
 ruleset tokens = (parse-id-consumes, keyword-consumes, any-keyword-consumes, tag-consumes, integer-consumes, whitespace1-consumes)
 
-ruleset parts = (blank, maturity, annotations, optional, word-set, struct-type, access, version, chain-local, chain-inside, chain-then, any-keyword-chain, parse-id-chain, whitespace0-chain, whitespace1-chain, shared-before-local, max-length-local, list-marker-local, side-local, access-to-inside, default-attribute-value-local)
+ruleset parts = (blank, maturity, quoted, optional, word-set, struct-type, access, version, chain-local, chain-inside, chain-then, any-keyword-chain, parse-id-chain, whitespace0-chain, whitespace1-chain, shared-before-local, max-length-local, list-marker-local, side-local, access-to-inside, default-attribute-value-local)
 
 ruleset takes-rules = (some-bind, some-then, none-bind, none-then, tokens, parts, weighs-ret, lit≤)
 
-constant-entry-takes : Takes 2 constant-entry
-unfolding constant-entry
-constant-entry-takes = search takes-rules depth 30
-
-blank-entry-takes : Takes 2 blank-entry
-unfolding blank-entry
-blank-entry-takes = search (takes-rules, constant-entry-takes) depth 5
+blank-annotation-takes : Takes 2 blank-annotation
+unfolding blank-annotation constant-annotation
+blank-annotation-takes = search (takes-rules, punct-local) depth 24
 
 choice-head-takes : (k : List ℕ) → Takes 3 (choice-head k)
 unfolding choice-head
@@ -317,10 +326,28 @@ headed-weighs : {I H L A : Type 0} {m : I → Parser A} {records : I → A → L
     → Takes k head → Weighs 0 (λ l. word-count layout (rs l)) list → (i : I) → Weighs 0 (λ a. word-count layout (records i a)) (m i)
 headed-weighs d h v i = rw (d .reads i) (weighs-bind h λ x. weighs-bind v λ l. weighs-ret _ (omega (arith, headed-words d i x l)))
 
--- entries, enums and bitmaps
-entries-weigh : Weighs 0 (λ l. word-count layout (map entry-record l)) constant-entries-list
+-- annotations
+annotations-weigh : Weighs 0 (λ l. word-count layout (map annotation-record l)) annotations-in-brackets
+unfolding annotations-in-brackets
+annotations-weigh =
+    none-then (takes-none (advances-onward (tag-advances 91))) (
+    weighs-bind (weighs-many0 (map-elementwise annotation-record) (weighs-by blank-annotation-takes λ a. omega (arith, annotation-words a))) λ l.
+    none-then blank (none-then (takes-none (advances-onward (tag-advances 93))) (weighs-ret l (omega arith))))
+
+annotations-list-weighs : Weighs 0 (λ o. word-count layout (optional-records o)) constant-annotations-list
+unfolding constant-annotations-list annotations-of
+annotations-list-weighs = weighs-opt (omega (arith, word-count-none)) annotations-weigh
+
+-- entries, enums and bitmaps: a name, an = and a code take three bytes
+entry-weighs : Weighs 0 (λ e. word-count layout (entry-records e)) blank-entry
+unfolding blank-entry constant-entry
+entry-weighs =
+    none-then blank (none-then blank (none-bind maturity λ m. none-then blank (some-bind parse-id-consumes λ n. none-then blank (some-then (tag-consumes 61) (none-then blank (some-bind integer-consumes λ c.
+    none-then blank (weighs-bind annotations-list-weighs λ a. none-then blank (some-then (tag-consumes 59) (weighs-ret _ (omega (arith, entry-words (record { maturity = m; name = n; code = c; annotations = annotations-of a }))))))))))))
+
+entries-weigh : Weighs 0 (λ l. word-count layout (each entry-records l)) constant-entries-list
 unfolding constant-entries-list constant-entries
-entries-weigh = weighs-braces (weighs-many0 (map-elementwise entry-record) (weighs-by blank-entry-takes λ e. omega (arith, entry-words e)))
+entries-weigh = weighs-braces (weighs-many0 (each-elementwise entry-records) entry-weighs)
 
 choice-weighs : (kind place : ℕ) (k : List ℕ) (d : Doc) (m : ℕ) → Weighs 0 (λ c. word-count layout (choice-records kind place c)) (choice-after-doc-maturity k d m)
 choice-weighs kind place k d m = headed-weighs (choice-headed k) (choice-head-takes k) entries-weigh (record { kind = kind; place = place; doc = d; maturity = m })

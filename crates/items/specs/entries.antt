@@ -2,7 +2,7 @@
 use Prim.Native.Nat.{ℕ}
 use mathlib.Core.Bool.{Bool, true, false}
 use mathlib.Core.Option.{Option, none, some}
-use mathlib.Core.List.{List}
+use mathlib.Core.List.{List, []}
 use Rattle.lexing.specs.bytes.{ascii, byte}
 use Rattle.lexing.specs.reply.{Parser, ret, _>>=_, _>>_, opt, _or_, many0, catch, failAt}
 use Rattle.lexing.specs.words.{Word, parse-id, keyword, tag}
@@ -71,11 +71,17 @@ annotations-in-brackets = do
 unfoldable pub constant-annotations-list : Parser (Option (List Annotation))
 constant-annotations-list = opt annotations-in-brackets
 
--- `constant_entry`, parser.rs line 468; the annotations are read and dropped
+-- where there are no brackets, there is no annotation
+unfoldable pub annotations-of : Option (List Annotation) → List Annotation
+annotations-of none = []
+annotations-of (some l) = l
+
+-- `constant_entry`, parser.rs line 468; the annotations, which the Rust drops, are kept: document 02, L1
 pub record Entry : Type 0 where
   pub maturity : ℕ
   pub name : Word
   pub code : ℕ
+  pub annotations : List Annotation
 
 unfoldable pub constant-entry : Parser Entry
 constant-entry = do
@@ -88,10 +94,10 @@ constant-entry = do
   whitespace0
   c ← positive-integer
   whitespace0
-  constant-annotations-list
+  a ← constant-annotations-list
   whitespace0
   tag (byte ";")
-  ret (record { maturity = m; name = n; code = c })
+  ret (record { maturity = m; name = n; code = c; annotations = annotations-of a })
 
 -- `constant_entries_list`, parser.rs line 496
 unfoldable pub blank-entry : Parser Entry

@@ -3,6 +3,7 @@ pub mod counts
 pub mod writing
 pub mod maturity
 pub mod levels
+pub mod annotations
 pub mod entries
 pub mod choices
 pub mod fields

@@ -1,4 +1,4 @@
--- Records: what each declaration hands out, row by row of document 01's table.
+-- Records: what each declaration hands out, row by row of document 01's table, and document 02's.
 use Prim.Native.Nat.{ℕ, zero, suc, _+_, _-_, _^_}
 use mathlib.Core.Bool.{Bool, true, false, _&&_}
 use mathlib.Core.Option.{Option, none, some}
@@ -9,9 +9,9 @@ use Rattle.lexing.specs.buffers.{each}
 use Rattle.lexing.specs.words.{Word, word}
 use Rattle.lexing.specs.integers.{Signed, signed}
 use Rattle.lexing.specs.blanks.{Doc, no-doc, doc-at}
-use Rattle.lexing.specs.strings.{span}
+use Rattle.lexing.specs.strings.{Span, span}
 use Rattle.lexing.specs.word_sets.{bit}
-use Rattle.items.specs.entries.{present, Entry, Choice}
+use Rattle.items.specs.entries.{present, Annotation, Entry, Choice}
 use Rattle.items.specs.structs.{StructField, StructType, regular, request, response, shared, Struct}
 use Rattle.items.specs.members.{or-else, Event, Command, Attribute}
 use Rattle.items.specs.clusters.{Member, revision, bitmap, enum, struct, attribute, command, event, Cluster}
@@ -32,7 +32,7 @@ pub data Further : Type 0 where
   value : ℕ → Further
   spanned : Extent → Further
 
--- The kinds of records, document 01's.
+-- The kinds of records: document 01's, and those of document 02's requests.
 
 abbrev pub cluster-kind : ℕ
 cluster-kind = 1
@@ -82,9 +82,12 @@ command-instance-kind = 15
 abbrev pub event-instance-kind : ℕ
 event-instance-kind = 16
 
+abbrev pub annotation-kind : ℕ
+annotation-kind = 17
+
 -- how many further words a record of a kind has, in the order of the kinds; 0 is none
 abbrev pub further-counts : List ℕ
-further-counts = 0 ∷ 3 ∷ 2 ∷ 2 ∷ 1 ∷ 2 ∷ 3 ∷ 1 ∷ 4 ∷ 2 ∷ 1 ∷ 2 ∷ 0 ∷ 0 ∷ 1 ∷ 0 ∷ 0 ∷ []
+further-counts = 0 ∷ 3 ∷ 2 ∷ 2 ∷ 1 ∷ 2 ∷ 3 ∷ 1 ∷ 4 ∷ 2 ∷ 1 ∷ 2 ∷ 0 ∷ 0 ∷ 1 ∷ 0 ∷ 0 ∷ 1 ∷ []
 
 unfoldable pub further-of-kind : ℕ → ℕ
 further-of-kind k = getD further-counts k 0
@@ -142,6 +145,9 @@ unfoldable pub doc-extent : Doc → Extent
 doc-extent no-doc = absent
 doc-extent (doc-at o n) = at o n
 
+unfoldable pub span-extent : Span → Extent
+span-extent (span o n) = at o n
+
 unfoldable pub doc-bit : Doc → ℕ
 doc-bit no-doc = 0
 doc-bit (doc-at o n) = 1
@@ -157,12 +163,19 @@ plain k m f n l = record { kind = k; place = 0; maturity = m; doc-present = 0; f
 unfoldable pub documented : ℕ → ℕ → ℕ → Doc → List Bits → Extent → ℕ → ℕ → List Further → Record
 documented k p m d f n x y l = record { kind = k; place = p; maturity = m; doc-present = doc-bit d; flags = f; name = n; first-privilege = x; second-privilege = y; further = spanned (doc-extent d) ∷ l }
 
--- enum, bitmap, entry
+-- annotation: its key as name, and its raw value
+unfoldable pub annotation-record : Annotation → Record
+annotation-record a = plain annotation-kind 0 [] (word-extent (a .key)) (spanned (span-extent (a .value)) ∷ [])
+
+-- enum, bitmap, entry with its annotations after it
 unfoldable pub entry-record : Entry → Record
 entry-record e = plain entry-kind (e .maturity) [] (word-extent (e .name)) (value (e .code) ∷ [])
 
+unfoldable pub entry-records : Entry → List Record
+entry-records e = entry-record e ∷ map annotation-record (e .annotations)
+
 unfoldable pub choice-records : (kind place : ℕ) → Choice → List Record
-choice-records k p c = documented k p (c .maturity) (c .doc) (flag (c .shared) ∷ []) (word-extent (c .name)) 0 0 (spanned (word-extent (c .base)) ∷ []) ∷ map entry-record (c .entries)
+choice-records k p c = documented k p (c .maturity) (c .doc) (flag (c .shared) ∷ []) (word-extent (c .name)) 0 0 (spanned (word-extent (c .base)) ∷ []) ∷ each entry-records (c .entries)
 
 -- struct: regular, request, response, shared = 0 to 3; field
 unfoldable pub field-record : StructField → Record

@@ -1,52 +1,50 @@
 // The entries of enums and bitmaps.
 ghost use mathlib.Core.Path.{_≡_};
-ghost use mathlib.Core.List.{[], _∷_, map};
-ghost use Prim.Native.Nat.{_+_, _≤_, _<_};
+ghost use mathlib.Core.List.{[], _∷_};
+ghost use Prim.Native.Nat.{_+_, _*_, _≤_, _<_};
 ghost use lib.ListN.{length};
-ghost use Rattle.lexing.specs.reply.{opt, many0};
-ghost use Rattle.lexing.specs.words.{tag};
-ghost use Rattle.items.specs.entries.{constant-annotation, blank-annotation, annotations-in-brackets, constant-annotations-list, constant-entry, constant-entries, constant-entries-list};
-ghost use Rattle.items.specs.records.{entry-record, entry-kind};
+ghost use Rattle.items.specs.entries.{constant-entry, constant-entries, constant-entries-list};
+ghost use Rattle.items.specs.records.{entry-records, entry-kind};
 ghost use Rattle.items.specs.layout.{layout, catalogue-bytes, text-limit};
-ghost use Rattle.lexing.specs.buffers.{put};
-ghost use Rattle.lexing.specs.answers.{Skips};
+ghost use Rattle.lexing.specs.buffers.{each, put};
 ghost use Rattle.items.specs.answers.{CountTo, Room, Written};
-ghost use Rattle.items.specs.inner.entries.{EntryTo, entryLost, EndTo, parts-record};
+ghost use Rattle.items.specs.inner.entries.{entryAt, EntryBounds, EntryTo, entryLost, EndTo, parts-record};
 ghost use Rattle.items.specs.inner.writing.{room-for};
+use crate::annotations::count_annotations_list;
+use crate::annotations::write_entry_annotations;
 use crate::counts::Count;
 use crate::counts::closed;
 use crate::counts::count_end;
+use crate::counts::count_lost;
 use crate::layout::ENTRY;
 use crate::layout::ENTRY_BYTES;
 use crate::layout::ENTRY_WORDS;
+use crate::layout::WORD;
 use crate::maturity::maturity_between;
 use crate::writing::First;
 use crate::writing::Wrote;
 use crate::writing::first_word;
 use lexing::answers::Lost;
 use lexing::answers::Step;
-use lexing::answers::optional;
 use lexing::answers::step_lost;
 use lexing::buffers::put_two;
 use lexing::integers::Number;
 use lexing::integers::number_lost;
-use lexing::names::Named;
-use lexing::names::blank_word;
 use lexing::names::equals_code;
-use lexing::names::named_lost;
 use lexing::parts::rest_at;
 use lexing::steps::blank_at;
 use lexing::steps::tag_after;
-use lexing::strings::quoted_string;
 use lexing::words::id_at;
 use lexing::words::tag;
 
-// An entry: its maturity, the offsets of its name and after it, and its code.
+// An entry: its maturity, the offsets of its name and after it, its code, the offset after that, and the words of its annotations, which are from there on.
 pub struct EntryParts {
     pub maturity: u8,
     pub name: usize,
     pub code: u64,
     pub end: usize,
+    pub list: usize,
+    pub words: usize,
 }
 
 pub enum EntryRead {
@@ -54,83 +52,21 @@ pub enum EntryRead {
     NoEntry(Lost),
 }
 
-fn optional_comma(part: &[u8], base: usize) -> Step
-    requires { ⌜ base + length (now part) ≤ text-limit ⌝ }
-    ensures { λ r. ⌜ Skips (opt (tag 44)) r base (now (part .entry)) ⌝ }
-{
-    optional(tag(part, base, b','), base)
-}
-
-pub fn constant_annotation(part: &[u8], base: usize) -> Step
-    requires { ⌜ base + length (now part) ≤ text-limit ⌝ }
-    ensures { λ r. ⌜ Skips constant-annotation r base (now (part .entry)) ⌝ }
-{
-    let key = blank_word(part, base, base);
-    let Named::Name(_, _, c1) = key else {
-        return Step::Not(named_lost(key));
-    };
-    let equals = tag_after(part, base, c1, b'=');
-    let Step::Next(c2) = equals else {
-        return Step::Not(step_lost(equals));
-    };
-    let c3 = blank_at(part, base, c2);
-    let value = quoted_string(rest_at(part, base, c3), c3);
-    let Step::Next(c4) = value else {
-        return Step::Not(step_lost(value));
-    };
-    let c5 = blank_at(part, base, c4);
-    optional_comma(rest_at(part, base, c5), c5)
-}
-
-// An annotation reads the blanks before it itself.
-fn annotations(part: &[u8], base: usize) -> Step
-    requires { ⌜ base + length (now part) ≤ text-limit ⌝ }
-    ensures { λ r. ⌜ Skips (many0 blank-annotation) r base (now (part .entry)) ⌝ }
-{
-    let mut c = base;
-    loop {
-        let r = constant_annotation(rest_at(part, base, c), c);
-        let Step::Next(n) = r else {
-            return optional(r, c);
-        };
-        c = n;
-    }
-}
-
-fn annotations_in_brackets(part: &[u8], base: usize) -> Step
-    requires { ⌜ base + length (now part) ≤ text-limit ⌝ }
-    ensures { λ r. ⌜ Skips annotations-in-brackets r base (now (part .entry)) ⌝ }
-{
-    let bracket = tag(part, base, b'[');
-    let Step::Next(c1) = bracket else {
-        return Step::Not(step_lost(bracket));
-    };
-    let run = annotations(rest_at(part, base, c1), c1);
-    let Step::Next(c2) = run else {
-        return Step::Not(step_lost(run));
-    };
-    tag_after(part, base, c2, b']')
-}
-
-// The annotations of an entry are read and dropped.
-pub fn constant_annotations_list(part: &[u8], base: usize) -> Step
-    requires { ⌜ base + length (now part) ≤ text-limit ⌝ }
-    ensures { λ r. ⌜ Skips constant-annotations-list r base (now (part .entry)) ⌝ }
-{
-    optional(annotations_in_brackets(part, base), base)
-}
-
-// What follows the code of an entry.
-fn entry_end(part: &[u8], base: usize) -> Step
+// What follows the code of an entry: the words of its annotations, and where it ends.
+fn entry_end(part: &[u8], base: usize) -> Count
     requires { ⌜ base + length (now part) ≤ text-limit ⌝ }
     ensures { λ r. ⌜ EndTo r base (now (part .entry)) ⌝ }
 {
     let c1 = blank_at(part, base, base);
-    let notes = constant_annotations_list(rest_at(part, base, c1), c1);
-    let Step::Next(c2) = notes else {
-        return Step::Not(step_lost(notes));
+    let list = count_annotations_list(rest_at(part, base, c1), c1);
+    let Count::Words(n, c2) = list else {
+        return Count::NoCount(count_lost(list));
     };
-    tag_after(part, base, c2, b';')
+    let semicolon = tag_after(part, base, c2, b';');
+    let Step::Next(c3) = semicolon else {
+        return Count::NoCount(step_lost(semicolon));
+    };
+    Count::Words(n, c3)
 }
 
 pub fn constant_entry(part: &[u8], base: usize) -> EntryRead
@@ -150,14 +86,16 @@ pub fn constant_entry(part: &[u8], base: usize) -> EntryRead
         return EntryRead::NoEntry(number_lost(value));
     };
     let last = entry_end(rest_at(part, base, c), c);
-    let Step::Next(next) = last else {
-        return EntryRead::NoEntry(step_lost(last));
+    let Count::Words(words, next) = last else {
+        return EntryRead::NoEntry(count_lost(last));
     };
     let e = EntryParts {
         maturity: m.level,
         name: start,
         end,
         code,
+        list: c,
+        words,
     };
     EntryRead::Read(e, next)
 }
@@ -171,27 +109,27 @@ pub fn entry_lost(r: EntryRead) -> Lost
     }
 }
 
-// The first pass over entries: each takes two words, and reads the blanks before it itself.
+// The first pass over entries: each takes two words and those of its annotations, and reads the blanks before it itself.
 pub fn count_entries(part: &[u8], base: usize) -> Count
     requires { ⌜ base + length (now part) ≤ text-limit ⌝ }
-    ensures { λ r. ⌜ CountTo (map entry-record) constant-entries r base (now (part .entry)) ⌝ }
+    ensures { λ r. ⌜ CountTo (each entry-records) constant-entries r base (now (part .entry)) ⌝ }
 {
     let mut c = base;
     let mut n = 0;
     loop {
         let r = constant_entry(rest_at(part, base, c), c);
-        let EntryRead::Read(_, next) = r else {
+        let EntryRead::Read(e, next) = r else {
             return count_end(entry_lost(r), n, c);
         };
         c = next;
-        n += ENTRY_WORDS;
+        n += ENTRY_WORDS + e.words;
     }
 }
 
 // The entries between braces.
 pub fn count_entries_list(part: &[u8], base: usize) -> Count
     requires { ⌜ base + length (now part) ≤ text-limit ⌝ }
-    ensures { λ r. ⌜ CountTo (map entry-record) constant-entries-list r base (now (part .entry)) ⌝ }
+    ensures { λ r. ⌜ CountTo (each entry-records) constant-entries-list r base (now (part .entry)) ⌝ }
 {
     let brace = tag(part, base, b'{');
     let Step::Next(c) = brace else {
@@ -223,30 +161,48 @@ fn put_entry(out: &mut [u8], at: usize, e: EntryParts)
     put_two(out, at, first_word(first), e.code);
 }
 
-// The second pass over entries: their records, written from a place on.
+// The records of an entry that was read: its own, and those of its annotations, which are read again where there are some.
+fn write_entry(part: &[u8], base: usize, e: EntryParts, out: &mut [u8], at: usize)
+    requires { ⌜ base + length (now part) ≤ text-limit ⌝ }
+    requires { ⌜ EntryBounds base (now part) e (base + length (now part)) ⌝ }
+    requires { ⌜ at + 8 * (2 + e .words) ≤ length (now out) ⌝ }
+    ensures { λ _. ⌜ now (out .exit) ≡ put at (catalogue-bytes layout (entry-records (entryAt base (now (part .entry)) e))) (now (out .entry)) ⌝ }
+{
+    let after = at + ENTRY_BYTES;
+    put_entry(out, at, e);
+    if e.words == 0 {
+        return;
+    }
+    let list = e.list;
+    write_entry_annotations(rest_at(part, base, list), list, out, after);
+}
+
+// The second pass over entries: their records, written from a place on. Nothing of an entry is written before it is read whole.
 pub fn write_entries(part: &[u8], base: usize, out: &mut [u8], at: usize) -> Wrote
     requires { ⌜ base + length (now part) ≤ text-limit ⌝ }
-    requires { ⌜ Room (map entry-record) constant-entries base (now part) at (length (now out)) ⌝ }
-    ensures { λ r. ⌜ Written (map entry-record) constant-entries base (now (part .entry)) at r (now (out .entry)) (now (out .exit)) ⌝ }
+    requires { ⌜ Room (each entry-records) constant-entries base (now part) at (length (now out)) ⌝ }
+    ensures { λ r. ⌜ Written (each entry-records) constant-entries base (now (part .entry)) at r (now (out .entry)) (now (out .exit)) ⌝ }
 {
     let mut c = base;
     let mut to = at;
     loop {
-        let r = constant_entry(rest_at(part, base, c), c);
+        let rest = rest_at(part, base, c);
+        let r = constant_entry(rest, c);
         let EntryRead::Read(e, next) = r else {
             return Wrote { next: c, to };
         };
-        put_entry(out, to, e);
+        let words = e.words;
+        write_entry(rest, c, e, out, to);
         c = next;
-        to += ENTRY_BYTES;
+        to += WORD * (ENTRY_WORDS + words);
     }
 }
 
 // The second pass over the entries between braces.
 pub fn write_entries_list(part: &[u8], base: usize, out: &mut [u8], at: usize) -> Wrote
     requires { ⌜ base + length (now part) ≤ text-limit ⌝ }
-    requires { ⌜ Room (map entry-record) constant-entries-list base (now part) at (length (now out)) ⌝ }
-    ensures { λ r. ⌜ Written (map entry-record) constant-entries-list base (now (part .entry)) at r (now (out .entry)) (now (out .exit)) ⌝ }
+    requires { ⌜ Room (each entry-records) constant-entries-list base (now part) at (length (now out)) ⌝ }
+    ensures { λ r. ⌜ Written (each entry-records) constant-entries-list base (now (part .entry)) at r (now (out .entry)) (now (out .exit)) ⌝ }
 {
     let nothing = Wrote { next: base, to: at };
     let brace = tag(part, base, b'{');

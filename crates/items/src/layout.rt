@@ -1,4 +1,4 @@
-// Document 01's numbers: the kinds of records, the words that a record of each kind takes, the widths of values in a word, the text limit.
+// The numbers of documents 01 and 02: the kinds of records, the words that a record of each kind takes, the widths of values in a word, the text limit.
 
 // Kinds.
 pub const CLUSTER: u8 = 1;
@@ -33,6 +33,8 @@ pub const COMMAND_INSTANCE: u8 = 15;
 
 pub const EVENT_INSTANCE: u8 = 16;
 
+pub const ANNOTATION: u8 = 17;
+
 // The bytes of a word.
 pub const WORD: usize = 8;
 
@@ -63,6 +65,8 @@ pub const NAMED_WORDS: usize = HEAD_WORDS;
 
 pub const ATTRIBUTE_INSTANCE_WORDS: usize = HEAD_WORDS + 1;
 
+pub const ANNOTATION_WORDS: usize = HEAD_WORDS + 1;
+
 // An attribute with its field.
 pub const WHOLE_ATTRIBUTE_WORDS: usize = ATTRIBUTE_WORDS + FIELD_WORDS;
 
@@ -92,6 +96,8 @@ pub const DEVICE_TYPE_BYTES: usize = WORD * DEVICE_TYPE_WORDS;
 pub const NAMED_BYTES: usize = WORD * NAMED_WORDS;
 
 pub const ATTRIBUTE_INSTANCE_BYTES: usize = WORD * ATTRIBUTE_INSTANCE_WORDS;
+
+pub const ANNOTATION_BYTES: usize = WORD * ANNOTATION_WORDS;
 
 // The first words and the doc comment's span, of a record that can have one.
 pub const DOCUMENTED_BYTES: usize = WORD * (HEAD_WORDS + 1);

@@ -4,6 +4,8 @@ ghost use Prim.Native.Nat.{_+_, _*_, _≤_, _<_};
 ghost use lib.ListN.{length};
 ghost use Rattle.items.specs.layout.{kind-field, place-field, maturity-field, doc-field, flags-field, offset-field, length-field, first-privilege-field, second-privilege-field, layout, words-of-kind};
 ghost use Rattle.items.specs.stored.{word-at, value-at, further-at, placed};
+use crate::layout::ANNOTATION;
+use crate::layout::ANNOTATION_WORDS;
 use crate::layout::ATTRIBUTE;
 use crate::layout::ATTRIBUTE_INSTANCE;
 use crate::layout::ATTRIBUTE_INSTANCE_WORDS;
@@ -58,6 +60,7 @@ pub fn words_of(kind: u8) -> usize
         ENDPOINT => ENDPOINT_WORDS,
         DEVICE_TYPE => DEVICE_TYPE_WORDS,
         ATTRIBUTE_INSTANCE => ATTRIBUTE_INSTANCE_WORDS,
+        ANNOTATION => ANNOTATION_WORDS,
         _ => NAMED_WORDS,
     }
 }

@@ -39,4 +39,6 @@ pub mod Truth
 pub mod RefusedPlaces
 -- where tokens fail
 pub mod TokenPlaces
+-- an annotation's value is unescaped without a fault
+pub mod Unescapes
 pub mod KnownAnswers

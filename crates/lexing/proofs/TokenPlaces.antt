@@ -8,7 +8,7 @@ use lib.Dec.{leb, eqb}
 use Rattle.lexing.specs.bytes.{isDigit, plus, minus, quote, backslash}
 use Rattle.lexing.specs.reply.{Reply, ok, fail, stop, Parser, catch}
 use Rattle.lexing.specs.integers.{u64-max, fitting, hex-integer, decimal-integer, positive-integer, Signed, largest, in-range, after-sign, signed-integer}
-use Rattle.lexing.specs.strings.{Span, Escape, allowed, forbidden, panics, string-rest, span-from, string-with, default-escape, default-string}
+use Rattle.lexing.specs.strings.{Span, Escape, allowed, forbidden, panics, string-rest, span-from, string-with, annotation-escape, quoted-string, default-escape, default-string}
 use Rattle.lexing.proofs.TokenRuns.{digits-nil, digits-yes, digits-no}
 
 -- an integer fails at its start
@@ -130,3 +130,7 @@ string-place f b (x ∷ u) = go (eqb x quote) refl
 pub default-string-place : (b : ℕ) (u : List ℕ) → StringPlace b (default-string b u)
 unfolding default-string
 default-string-place = string-place default-escape
+
+pub quoted-string-place : (b : ℕ) (u : List ℕ) → StringPlace b (quoted-string b u)
+unfolding quoted-string
+quoted-string-place = string-place annotation-escape

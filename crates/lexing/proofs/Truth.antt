@@ -15,7 +15,7 @@ use Rattle.lexing.specs.bytes.{quote, backslash, plus, minus, isLetter, 
 use Rattle.lexing.specs.words.{Word, word, offsetOf, bytesOf, parse-id, keyword, any-keyword}
 use Rattle.lexing.specs.integers.{u64-max, fitting, hex-integer, decimal-integer, positive-integer, Signed, signed, largest, in-range, after-sign, signed-integer}
 use Rattle.lexing.specs.blanks.{Doc, no-doc, doc-at, whitespace0}
-use Rattle.lexing.specs.strings.{Span, span, Escape, allowed, forbidden, panics, string-rest, span-from, string-with, default-string}
+use Rattle.lexing.specs.strings.{Span, span, Escape, allowed, forbidden, panics, string-rest, span-from, string-with, quoted-string, default-string}
 use Rattle.lexing.specs.word_sets.{set-flags, field-set, struct-set, event-set, command-set, attribute-set}
 use Rattle.lexing.specs.names.{two-keywords-name, named-after}
 use Rattle.lexing.specs.answers.{Rest, docOf, BlankTo}
@@ -433,6 +433,10 @@ module _ {s : ℕ} {t : List ℕ} {end : ℕ} where
   pub default-string-true : {x : Span} → Read s t end default-string x → SpanTrue s t end x
   unfolding default-string
   default-string-true h = string-true _ h
+
+  pub quoted-string-true : (x : Span) → Read s t end quoted-string x → SpanTrue s t end x
+  unfolding quoted-string
+  quoted-string-true x h = string-true _ h
 
   -- the flags of each set, by its size
   pub field-flags : (f : ℕ) → Read s t end (set-flags field-set) f → f < 2 ^ 3

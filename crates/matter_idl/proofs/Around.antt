@@ -8,15 +8,15 @@ use lib.ListN.{length, take, drop, take-append-drop}
 use lib.Seq.{length-take-le, take-length}
 use Rattle.lexing.specs.words.{Word}
 use Rattle.lexing.specs.blanks.{Doc, no-doc, doc-at}
-use Rattle.lexing.specs.strings.{span}
-use Rattle.items.specs.entries.{Entry, Choice}
+use Rattle.lexing.specs.strings.{Span, span}
+use Rattle.items.specs.entries.{Annotation, Entry, Choice}
 use Rattle.items.specs.structs.{Field, StructField, Struct}
 use Rattle.items.specs.members.{Event, Command, Attribute, Privileges}
 use Rattle.items.specs.clusters.{Member, revision, bitmap, enum, struct, attribute, command, event}
 use Rattle.items.specs.endpoints.{DeviceType, Default, number, signed-number, truth, text, AttributeInstance, Instance, attribute-instance, command-instance, event-instance, Instantiation, Part, device, binding, instantiation}
 use Rattle.items.specs.items.{Item, cluster-item, endpoint-item, enum-item, bitmap-item, struct-item, blank-item}
-use Rattle.lexing.proofs.Truth.{All, Maybe, WordTrue, DocTrue, word-around}
-use Rattle.items.proofs.Truth.{EntryTrue, true-entry, ChoiceTrue, true-choice, FieldTrue, true-field, StructFieldTrue, true-struct-field, StructTrue, true-struct, EventTrue, true-event, CommandTrue, true-command, PrivilegesTrue, true-privileges, AttributeTrue, true-attribute, MemberTrue, true-cluster, DeviceTrue, true-device, DefaultTrue, AttributeInstanceTrue, true-attribute-instance, InstanceTrue, InstantiationTrue, true-instantiation, PartTrue, true-endpoint, ItemTrue}
+use Rattle.lexing.proofs.Truth.{All, Maybe, WordTrue, SpanTrue, DocTrue, word-around}
+use Rattle.items.proofs.Truth.{AnnotationTrue, true-annotation, EntryTrue, true-entry, ChoiceTrue, true-choice, FieldTrue, true-field, StructFieldTrue, true-struct-field, StructTrue, true-struct, EventTrue, true-event, CommandTrue, true-command, PrivilegesTrue, true-privileges, AttributeTrue, true-attribute, MemberTrue, true-cluster, DeviceTrue, true-device, DefaultTrue, AttributeInstanceTrue, true-attribute-instance, InstanceTrue, InstantiationTrue, true-instantiation, PartTrue, true-endpoint, ItemTrue}
 use Rattle.matter_idl.specs.inner.reading.{PartOf}
 
 -- where Q holds of every element and implies R
@@ -34,8 +34,14 @@ module _ (s : ℕ) (t : List ℕ) (e s' : ℕ) (t' : List ℕ) (e' : ℕ) (befor
   doc no-doc h = tt
   doc (doc-at o n) h = (omega (arith, h .0), omega (arith, h .1))
 
+  span-as : (x : Span) → SpanTrue s t e x → SpanTrue s' t' e' x
+  span-as (span o n) h = (omega (arith, h .0), omega (arith, h .1))
+
+  annotation : (x : Annotation) → AnnotationTrue s t e x → AnnotationTrue s' t' e' x
+  annotation x (true-annotation k v) = true-annotation (word (x .key) k) (span-as (x .value) v)
+
   entry : (x : Entry) → EntryTrue s t e x → EntryTrue s' t' e' x
-  entry x (true-entry m w c) = true-entry m (word (x .name) w) c
+  entry x (true-entry m w c l) = true-entry m (word (x .name) w) c (all-as (AnnotationTrue s t e) (AnnotationTrue s' t' e') annotation (x .annotations) l)
 
   choice : (x : Choice) → ChoiceTrue s t e x → ChoiceTrue s' t' e' x
   choice x (true-choice d m w b l) = true-choice (doc (x .doc) d) m (word (x .name) w) (word (x .base) b) (all-as (EntryTrue s t e) (EntryTrue s' t' e') entry (x .entries) l)
@@ -80,7 +86,7 @@ module _ (s : ℕ) (t : List ℕ) (e s' : ℕ) (t' : List ℕ) (e' : ℕ) (befor
   default (number n) h = h
   default (signed-number z) h = h
   default (truth z) h = tt
-  default (text (span o n)) h = (omega (arith, h .0), omega (arith, h .1))
+  default (text x) h = span-as x h
 
   attribute-instance-as : (x : AttributeInstance) → AttributeInstanceTrue s t e x → AttributeInstanceTrue s' t' e' x
   attribute-instance-as x (true-attribute-instance n w d) = true-attribute-instance n (word (x .name) w) (maybe-as (DefaultTrue s t e) (DefaultTrue s' t' e') default (x .default) d)

@@ -24,4 +24,4 @@ unescaping u n = elim (leb (length u) value-limit) [ true ↦ outcome u n | fals
 
 -- the number of the layouts that catalogue and report are in
 abbrev pub format : ℕ
-format = 1
+format = 2

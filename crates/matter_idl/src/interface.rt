@@ -99,11 +99,11 @@ pub extern "C" fn matter_idl_unescape(part: &[u8], output: &mut [u8]) -> u64
 }
 
 // The format of catalogue and report.
-const FORMAT: u64 = 1;
+const FORMAT: u64 = 2;
 
 // The format, which the function's name says too: a program compiled with the header of another format does not link.
 #[no_mangle]
-pub extern "C" fn matter_idl_format_1() -> u64
+pub extern "C" fn matter_idl_format_2() -> u64
     ensures { λ r. ⌜ r ≡ format ⌝ }
 {
     FORMAT

@@ -1,4 +1,4 @@
-//! Document 01's table: records as runs of words, and back.
+//! Document 01's table with document 02's annotations: records as runs of words, and back.
 
 #[derive(Debug, Clone, Copy, PartialEq)]
 pub struct Span {
@@ -6,7 +6,7 @@ pub struct Span {
     pub len: usize,
 }
 
-/// Places, maturities, privileges and the like are document 01's numbers.
+/// Places, maturities, privileges and the like are document 01's numbers. An annotation's name is its key.
 #[derive(Debug, Clone, PartialEq)]
 pub struct Record {
     pub place: u64,
@@ -34,6 +34,7 @@ pub enum Kind {
     AttributeInstance { handling: u64, default: Value },
     CommandInstance,
     EventInstance,
+    Annotation { value: Span },
 }
 
 #[derive(Debug, Clone, PartialEq)]
@@ -107,6 +108,7 @@ fn encode_one(r: &Record, words: &mut Vec<u64>) {
         }
         Kind::CommandInstance => (15, vec![], (0, 0), vec![]),
         Kind::EventInstance => (16, vec![], (0, 0), vec![]),
+        Kind::Annotation { value } => (17, vec![], (0, 0), vec![span_word(Some(value))]),
     };
     let name = r.name.unwrap_or(Span { at: 0, len: 0 });
     let flags = pack(&flags) >> 57;
@@ -201,6 +203,7 @@ fn decode_one(first: u64, rest: &mut impl Iterator<Item = u64>) -> Option<Record
         }
         15 => Kind::CommandInstance,
         16 => Kind::EventInstance,
+        17 => Kind::Annotation { value: span(word()?) },
         _ => return None,
     };
     Some(Record { place, maturity, doc, name, kind })

@@ -66,8 +66,8 @@ pub fn check_panic(text: &[u8], number: u64, place: usize) -> Result<(), String>
     }
 }
 
-/// The spans of a text's records, tested by the Rust alone: another word put at a span changes the Rust's tree at that span's part and nowhere else.
-/// A dropped type is first renamed, so that the Rust shows it.
+/// The spans of a text's records, tested by the Rust alone: another word put at a span changes the Rust's tree at that span's part and nowhere else;
+/// at an annotation's, nowhere. A dropped type is first renamed, so that the Rust shows it.
 pub fn check_spans(text: &[u8]) -> Result<(), String> {
     match read(text) {
         Ok(records) => check_spans_of(records, text),
@@ -87,10 +87,50 @@ pub fn check_spans_of(mut records: Vec<Record>, text: &[u8]) -> Result<(), Strin
         }
     }
     for span in spans(&records) {
-        let (records, text) = put(&records, &text, span, b"Put_here");
-        agrees(&records, &text, span)?;
+        agrees_with(&records, &text, span, b"Put_here")?;
+    }
+    check_annotations(&records, &text)?;
+    check_quotes(&records, &text)
+}
+
+/// The annotations, which the Rust's tree hasn't: with blanks put around a key the text is accepted, with no word there it isn't; nor is it with an escape
+/// that annotations haven't at a value. That a value is between quotes is `tree`'s.
+fn check_annotations(records: &[Record], text: &[u8]) -> Result<(), String> {
+    for r in records {
+        let (Kind::Annotation { value }, Some(key)) = (&r.kind, r.name) else { continue };
+        agrees_with(records, text, key, b" x ")?;
+        for (span, wrong) in [(key, &b"1"[..]), (*value, b"\\n")] {
+            let (_, text) = put(records, text, span, wrong);
+            if let Outcome::Accepted(_) = rust_outcome(&text) {
+                return Err(format!("accepted by the Rust with \"{}\" at {span:?}", wrong.escape_ascii()));
+            }
+        }
     }
     Ok(())
+}
+
+/// No string is missed: a quote outside the records' strings is in a comment, where another byte changes nothing else.
+fn check_quotes(records: &[Record], text: &[u8]) -> Result<(), String> {
+    let strings: Vec<Span> = records.iter().filter_map(string_of).collect();
+    for at in (0..text.len()).filter(|&at| text[at] == b'"') {
+        if !strings.iter().any(|s| s.at <= at + 1 && at <= s.at + s.len) {
+            agrees_with(records, text, Span { at, len: 1 }, b"x")?;
+        }
+    }
+    Ok(())
+}
+
+fn string_of(r: &Record) -> Option<Span> {
+    match r.kind {
+        Kind::Annotation { value } | Kind::AttributeInstance { default: Value::Text(value), .. } => Some(value),
+        _ => None,
+    }
+}
+
+/// With other bytes at a span the Rust's tree is that of the records.
+fn agrees_with(records: &[Record], text: &[u8], span: Span, word: &[u8]) -> Result<(), String> {
+    let (records, text) = put(records, text, span, word);
+    agrees(&records, &text, span)
 }
 
 fn agrees(records: &[Record], text: &[u8], span: Span) -> Result<(), String> {
@@ -121,7 +161,7 @@ pub fn each_span(r: &mut Record, f: &mut impl FnMut(&mut Span)) {
             input.as_mut().map(&mut *f);
             f(output);
         }
-        Kind::AttributeInstance { default: Value::Text(span), .. } => f(span),
+        Kind::AttributeInstance { default: Value::Text(span), .. } | Kind::Annotation { value: span } => f(span),
         _ => (),
     }
 }

@@ -19,6 +19,23 @@ const STRINGS: [&str; 9] = ["", "a", "two words", "\\\"", "\\\\", "\u{e9}", "a\\
 const DEFAULT_STRINGS: [&str; 5] = ["\\n", "\\t", "a\\nb\\tc", "\\\\r", "line\nfeed"];
 const ODD_STRINGS: [&str; 4] = ["\\r", "\\x", "a\\", "\\x\\r"];
 
+/// How annotations are written: a list at one entry in so many, pieces of values, and what follows an annotation.
+struct Lists {
+    one_in: usize,
+    values: &'static [&'static str],
+    ends: &'static [&'static str],
+}
+
+const VALUES: [&str; 24] = [
+    "", "a", "Left side", "\\\"", "\\\\", "\u{e9}", "\u{1f600}", "a\\\\\\\"b", "//", "// c\n", "/*", "*/", "/** d */", "\n", "\r\n", "\n}",
+    "}", "]", "];", "[b=", "=", ",", ";", "\t",
+];
+const FEW: Lists = Lists { one_in: 4, values: &STRINGS, ends: &[",", ",", ""] };
+const MANY: Lists = Lists { one_in: 1, values: &VALUES, ends: &[",", ",", ""] };
+const SOME: Lists = Lists { one_in: 2, ..MANY };
+/// Lists that fail are among them.
+const ODD: Lists = Lists { ends: &[",", ",", ",", "", "", "", ",,", ";", "]", "\"", "b", "b=", "1=\"\"", "=\"\"", "[]"], ..SOME };
+
 pub struct Grammar<'a> {
     pub random: &'a mut Random,
     pub out: String,
@@ -29,6 +46,7 @@ pub struct Grammar<'a> {
     /// The fewest and the most parts of anything.
     fewest: usize,
     parts: usize,
+    lists: &'static Lists,
 }
 
 impl<'a> Grammar<'a> {
@@ -36,7 +54,7 @@ impl<'a> Grammar<'a> {
         let blanks = *random.pick(&[&1000, &8, &3, &1]);
         let odd = *random.pick(&[&1000, &100, &20]);
         let parts = *random.pick(&[&1, &2, &2, &4]);
-        Grammar { random, out: String::new(), blanks, odd, fewest: 0, parts }
+        Grammar { random, out: String::new(), blanks, odd, fewest: 0, parts, lists: &FEW }
     }
 
     /// One item, mostly without blanks that are free.
@@ -44,7 +62,7 @@ impl<'a> Grammar<'a> {
         let blanks = *random.pick(&[&1000, &1000, &8]);
         let odd = *random.pick(&[&1000, &20]);
         let fewest = *random.pick(&[&0, &1, &1]);
-        let mut grammar = Grammar { random, out: String::new(), blanks, odd, fewest, parts: 1 };
+        let mut grammar = Grammar { random, out: String::new(), blanks, odd, fewest, parts: 1, lists: &FEW };
         match grammar.random.below(8) {
             0..=3 => grammar.cluster(),
             4..=5 => grammar.endpoint(),
@@ -181,6 +199,18 @@ impl<'a> Grammar<'a> {
         self.out.into_bytes()
     }
 
+    /// Enums and bitmaps, in a cluster or not, with many annotations.
+    pub fn annotated(mut self) -> Vec<u8> {
+        self.lists = self.random.pick(&[&MANY, &SOME, &ODD]);
+        self.parts = *self.random.pick(&[&1, &2, &3]);
+        let top = self.chance(2);
+        self.put(if top { "" } else { "cluster C=1{" });
+        self.enumeration(top);
+        self.several(|g| g.enumeration(top));
+        self.put(if top { "" } else { "}" });
+        self.out.into_bytes()
+    }
+
     fn bare_type(&mut self) {
         let kind = self.random.below(3);
         self.pick(&[["enum "], ["bitmap "], ["struct "]][kind]);
@@ -245,7 +275,7 @@ impl<'a> Grammar<'a> {
         self.spaced("=");
         self.integer();
         self.blanks();
-        if self.chance(4) {
+        if self.chance(self.lists.one_in) {
             self.annotations();
         }
         self.blanks();
@@ -258,9 +288,9 @@ impl<'a> Grammar<'a> {
             g.blanks();
             g.name();
             g.spaced("=");
-            g.string(&STRINGS);
+            g.string(g.lists.values);
             g.blanks();
-            g.pick(&[",", ",", ""]);
+            g.pick(g.lists.ends);
         });
         self.blanks();
         self.put("]");
@@ -502,4 +532,8 @@ pub fn from_grammar(random: &mut Random) -> Vec<u8> {
     } else {
         grammar.text()
     }
+}
+
+pub fn annotated(random: &mut Random) -> Vec<u8> {
+    Grammar::new(random).annotated()
 }

@@ -1,4 +1,4 @@
-//! Document 01's cases and the inputs of SEMANTICS.md, with the answers that those papers give.
+//! Document 01's cases, the inputs of SEMANTICS.md and those of request L1, with the answers that the papers give.
 use crate::catalogue::{decode, Kind, Record, Span, Value};
 use crate::check::{answer, Answer};
 
@@ -6,11 +6,13 @@ pub enum Claim {
     Refused(u64, usize),
     /// All the words, by hand from document 01's table.
     Words(&'static [u64]),
+    /// All the words after those of the first record, an enum's or a bitmap's.
+    Entries(&'static [u64]),
     /// What the paper says of the accepted text's records.
     Accepted(fn(&[Record]) -> bool),
 }
 
-use Claim::{Accepted, Refused, Words};
+use Claim::{Accepted, Entries, Refused, Words};
 
 /// The papers' short forms: C{ and P.
 fn long(text: &str) -> Vec<u8> {
@@ -122,7 +124,7 @@ const SEMANTICS: [(&str, Claim); 76] = [
     ("enum E:t{internal=1;}", Refused(3, 9)),
     ("enum E:t{deprecated=1;}", Refused(3, 9)),
     ("enum E:t{stable stable=1;}", Accepted(|r| r[1].name == Some(Span { at: 16, len: 6 }))),
-    ("enum E:t{a=1[b=\"c\"d=\"e\",];}", Accepted(|r| r.len() == 2)),
+    ("enum E:t{a=1[b=\"c\"d=\"e\",];}", Accepted(|r| r.len() == 4)),
     ("enum E:t{a=1[,];}", Refused(3, 9)),
     ("enum E:t{a=1[b=\"c\",,];}", Refused(3, 9)),
     ("enum E:t{a=1[b=\"\\n\"];}", Refused(3, 9)),
@@ -192,19 +194,79 @@ const SEMANTICS: [(&str, Claim); 76] = [
     ("enum E:t{a=99999999999999999999;} bogus", Refused(4, 11)),
 ];
 
+/// Document 02's request L1: each annotation is a record after its entry's.
+const ANNOTATIONS: [(&str, Claim); 24] = [
+    ("enum E:t{a=1[b=\"c\"];}", Entries(&[0x0400000009000010, 1, 0x110000000d000010, 0x0001000001000000])),
+    ("bitmap B:t{a=1[b=\"c\"];}", Entries(&[0x040000000b000010, 1, 0x110000000f000010, 0x0001200001000000])),
+    ("enum E:t{a=1;}", Entries(&[0x0400000009000010, 1])),
+    ("enum E:t{a=1[];}", Entries(&[0x0400000009000010, 1])),
+    ("enum E:t{a=1[ ];}", Entries(&[0x0400000009000010, 1])),
+    ("enum E:t{a=1[b=\"\"];}", Entries(&[0x0400000009000010, 1, 0x110000000d000010, 0x0001000000000000])),
+    (
+        "enum E:t{a=1[b=\"c\"d=\"e\",];}",
+        Entries(&[0x0400000009000010, 1, 0x110000000d000010, 0x0001000001000000, 0x1100000012000010, 0x0001500001000000]),
+    ),
+    (
+        "enum E:t{a=1[b=\"c\",d=\"e\"];}",
+        Entries(&[0x0400000009000010, 1, 0x110000000d000010, 0x0001000001000000, 0x1100000013000010, 0x0001600001000000]),
+    ),
+    (
+        "enum E:t{a=1[b=\"c\",b=\"c\"];}",
+        Entries(&[0x0400000009000010, 1, 0x110000000d000010, 0x0001000001000000, 0x1100000013000010, 0x0001600001000000]),
+    ),
+    (
+        "enum E:t{a=1[b=\"x\"];c=2[d=\"y\"];}",
+        Entries(&[
+            0x0400000009000010, 1, 0x110000000d000010, 0x0001000001000000, 0x0400000014000010, 2, 0x1100000018000010, 0x0001b00001000000,
+        ]),
+    ),
+    ("enum E:t{a=1[b=\"x\"];c=2;}", Entries(&[0x0400000009000010, 1, 0x110000000d000010, 0x0001000001000000, 0x0400000014000010, 2])),
+    ("enum E:t{a=1[b=\"\\\"\\\\\"];}", Entries(&[0x0400000009000010, 1, 0x110000000d000010, 0x0001000004000000])),
+    ("enum E:t{a=1[b=\"\n}\"];}", Entries(&[0x0400000009000010, 1, 0x110000000d000010, 0x0001000002000000])),
+    ("enum E:t{a=1[b=\"\u{e9}\"];}", Entries(&[0x0400000009000010, 1, 0x110000000d000010, 0x0001000002000000])),
+    ("enum E:t{a=1[b=\"//\"];}", Entries(&[0x0400000009000010, 1, 0x110000000d000010, 0x0001000002000000])),
+    ("enum E:t{a=1[b=\"/*\"];}", Entries(&[0x0400000009000010, 1, 0x110000000d000010, 0x0001000002000000])),
+    ("enum E:t{a=1[b=\"]\"];}", Entries(&[0x0400000009000010, 1, 0x110000000d000010, 0x0001000001000000])),
+    (
+        "enum E:t{a=1 /**/ [ /**x*/ b /**/ = /**/ \"c\" /**/ , /**/ ] /**/ ;}",
+        Entries(&[0x0400000009000010, 1, 0x110000001b000010, 0x0002a00001000000]),
+    ),
+    ("enum E:t{stable stable=1[stable=\"stable\"];}", Entries(&[0x0400000010000060, 1, 0x1100000019000060, 0x0002100006000000])),
+    ("enum E:t{internal a=1[b=\"c\"];}", Entries(&[0x0420000012000010, 1, 0x1100000016000010, 0x0001900001000000])),
+    ("enum E:t{a=1[_1=\"c\"];}", Entries(&[0x0400000009000010, 1, 0x110000000d000020, 0x0001100001000000])),
+    ("enum E:t{a=1[1b=\"c\"];}", Refused(3, 9)),
+    // A dropped type's annotations are there too.
+    (
+        "C{shared enum E:t{a=1[b=\"c\"];}}cluster D=2{shared enum E:t{a=1[b=\"d\"];}}",
+        Accepted(|r| r.len() == 8 && places(r) == [1, 2] && [3, 7].iter().all(|&i| matches!(r[i].kind, Kind::Annotation { .. }))),
+    ),
+    // Hoisting goes on after them.
+    ("C{shared enum E:t{a=1[b=\"\"];}shared enum F:t{}}", Accepted(|r| places(r) == [1, 1])),
+];
+
 /// The one input that is not UTF-8.
 const NOT_UTF8: &[u8] = b"endpoint 99999999999999999999\xff";
 
-pub fn texts() -> Vec<Vec<u8>> {
+/// Of document 01 and SEMANTICS.md.
+pub fn papers() -> Vec<Vec<u8>> {
     let mut all: Vec<_> = CASES.iter().chain(&SEMANTICS).map(|(text, _)| long(text)).collect();
     all.push(NOT_UTF8.into());
     all
+}
+
+pub fn annotations() -> Vec<Vec<u8>> {
+    ANNOTATIONS.iter().map(|(text, _)| long(text)).collect()
+}
+
+pub fn texts() -> Vec<Vec<u8>> {
+    [papers(), annotations()].concat()
 }
 
 fn holds(claim: &Claim, answer: &Answer) -> bool {
     match (claim, answer) {
         (Refused(number, place), Answer::Refused(n, p)) => number == n && place == p,
         (Words(words), Answer::Words(found)) => words == found,
+        (Entries(words), Answer::Words(found)) => found.get(3..) == Some(*words),
         (Accepted(says), Answer::Words(found)) => decode(found).is_ok_and(|records| says(&records)),
         _ => false,
     }
@@ -214,7 +276,7 @@ fn holds(claim: &Claim, answer: &Answer) -> bool {
 pub fn check() -> usize {
     let mut wrong = 0;
     let last = (String::new(), NOT_UTF8.to_vec(), &Refused(2, 29));
-    let claims = CASES.iter().chain(&SEMANTICS).map(|(text, claim)| (text.to_string(), long(text), claim));
+    let claims = CASES.iter().chain(&SEMANTICS).chain(&ANNOTATIONS).map(|(text, claim)| (text.to_string(), long(text), claim));
     let claims: Vec<_> = claims.chain([last]).collect();
     for (short, text, claim) in &claims {
         let found = answer(text);
@@ -223,6 +285,6 @@ pub fn check() -> usize {
             println!("not as the paper says: {short:?}: {found:?}");
         }
     }
-    println!("{} texts of document 01 and SEMANTICS.md, {wrong} not as the paper says", claims.len());
+    println!("{} texts of document 01, SEMANTICS.md and request L1, {wrong} not as the paper says", claims.len());
     wrong
 }

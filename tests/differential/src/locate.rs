@@ -35,12 +35,24 @@ pub fn locate(text: &[u8]) -> Result<Vec<Record>, (u64, usize)> {
 pub fn read(text: &[u8]) -> Result<Vec<Record>, (u64, usize)> {
     let mut reader = Reader { text, at: 0, records: Vec::new() };
     while reader.at < text.len() {
-        reader.item().map_err(|halt| match halt {
-            Halt::Failed(place) => (3, place),
-            Halt::Stopped(number, place) => (number, place),
-        })?;
+        reader.item().map_err(refusal)?;
     }
     Ok(reader.records)
+}
+
+/// The first item: its records, with place 1 for a type at the top level and else 0, and the offset after it.
+pub fn first_item(text: &[u8]) -> Result<(Vec<Record>, usize), (u64, usize)> {
+    let mut reader = Reader { text, at: 0, records: Vec::new() };
+    reader.item().map_err(refusal)?;
+    reader.records.iter_mut().for_each(|r| r.place = r.place.min(1));
+    Ok((reader.records, reader.at))
+}
+
+fn refusal(halt: Halt) -> (u64, usize) {
+    match halt {
+        Halt::Failed(place) => (3, place),
+        Halt::Stopped(number, place) => (number, place),
+    }
 }
 
 /// Marks the types of `read`'s records, by document 01's three tables of ids.
@@ -121,9 +133,12 @@ impl<'a> Reader<'a> {
         }
     }
 
-    fn many(&mut self, step: impl Fn(&mut Self) -> Step<()>) -> Step<()> {
-        while self.option(&step)?.is_some() {}
-        Ok(())
+    fn many<T>(&mut self, step: impl Fn(&mut Self) -> Step<T>) -> Step<Vec<T>> {
+        let mut all = Vec::new();
+        while let Some(value) = self.option(&step)? {
+            all.push(value);
+        }
+        Ok(all)
     }
 
     /// The first try that succeeds; else the furthest place.
@@ -296,14 +311,15 @@ impl<'a> Reader<'a> {
         Ok(value)
     }
 
-    /// An annotation's string.
-    fn string(&mut self) -> Step<()> {
+    /// An annotation's string: the span between its quotes.
+    fn string(&mut self) -> Step<Span> {
         self.tag("\"")?;
+        let at = self.at;
         loop {
             match self.rest() {
                 [b'\\', b'"' | b'\\', ..] => self.at += 2,
                 [] | [b'\\', ..] => return self.fail(),
-                [b'"', ..] => return self.tag("\""),
+                [b'"', ..] => return self.string_end(at),
                 _ => self.at += 1,
             }
         }
@@ -318,14 +334,17 @@ impl<'a> Reader<'a> {
                 [b'\\', b'r', ..] => return Err(Halt::Stopped(5, self.at)),
                 [b'\\', b'"' | b'\\' | b'n' | b't', ..] => self.at += 2,
                 [] | [b'\\', ..] => return self.fail(),
-                [b'"', ..] => {
-                    let len = self.at - at;
-                    self.at += 1;
-                    return Ok(Span { at, len });
-                }
+                [b'"', ..] => return self.string_end(at),
                 _ => self.at += 1,
             }
         }
+    }
+
+    /// The span from a string's first byte to the quote that is next.
+    fn string_end(&mut self, at: usize) -> Step<Span> {
+        let len = self.at - at;
+        self.tag("\"")?;
+        Ok(Span { at, len })
     }
 
     fn signed(&mut self) -> Step<i64> {
@@ -392,23 +411,28 @@ impl Reader<'_> {
         self.spaced("=")?;
         let code = self.integer()?;
         self.blanks();
-        self.option(Self::annotations)?;
+        let annotations = self.option(Self::annotations)?;
         self.closing(";")?;
         self.push(maturity, None, Some(name), Kind::Entry { code });
+        for (key, value) in annotations.unwrap_or_default() {
+            self.push(0, None, Some(key), Kind::Annotation { value });
+        }
         Ok(())
     }
 
-    fn annotations(&mut self) -> Step<()> {
+    fn annotations(&mut self) -> Step<Vec<(Span, Span)>> {
         self.tag("[")?;
-        self.many(|r| {
+        let all = self.many(|r| {
             r.blanks();
-            r.word()?;
+            let key = r.word()?;
             r.spaced("=")?;
-            r.string()?;
+            let value = r.string()?;
             r.blanks();
-            r.option(|r| r.tag(",")).map(|_| ())
+            r.option(|r| r.tag(","))?;
+            Ok((key, value))
         })?;
-        self.closing("]")
+        self.closing("]")?;
+        Ok(all)
     }
 
     fn structure(&mut self, doc: Option<Span>, maturity: u64) -> Step<()> {

@@ -29,6 +29,7 @@ compare PROGRAM [SEED [COUNT [EVERY]]]  a program like the lister beside the Rus
 library [SEED [COUNT [EVERY]]]          the same with the static library (build with MATTER_IDL_LIB set)
 survey [SEED [COUNT]]                   the static library's survey on texts of many sections, and with one section replaced
 vectors [SEED]                          the stored list of short texts with answers
+declarations                            the lines of standard input as the program `declarations` answers them
 speed FILE ..                           the Rust and the static library on each text, in turn";
 
 fn main() -> ExitCode {
@@ -61,10 +62,8 @@ fn command(arguments: &[&str]) -> Result<usize, String> {
         "survey" => Ok(survey::library::run(number(rest, 0, 1)?, number(rest, 1, 100_000)? as usize)),
         #[cfg(feature = "library")]
         "speed" => rest.iter().try_for_each(|file| speed::compare(file)).map(|()| 0),
-        "vectors" => {
-            vectors::print(number(rest, 0, 1)?);
-            Ok(0)
-        }
+        "declarations" => declarations(),
+        "vectors" => vectors::print(number(rest, 0, 1)?).map(|()| 0),
         _ => Err(USAGE.into()),
     }
 }
@@ -85,5 +84,24 @@ fn words(file: Option<&str>) -> Result<usize, String> {
         None => drop(std::io::stdin().read_to_end(&mut text).map_err(|e| e.to_string())?),
     }
     print!("{}", check::answer(&text)?);
+    Ok(0)
+}
+
+/// Each line is a text with escapes; it comes back with the answer for its first item.
+fn declarations() -> Result<usize, String> {
+    let lines = std::io::read_to_string(std::io::stdin()).map_err(|e| e.to_string())?;
+    for line in lines.split_terminator('\n') {
+        let text = tree::unescape(line).into_bytes();
+        // The Rust and the locator agree on the text. The Rust alone tells nothing of its first item.
+        check::answer(&text)?;
+        let answer = match locate::first_item(&text) {
+            Ok((records, next)) => {
+                let words: String = catalogue::encode(&records).iter().map(|w| format!(" {w:016x}")).collect();
+                format!("{words} next {next}")
+            }
+            Err((number, place)) => format!(" refused {number} {place}"),
+        };
+        println!("{line} ->{answer}");
+    }
     Ok(0)
 }

@@ -9,8 +9,8 @@ use std::cell::RefCell;
 use std::collections::{BTreeMap, HashSet};
 use std::path::Path;
 
-/// Calls `f` with the group and the text of every text of a seed: `count` texts from the grammar and three times as many damaged ones;
-/// from a thousand on, also long ones.
+/// Calls `f` with the group and the text of every text of a seed: `count` texts from the grammar and three times as many damaged ones,
+/// `count` with many annotations; from a thousand on, also long ones.
 pub fn each_text(seed: u64, count: usize, f: &mut dyn FnMut(&'static str, &[u8])) {
     for known in known::texts() {
         f("known", &known);
@@ -39,6 +39,7 @@ pub fn each_text(seed: u64, count: usize, f: &mut dyn FnMut(&'static str, &[u8])
         }
         other = text;
     }
+    each_annotated(&mut random, count / 2, f);
     if count < 1_000 {
         return;
     }
@@ -52,12 +53,23 @@ pub fn each_text(seed: u64, count: usize, f: &mut dyn FnMut(&'static str, &[u8])
     }
 }
 
+/// Texts with many annotations, each sound (but for lists that fail) and damaged.
+fn each_annotated(random: &mut Random, count: usize, f: &mut dyn FnMut(&'static str, &[u8])) {
+    let mut other = Vec::new();
+    for _ in 0..count {
+        let text = annotated(random);
+        f("annotated", &text);
+        f("annotated", &damaged(random, &text, &other));
+        other = text;
+    }
+}
+
 /// Accepted texts, one after another, with blanks and an enum up to a length.
 fn long(random: &mut Random, len: usize) -> Vec<u8> {
     let end = b"enum Last:t{}";
     let mut text = Vec::new();
     loop {
-        let more = from_grammar(random);
+        let more = if random.chance(4) { annotated(random) } else { from_grammar(random) };
         if text.len() + more.len() + end.len() > len {
             break;
         }

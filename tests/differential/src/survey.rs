@@ -62,20 +62,20 @@ pub fn survey(text: &[u8]) -> Survey {
     Survey { catalogue: encode(&records), report }
 }
 
-/// Texts of many sections: sound ones, damaged ones, blanks, comments and strings with a cut inside, bytes that are not UTF-8.
-pub fn many(random: &mut Random) -> Vec<u8> {
+/// Texts of many sections: sound ones from `sound`, damaged ones, blanks, comments and strings with a cut inside, bytes that are not UTF-8.
+pub fn many(random: &mut Random, sound: fn(&mut Random) -> Vec<u8>) -> Vec<u8> {
     let mut text = Vec::new();
-    let mut other = from_grammar(random);
+    let mut other = sound(random);
     for _ in 0..random.below(12) {
         let mut piece = match random.below(8) {
             0 => not_utf8(random),
             1 => random.pick(&["", " ", "/*", "*/", "//", "\"", "cluster C=1{shared enum E:t{}"]).as_bytes().to_vec(),
             2 | 3 => {
-                let text = from_grammar(random);
+                let text = sound(random);
                 damaged(random, &text, &other)
             }
             4 => b"cluster C=1{shared enum E:t{}shared bitmap E:t{}shared struct E{}}".to_vec(),
-            _ => from_grammar(random),
+            _ => sound(random),
         };
         piece.truncate(4_000);
         other = piece.clone();
@@ -151,18 +151,31 @@ pub fn stored(seed: u64) -> Vec<Vec<u8>> {
     all.push([&b"\n}".repeat(4_095)[..], &b"enum E:t{\n}".repeat(4), b"?\n}enum F:t{}"].concat());
     let mut random = Random(seed);
     while all.len() < 150 {
-        let text = many(&mut random);
+        let text = many(&mut random, from_grammar);
         if text.len() <= 160 && sections(&text).len() > 1 {
             all.push(text);
         }
     }
+    all.extend(ANNOTATED.map(|text| text.as_bytes().to_vec()));
     all
 }
+
+/// An annotation's spans move with their section, also where its value is empty. A cut inside a value leaves the sections without one.
+/// Neighbours of a refused section and a dropped type keep their annotations.
+const ANNOTATED: [&str; 6] = [
+    "\n}enum E:t{a=1[b=\"c\"];}",
+    "enum A:t{\n}enum E:t{a=1[b=\"\"];\n}bitmap B:t{a=1;b=2[c=\"d\" e=\"\\\"\",];\n}",
+    "enum A:t{\n}enum E:t{a=1[b=\"\n}\"];\n}enum F:t{a=1[b=\"c\"];\n}",
+    "enum E:t{a=1[b=\"c\"];\n}enum F:t{a=1[b=\"c\",,];\n}enum G:t{a=1[b=\"c\"];\n}",
+    "cluster C=1{shared enum E:t{a=1[b=\"c\"];}\n}cluster D=2{shared enum E:t{a=1[b=\"d\"];}\n}",
+    "cluster C=1{shared enum E:t{a=1[b=\"\"];}shared enum F:t{}\n}",
+];
 
 #[cfg(feature = "library")]
 pub mod library {
     use super::*;
     use crate::catalogue::decode;
+    use crate::grammar::annotated;
     use crate::reader::{matter_idl_read, matter_idl_survey, Library};
 
     fn call(text: &[u8], catalogue: usize, report: usize) -> (u64, Vec<u8>, Vec<u8>) {
@@ -291,8 +304,8 @@ pub mod library {
         let mut random = Random(seed);
         let (mut found, mut parts, mut spoilt, mut replacements) = (0, 0, 0, 0);
         let mut other = Vec::new();
-        for _ in 0..count {
-            let text = many(&mut random);
+        for i in 0..count {
+            let text = many(&mut random, if i % 4 == 0 { annotated } else { from_grammar });
             if let Some(what) = differs(&text) {
                 found += 1;
                 let small = crate::shrink::shrink(&text, &mut |t| differs(t).is_some());

@@ -1,4 +1,6 @@
 //! That wrong readers and wrong catalogues are noticed.
+mod annotations;
+
 use crate::catalogue::{decode, encode, Kind, Record};
 use crate::check::{answer, check_spans_of, Answer};
 use crate::locate::{locate, read};

@@ -5,7 +5,7 @@ use crate::idl::parser::*;
 type Nested<T> = Result<T, String>;
 
 pub fn tree(records: &[Record], text: &[u8]) -> Nested<Idl> {
-    let mut nest = Nest { text, idl: Idl::default(), open: Open::Nothing, end: 0 };
+    let mut nest = Nest { text, idl: Idl::default(), open: Open::Nothing, annotated: false, end: 0 };
     for (i, r) in records.iter().enumerate() {
         nest.add(r).map_err(|e| format!("record {i}: {e}: {r:?}"))?;
     }
@@ -42,7 +42,9 @@ struct Nest<'a> {
     text: &'a [u8],
     idl: Idl,
     open: Open,
-    /// Where the last name ends: names follow each other as in the text.
+    /// Whether annotations may follow: after an entry and after its annotations.
+    annotated: bool,
+    /// Where the last name or annotation's value ends: names follow each other as in the text.
     end: usize,
 }
 
@@ -259,10 +261,28 @@ impl Nest<'_> {
             }
             Kind::CommandInstance => self.instantiation()?.commands.push(id),
             Kind::EventInstance => self.instantiation()?.events.push(id),
+            Kind::Annotation { value } => self.pass_over(r, value)?,
         }
+        self.annotated = matches!(r.kind, Kind::Entry { .. } | Kind::Annotation { .. });
         if r.maturity != 0 && matches!(self.open, Open::Endpoint | Open::Instantiation) {
             return Err("a maturity of an endpoint or its part".into());
         }
+        Ok(())
+    }
+
+    /// An annotation, which the Rust's tree hasn't: it belongs to the entry before it, and its value is between quotes after its key.
+    fn pass_over(&mut self, r: &Record, value: Span) -> Nested<()> {
+        if !self.annotated {
+            return Err("an annotation without its entry".into());
+        }
+        if r.maturity != 0 {
+            return Err("a maturity of an annotation".into());
+        }
+        let quote = |at: Option<usize>| at.and_then(|at| self.text.get(at)) == Some(&b'"');
+        if value.at <= self.end || !quote(value.at.checked_sub(1)) || !quote(Some(value.at + value.len)) {
+            return Err("a value that is not between quotes after its key".into());
+        }
+        self.end = value.at + value.len;
         Ok(())
     }
 

@@ -2,7 +2,7 @@
 use mathlib.Core.Path.{_≡_, refl, sym, _∙_, subst}
 use mathlib.Core.Bool.{Bool}
 use mathlib.Core.Option.{Option, none, some}
-use mathlib.Core.List.{List, [], _∷_, map}
+use mathlib.Core.List.{List, [], _∷_}
 use Prim.Native.Nat.{ℕ, _+_, _-_, _*_, _≤_}
 use native.Mathlib.Omega.{arith}
 use borrow.Author.Tests.{lt-ltb, le-ltb}
@@ -15,7 +15,7 @@ use Rattle.lexing.proofs.Onward.{Onward}
 use Rattle.lexing.proofs.Locality.{Consumes, chain-opt}
 use Rattle.lexing.proofs.Slicing.{Took, walks, rest-self}
 use Rattle.items.specs.entries.{present, Entry, shared-before, choice-head, constant-entries-list, choice-after-doc-maturity}
-use Rattle.items.specs.records.{at, spanned, flag, word-extent, documented, entry-record, choice-records}
+use Rattle.items.specs.records.{at, spanned, flag, word-extent, documented, entry-records, choice-records}
 use Rattle.lexing.specs.buffers.{each, words-bytes, put}
 use Rattle.items.specs.layout.{packed, width, from-top, offset, size, layout, further-word, record-words, catalogue-words, catalogue-bytes, word-count, text-limit}
 use Rattle.lexing.specs.answers.{wordBetween}
@@ -75,7 +75,7 @@ pub entries-list-onward : Onward constant-entries-list
 entries-list-onward = walks (constant-entries-list-local .on-chain)
 
 -- three words, and those of the entries
-pub choice-headed : (k : List ℕ) → Headed {I = Front} (λ i. choice-after-doc-maturity k (i .doc) (i .maturity)) (λ i. choice-records (i .kind) (i .place)) (choice-head k) constant-entries-list (map entry-record) 3
+pub choice-headed : (k : List ℕ) → Headed {I = Front} (λ i. choice-after-doc-maturity k (i .doc) (i .maturity)) (λ i. choice-records (i .kind) (i .place)) (choice-head k) constant-entries-list (each entry-records) 3
 unfolding choice-after-doc-maturity word-count catalogue-words each record-words layout choice-records documented
 choice-headed k = record {
   make = λ i h l. record { shared = h .head-shared; doc = i .doc; maturity = i .maturity; name = h .head-name; base = h .head-base; entries = l };

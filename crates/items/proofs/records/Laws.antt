@@ -32,7 +32,7 @@ zero-else js (x ∷ l) i (suc k) e n = zero-else js l (suc i) k (and-right (eqb 
 
 -- the kinds with further words
 abbrev longer : List ℕ
-longer = 14 ∷ 11 ∷ 10 ∷ 9 ∷ 8 ∷ 7 ∷ 6 ∷ 5 ∷ 4 ∷ 3 ∷ 2 ∷ 1 ∷ []
+longer = 17 ∷ 14 ∷ 11 ∷ 10 ∷ 9 ∷ 8 ∷ 7 ∷ 6 ∷ 5 ∷ 4 ∷ 3 ∷ 2 ∷ 1 ∷ []
 
 pub words-else : {k : ℕ} → NoneOf longer k → 1 ≡ words-of-kind layout k
 unfolding words-of-kind further-of-kind layout

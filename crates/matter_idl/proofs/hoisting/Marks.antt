@@ -6,13 +6,13 @@ use mathlib.Core.List.{List, [], _∷_, _++_, map, map-append, append-assoc, app
 use native.Mathlib.Omega.{arith}
 use Rattle.lexing.specs.words.{Word, bytesOf}
 use Rattle.lexing.specs.word_sets.{bit}
-use Rattle.items.specs.entries.{Entry, Choice}
+use Rattle.items.specs.entries.{Annotation, Entry, Choice}
 use Rattle.items.specs.structs.{StructType, regular, request, response, shared, StructField, Struct}
 use Rattle.items.specs.members.{Attribute, Command, Event}
 use Rattle.items.specs.clusters.{Member, revision, bitmap, enum, struct, attribute, command, event}
 use Rattle.items.specs.endpoints.{Instance, attribute-instance, command-instance, event-instance, Part, device, binding, instantiation}
 use Rattle.items.specs.items.{Item, cluster-item, endpoint-item, enum-item, bitmap-item, struct-item, blank-item}
-use Rattle.items.specs.records.{bits, value, spanned, Record, response-of, flag, word-extent, plain, documented, entry-record, choice-records, field-record, struct-number, struct-records, attribute-records, command-record, event-records, member-records, cluster-records, instance-record, part-records, endpoint-records, item-records}
+use Rattle.items.specs.records.{bits, value, spanned, Record, response-of, flag, word-extent, plain, documented, annotation-record, entry-record, entry-records, choice-records, field-record, struct-number, struct-records, attribute-records, command-record, event-records, member-records, cluster-records, instance-record, part-records, endpoint-records, item-records}
 use Rattle.lexing.specs.buffers.{each}
 use Rattle.items.specs.layout.{packed, width, from-top}
 use Rattle.items.specs.answers.items.{unhoisted-item}
@@ -31,6 +31,11 @@ map-kept : {A B : Type 0} (f : B → B) (g : A → B) → ((a : A) → f (g a) �
 map-kept f g h [] = refl
 map-kept f g h (a ∷ l) = rw (h a, map-kept f g h l) refl
 
+each-kept : {A B : Type 0} (f : B → B) (g : A → List B) → ((a : A) → map f (g a) ≡ g a) → (l : List A) → map f (each g l) ≡ each g l
+unfolding each
+each-kept f g h [] = refl
+each-kept f g h (a ∷ l) = map-append f (g a) (each g l) ∙ rw (h a, each-kept f g h l) refl
+
 each-mapped : {A B : Type 0} (Q : A → Type 0) (f : B → B) (g k : A → List B) → ((a : A) → Q a → map f (g a) ≡ k a) → (l : List A) → All Q l → map f (each g l) ≡ each k l
 unfolding each
 each-mapped Q f g k h [] q = refl
@@ -45,9 +50,16 @@ module _ (text : List ℕ) (n : ℕ) (before : List Record) (t : Tables) (agree 
   abbrev Marked : Record → Record
   Marked r = marked text before r
 
-  entry-kept : (e : Entry) → Marked (entry-record e) ≡ entry-record e
-  unfolding marked new-place is-unmarked flags-shared with-place entry-record plain
-  entry-kept e = refl
+  annotation-kept : (a : Annotation) → Marked (annotation-record a) ≡ annotation-record a
+  unfolding marked new-place is-unmarked flags-shared with-place annotation-record plain
+  annotation-kept a = refl
+
+  entry-kept : (e : Entry) → map Marked (entry-records e) ≡ entry-records e
+  unfolding marked new-place is-unmarked flags-shared with-place entry-records entry-record plain
+  entry-kept e = cons-same refl (map-kept Marked annotation-record annotation-kept (e .annotations))
+
+  entries-kept : (l : List Entry) → map Marked (each entry-records l) ≡ each entry-records l
+  entries-kept = each-kept Marked entry-records entry-kept
 
   field-kept : (f : StructField) → Marked (field-record f) ≡ field-record f
   unfolding marked new-place is-unmarked flags-shared with-place field-record plain
@@ -90,7 +102,7 @@ module _ (text : List ℕ) (n : ℕ) (before : List Record) (t : Tables) (agree 
 
     choice-marked : ChoiceTrue 0 text n c → map Marked (choice-records k 0 c) ≡ choice-records k (mark (table-of K t) (c .shared) (choice-id c)) c
     unfolding marked new-place with-place choice-records documented
-    choice-marked h = cons-same (ap (λ p. documented k p (c .maturity) (c .doc) (flag (c .shared) ∷ []) (word-extent (c .name)) 0 0 (spanned (word-extent (c .base)) ∷ [])) (choice-place h (c .shared))) (map-kept Marked entry-record entry-kept (c .entries))
+    choice-marked h = cons-same (ap (λ p. documented k p (c .maturity) (c .doc) (flag (c .shared) ∷ []) (word-extent (c .name)) 0 0 (spanned (word-extent (c .base)) ∷ [])) (choice-place h (c .shared))) (entries-kept (c .entries))
 
   struct-place : (s : Struct) → StructTrue 0 text n s → (y : StructType)
       → elim (is-unmarked 5 0 (from-top 7 (bits 2 (struct-number y) ∷ bits 1 (s .fabric-scoped) ∷ []))) [ true ↦ mark-after text before 5 (word-extent (s .name)) | false ↦ 0 ] ≡ mark (t .structs) (is-shared y) (struct-id s)
@@ -117,16 +129,14 @@ module _ (text : List ℕ) (n : ℕ) (before : List Record) (t : Tables) (agree 
   -- a type at the top keeps its mark
   choice-kept : (k : ℕ) (c : Choice) → map Marked (choice-records k 1 c) ≡ choice-records k 1 c
   unfolding marked new-place is-unmarked with-place choice-records documented
-  choice-kept k c = cons-same refl (map-kept Marked entry-record entry-kept (c .entries))
+  choice-kept k c = cons-same refl (entries-kept (c .entries))
 
   struct-kept : (s : Struct) → map Marked (struct-records 1 s) ≡ struct-records 1 s
   unfolding marked new-place is-unmarked with-place struct-records documented
   struct-kept s = cons-same refl (map-kept Marked field-record field-kept (s .fields))
 
   parts-kept : (l : List Part) → map Marked (each part-records l) ≡ each part-records l
-  unfolding each
-  parts-kept [] = refl
-  parts-kept (p ∷ l) = map-append Marked (part-records p) (each part-records l) ∙ rw (part-kept p, parts-kept l) refl
+  parts-kept = each-kept Marked part-records part-kept
 
   item-marked : (i : Item) → ItemTrue 0 text n i → map Marked (unhoisted-item i) ≡ item-records 1 (place-by t) i
   unfolding item-records cluster-records endpoint-records documented plain marked new-place is-unmarked flags-shared with-place

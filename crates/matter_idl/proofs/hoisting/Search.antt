@@ -14,7 +14,7 @@ use Rattle.items.specs.members.{Event, Command, Attribute}
 use Rattle.items.specs.clusters.{Member, revision, bitmap, enum, struct, attribute, command, event}
 use Rattle.items.specs.endpoints.{Instance, attribute-instance, command-instance, event-instance, Part, device, binding, instantiation}
 use Rattle.items.specs.items.{Item, cluster-item, endpoint-item, enum-item, bitmap-item, struct-item, blank-item}
-use Rattle.items.specs.records.{Record, plain, documented, entry-record, choice-records, field-record, struct-records, attribute-records, command-record, event-records, member-records, cluster-records, instance-record, part-records, endpoint-records, item-records, word-extent}
+use Rattle.items.specs.records.{Record, plain, documented, annotation-record, entry-record, entry-records, choice-records, field-record, struct-records, attribute-records, command-record, event-records, member-records, cluster-records, instance-record, part-records, endpoint-records, item-records, word-extent}
 use Rattle.lexing.specs.buffers.{each}
 use Rattle.lexing.proofs.Truth.{All, WordTrue}
 use Rattle.items.proofs.Truth.{ChoiceTrue, true-choice, StructTrue, true-struct, MemberTrue, true-cluster, ItemTrue}
@@ -99,8 +99,12 @@ module _ (text : List ℕ) (k : ℕ) (i : List ℕ) where
   none-each f h [] = refl
   none-each f h (a ∷ l) = rw (found-append (f a) (each f l), h a, none-each f h l)
 
-  entries-none : (l : List Entry) → has-global text k i (map entry-record l) ≡ false
-  entries-none = none-mapped entry-record λ e. unfold is-global entry-record plain in refl
+  entry-none : (e : Entry) → has-global text k i (entry-records e) ≡ false
+  unfolding has-global is-global entry-records entry-record plain
+  entry-none e = none-mapped annotation-record (λ a. unfold is-global annotation-record plain in refl) (e .annotations)
+
+  entries-none : (l : List Entry) → has-global text k i (each entry-records l) ≡ false
+  entries-none = none-each entry-records entry-none
 
   fields-none : (l : List StructField) → has-global text k i (map field-record l) ≡ false
   fields-none = none-mapped field-record λ f. unfold is-global field-record plain in refl

@@ -7,12 +7,12 @@ use mathlib.Core.List.{List, [], _∷_, map}
 use native.Mathlib.Omega.{arith}
 use lib.Dec.{eqb}
 use Rattle.lexing.proofs.Tests.{eq-of}
-use Rattle.items.specs.entries.{Choice}
+use Rattle.items.specs.entries.{Entry, Choice}
 use Rattle.items.specs.structs.{Struct, StructField}
 use Rattle.items.specs.clusters.{Member, revision, bitmap, enum, struct, attribute, command, event}
 use Rattle.items.specs.endpoints.{Instance, attribute-instance, command-instance, event-instance, Part, device, binding, instantiation}
 use Rattle.items.specs.items.{Item, cluster-item, endpoint-item, enum-item, bitmap-item, struct-item, blank-item}
-use Rattle.items.specs.records.{Record, plain, documented, entry-record, choice-records, field-record, struct-records, attribute-records, command-record, event-records, member-records, cluster-records, instance-record, part-records, endpoint-records, item-records}
+use Rattle.items.specs.records.{Record, plain, documented, annotation-record, entry-record, entry-records, choice-records, field-record, struct-records, attribute-records, command-record, event-records, member-records, cluster-records, instance-record, part-records, endpoint-records, item-records}
 use Rattle.lexing.specs.buffers.{each}
 use Rattle.items.proofs.RecordsFit.{all-append}
 use Rattle.lexing.proofs.Truth.{All}
@@ -35,9 +35,13 @@ typed-each f h (a ∷ l) = all-append Typed (f a) (each f l) (h a) (typed-each f
 fields-typed : (l : List StructField) → All Typed (map field-record l)
 fields-typed = typed-map field-record λ f. unfold field-record plain in inl refl
 
+entry-typed : (e : Entry) → All Typed (entry-records e)
+unfolding entry-records entry-record plain
+entry-typed e = (inl refl, typed-map annotation-record (λ a. unfold annotation-record plain in inl refl) (e .annotations))
+
 choice-typed : (k p : ℕ) → (k ≡ 2) ⊎ ((k ≡ 3) ⊎ (k ≡ 5)) → (c : Choice) → All Typed (choice-records k p c)
 unfolding choice-records documented
-choice-typed k p h c = (inr h, typed-map entry-record (λ e. unfold entry-record plain in inl refl) (c .entries))
+choice-typed k p h c = (inr h, typed-each entry-records entry-typed (c .entries))
 
 struct-typed : (p : ℕ) (s : Struct) → All Typed (struct-records p s)
 unfolding struct-records documented

@@ -3,7 +3,8 @@ use Rattle.items.proofs.entries.constant_entry.Statement.{statement}
 use Rattle.items.proofs.entries.constant_entry.Tie as tie
 use Rattle.items.specs.entries.{constant-entry}
 use Rattle.items.specs.inner.entries.{entry-end}
-use Rattle.items.proofs.entries.Laws.{end-up, end-took, end-none}
+use Rattle.lexing.proofs.names.Laws.{name-more, equals-code-on, number-at-took, number-at-lost}
+use Rattle.items.proofs.entries.Laws.{end-up, end-words, end-took, end-none}
 use mathlib.Core.Path.{refl, sym}
 use native.Mathlib.Omega.{arith}
 use Rattle.lexing.proofs.Slicing.{rest-self, begin, go, on, lose}
@@ -11,7 +12,6 @@ use Rattle.lexing.proofs.AnswerLaws.{read-is, read-not, last-lost}
 use Rattle.lexing.proofs.Pairs.{three-go, three-lose, between-go}
 use Rattle.lexing.proofs.steps.Laws.{blank-at-took}
 use Rattle.lexing.proofs.words.Laws.{word-at-took, word-at-lost}
-use Rattle.lexing.proofs.names.Laws.{equals-code-on, number-at-took, number-at-lost}
 use Rattle.items.proofs.maturity.Laws.{between-took}
 
 maturity-between-requires : tie.Need-maturity-between-requires
@@ -64,16 +64,16 @@ enum-known-last c = c .match3 .keys1
 enum-told-3 : tie.Need-enum-told-3
 enum-told-3 c = c .match3 .keys2
 
-step-lost-requires-2 : tie.Need-step-lost-requires-2
-step-lost-requires-2 c κs = tt
+count-lost-requires : tie.Need-count-lost-requires
+count-lost-requires c κs = tt
 
 returns-3 : tie.Need-returns-3
 unfolding constant-entry entry-end
-returns-3 c = read-not _ refl tt (begin (constant-entry) _ _ (between-go _ _ _ _ (between-took (rest-self _ _) (c .before .before .before .before .before .before .before .before .before .before .before .before .before .before .maturity-between .ensures)) (go _ (word-at-took (c .before .before .before .before .before .before .before .before .before .before .before .name .given .1) (c .before .before .before .before .before .before .before .before .before .before .before .before .before .id-at .ensures)) (on _ (blank-at-took (c .before .before .before .before .before .before .before .before .before .blank-at .ensures)) (three-go _ _ _ _ (number-at-took (c .before .before .before .before .before .before .before .before .equals-code .ensures) equals-code-on (c .before .before .before .before .before .before .value .given .1)) (last-lost (entry-end _) (c .step-lost2 .result) (c .before .before .before .before .rest-at .ensures) (end-none _ (c .step-lost2 .ensures) (c .before .enum-told3 .given .1) (c .before .before .before .entry-end .ensures))))))))
+returns-3 c = read-not _ refl tt (begin (constant-entry) _ _ (between-go _ _ _ _ (between-took (rest-self _ _) (c .before .before .before .before .before .before .before .before .before .before .before .before .before .before .maturity-between .ensures)) (go _ (word-at-took (c .before .before .before .before .before .before .before .before .before .before .before .name .given .1) (c .before .before .before .before .before .before .before .before .before .before .before .before .before .id-at .ensures)) (on _ (blank-at-took (c .before .before .before .before .before .before .before .before .before .blank-at .ensures)) (three-go _ _ _ _ (number-at-took (c .before .before .before .before .before .before .before .before .equals-code .ensures) equals-code-on (c .before .before .before .before .before .before .value .given .1)) (last-lost (entry-end _) (c .count-lost .result) (c .before .before .before .before .rest-at .ensures) (end-none _ (c .count-lost .ensures) (c .before .enum-told3 .given .1) (c .before .before .before .entry-end .ensures))))))))
 
 returns-4 : tie.Need-returns-4
 unfolding constant-entry entry-end
-returns-4 c = read-is refl (begin (constant-entry) _ _ (between-go _ _ _ _ (between-took (rest-self _ _) (c .before .before .before .before .before .before .before .before .before .before .before .before .before .before .maturity-between .ensures)) (go _ (word-at-took (c .before .before .before .before .before .before .before .before .before .before .before .name .given .1) (c .before .before .before .before .before .before .before .before .before .before .before .before .before .id-at .ensures)) (on _ (blank-at-took (c .before .before .before .before .before .before .before .before .before .blank-at .ensures)) (three-go _ _ _ _ (number-at-took (c .before .before .before .before .before .before .before .before .equals-code .ensures) equals-code-on (c .before .before .before .before .before .before .value .given .1)) (sym ((end-took _ (c .before .before .before .before .rest-at .ensures) (c .before .last .given .1) (c .before .before .before .entry-end .ensures)) .goes))))))) (record { from = c .before .before .before .before .before .before .before .before .before .before .before .before .before .before .maturity-between .ensures .up; up = (word-at-took (c .before .before .before .before .before .before .before .before .before .before .before .name .given .1) (c .before .before .before .before .before .before .before .before .before .before .before .before .before .id-at .ensures)) .up; inside = omega (arith, (blank-at-took (c .before .before .before .before .before .before .before .before .before .blank-at .ensures)) .up, (number-at-took (c .before .before .before .before .before .before .before .before .equals-code .ensures) equals-code-on (c .before .before .before .before .before .before .value .given .1)) .up, end-up (c .before .last .given .1) (c .before .before .before .entry-end .ensures)); small = c .before .before .before .before .before .before .before .before .before .before .before .before .before .before .maturity-between .ensures .small })
+returns-4 c = read-is refl (begin (constant-entry) _ _ (between-go _ _ _ _ (between-took (rest-self _ _) (c .before .before .before .before .before .before .before .before .before .before .before .before .before .before .maturity-between .ensures)) (go _ (word-at-took (c .before .before .before .before .before .before .before .before .before .before .before .name .given .1) (c .before .before .before .before .before .before .before .before .before .before .before .before .before .id-at .ensures)) (on _ (blank-at-took (c .before .before .before .before .before .before .before .before .before .blank-at .ensures)) (three-go _ _ _ _ (number-at-took (c .before .before .before .before .before .before .before .before .equals-code .ensures) equals-code-on (c .before .before .before .before .before .before .value .given .1)) (sym ((end-took _ (c .before .before .before .before .rest-at .ensures) (c .before .last .given .1) (c .before .before .before .entry-end .ensures)) .goes))))))) (let w = end-words (c .before .before .before .before .rest-at .ensures) (c .before .last .given .1) (c .before .before .before .entry-end .ensures) in record { from = c .before .before .before .before .before .before .before .before .before .before .before .before .before .before .maturity-between .ensures .up; up = name-more (word-at-took (c .before .before .before .before .before .before .before .before .before .before .before .name .given .1) (c .before .before .before .before .before .before .before .before .before .before .before .before .before .id-at .ensures)); follows = omega (arith, (blank-at-took (c .before .before .before .before .before .before .before .before .before .blank-at .ensures)) .up, (number-at-took (c .before .before .before .before .before .before .before .before .equals-code .ensures) equals-code-on (c .before .before .before .before .before .before .value .given .1)) .up); inside = end-up (c .before .last .given .1) (c .before .before .before .entry-end .ensures); small = c .before .before .before .before .before .before .before .before .before .before .before .before .before .before .maturity-between .ensures .small; words = w .0; few = w .1 })
 
 pub constant-entry-spec : {M : Type 1} → statement M
 constant-entry-spec =
@@ -95,6 +95,6 @@ constant-entry-spec =
     entry-end-requires
     enum-known-last
     enum-told-3
-    step-lost-requires-2
+    count-lost-requires
     returns-3
     returns-4)

@@ -53,7 +53,11 @@ unfolding words-of-kind further-of-kind layout
 returns-12 c = words-at (c .match .keys12)
 
 returns-13 : tie.Need-returns-13
-returns-13 c = words-else (c .match .rest)
+unfolding words-of-kind further-of-kind layout
+returns-13 c = words-at (c .match .keys13)
+
+returns-14 : tie.Need-returns-14
+returns-14 c = words-else (c .match .rest)
 
 pub words-of-spec : {M : Type 1} → statement M
 words-of-spec =
@@ -71,4 +75,5 @@ words-of-spec =
     returns-10
     returns-11
     returns-12
-    returns-13)
+    returns-13
+    returns-14)

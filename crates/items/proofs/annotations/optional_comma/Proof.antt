@@ -1,6 +1,6 @@
 use borrow.Author.Needs.{needs}
-use Rattle.items.proofs.entries.optional_comma.Statement.{statement}
-use Rattle.items.proofs.entries.optional_comma.Tie as tie
+use Rattle.items.proofs.annotations.optional_comma.Statement.{statement}
+use Rattle.items.proofs.annotations.optional_comma.Tie as tie
 use Rattle.lexing.proofs.Dropping.{opt-skips, tag-skips}
 
 tag-requires : tie.Need-tag-requires
