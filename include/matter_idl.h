@@ -30,9 +30,9 @@ extern "C" {
 #endif
 
 /* The version of this header and of the library that it comes with. */
-#define MATTER_IDL_VERSION "0.3.0"
+#define MATTER_IDL_VERSION "0.2.0"
 #define MATTER_IDL_VERSION_MAJOR 0
-#define MATTER_IDL_VERSION_MINOR 3
+#define MATTER_IDL_VERSION_MINOR 2
 #define MATTER_IDL_VERSION_PATCH 0
 
 /* The layout of catalogue and report. This header reads catalogues of this format, and those of format 1 as they are: they

@@ -121,8 +121,7 @@ static const char *pick(uint64_t *state, const char *const *pieces, size_t count
     pick(state, (const char *const[]){__VA_ARGS__}, sizeof((const char *const[]){__VA_ARGS__}) / sizeof(const char *))
 
 static void put_blank(struct text *text, uint64_t *s) {
-    put(text, PICK(s, " ", " ", " ", "\n", "\t", "  ", "\r\n", " /* c */ ", " // c\n", "\n/** doc \xc3\xa9 */ ", "/***/", " //\xe2\x82\xac\n",
-                   "//\n", "//\r", " //\r\n", "/** doc *///\n"));
+    put(text, PICK(s, " ", " ", " ", "\n", "\t", "  ", "\r\n", " /* c */ ", " // c\n", "\n/** doc \xc3\xa9 */ ", "/***/", " //\xe2\x82\xac\n"));
 }
 
 static void put_name(struct text *text, uint64_t *s) {
@@ -141,7 +140,7 @@ static void put_maturity(struct text *text, uint64_t *s) {
 
 /* Now and then the brace is right after a line feed, where the survey cuts. */
 static void put_close(struct text *text, uint64_t *s) {
-    put(text, PICK(s, "}", "}", " }", "\n}", "\n}", "\n  }\n", "//\n}", "}//\r"));
+    put(text, PICK(s, "}", "}", " }", "\n}", "\n}", "\n  }\n"));
 }
 
 static void put_field(struct text *text, uint64_t *s) {
@@ -160,14 +159,14 @@ static void put_annotations(struct text *text, uint64_t *s) {
     for (size_t n = below(s, 4); n > 0; n--) {
         put(text, PICK(s, "name", "_1", "stable", "spec_name "));
         put(text, PICK(s, "=\"\"", " = \"Left side\"", "=\"a \\\" b\\\\\"", "=\"\xc3\xa9 // ] /*\"", "=\"\n}\"", " =\n\"\t\\\\\""));
-        put(text, PICK(s, "", ",", ", ", " , // c\n", "//\n,"));
+        put(text, PICK(s, "", ",", ", ", " , // c\n"));
     }
     put(text, "]");
 }
 
 static void put_choice(struct text *text, uint64_t *s) {
     put_maturity(text, s);
-    put(text, PICK(s, "enum ", "bitmap ", "shared enum ", "shared bitmap ", "enum//\n", "shared//\rbitmap "));
+    put(text, PICK(s, "enum ", "bitmap ", "shared enum ", "shared bitmap "));
     put_name(text, s);
     put(text, PICK(s, ":enum8{", " : bitmap32 {\n"));
     for (size_t n = below(s, 4); n > 0; n--) {
@@ -322,7 +321,7 @@ static void make_text(struct text *text, uint64_t *s) {
         put_blank(text, s);
         items[below(s, sizeof items / sizeof items[0])](text, s);
     }
-    put(text, PICK(s, "", "\n", " /* end */", "//e", "//"));
+    put(text, PICK(s, "", "\n", " /* end */", "//e"));
     if (below(s, 3) == 0)
         damage(text, s);
 }

@@ -13,13 +13,11 @@ struct known {
 static const struct known texts[] = {
     {"", ""},
     {"// nothing is declared", ""},
-    {"//", ""},
-    /* Doc comments: the last of a run; an empty one; one that a plain comment cancels, which may be empty. */
+    /* Doc comments: the last of a run; an empty one; one that a plain comment cancels. */
     {"/** About A. */ cluster A = 0xFFF1 {}", "cluster has_doc doc[ About A. ] name[A] code=65521\n"},
     {"/** No. *//** Yes. */\nenum E : enum8 {}", "enum global has_doc doc[ Yes. ] name[E] base_type[enum8]\n"},
     {"/***/ bitmap B : bitmap32 {}", "bitmap global has_doc doc[] name[B] base_type[bitmap32]\n"},
     {"/** No. */ /* Yes. */ struct S {}", "struct global name[S]\n"},
-    {"/** No. */ //\nstruct S {}", "struct global name[S]\n"},
     {"cluster A = 1 { /** a */ attribute t a = 1; /** b */ command b(): t = 2; /** c */ info event c = 3 {}\n"
      "/** e */ enum E : t {} /** s */ struct S {} }",
      "cluster name[A] code=1\n"

@@ -111,7 +111,6 @@ static void make_texts(void) {
     add_repeated("enum E:t{\n}x\n}", limit);
     add_repeated(" ", limit);
     add_repeated(" ", limit + 1);
-    add_repeated("//\n", limit);
     add_repeated("a", limit);
     add_repeated("\\\"", limit);
     add_repeated("\xe2\x82\xac", limit);

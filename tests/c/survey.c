@@ -33,9 +33,6 @@ static const struct known surveys[] = {
     /* A doc comment that is empty has an offset, which moves; one that is absent stays 0. */
     {"enum A:t{\n}/***/enum B:t{\n}", WORDS(0x0240000005000010, 0, 0x0000700001000000, 0x0248000015000010, 0x0000e00000000000, 0x0001700001000000),
      WORDS(0x000000000b000000, 0x0000b00010000000, 0x0001b00000000000)},
-    /* A bare `//` before a cut, after one and at the end. */
-    {"enum A:t{\n//\n}//\nenum B:t{\n}//", WORDS(0x0240000005000010, 0, 0x0000700001000000, 0x0240000016000010, 0, 0x0001800001000000),
-     WORDS(0x000000000e000000, 0x0000e0000e000000, 0x0001c00002000000)},
     /* Annotations: the key and the value move, an empty value too; those of a dropped type are there. */
     {"\n}enum E:t{a=1[b=\"c\"];}",
      WORDS(0x0240000007000010, 0, 0x0000900001000000, 0x040000000b000010, 1, 0x110000000f000010, 0x0001200001000000),

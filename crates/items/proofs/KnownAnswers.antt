@@ -53,8 +53,7 @@ cases =
     ("shared", refused 3 6) ∷
     ("client", refused 3 0) ∷
     ("stable endpoint 0{}", refused 3 7) ∷
-    ("//", words [] 2) ∷
-    ("enum//\nE:t{}", words (0x0240000007000010 ∷ 0 ∷ 0x0000900001000000 ∷ []) 12) ∷
+    ("//", refused 3 0) ∷
     ("struct S{t<99999999999999999999 a=1;}", refused 4 11) ∷
     []
 

@@ -7,7 +7,7 @@ use Prim.Native.Nat.{ℕ, zero, suc, ◌-◌}
 use native.Mathlib.Omega.{arith}
 use lib.Dec.{eqb}
 use lib.ListN.{length, drop}
-use Rattle.lexing.specs.bytes.{slash, star, is_letter, is_word, is_space, in_line}
+use Rattle.lexing.specs.bytes.{slash, star, is_letter, is_space, in_line}
 use Rattle.lexing.specs.runs.{take_while, take_while1, tag2}
 use Rattle.lexing.specs.reply.{Reply, ok, fail, stop, Parser, ret, ◌>>=◌, ◌>>◌, catch, opt, no_nearer, ◌or◌, prepend, many_within, many0, iter_within, iter, keep, position}
 use Rattle.lexing.specs.words.{Word, parse_id, keyword, any_keyword, tag}
@@ -146,10 +146,6 @@ calm_run f = record { runs = go }
     go b [] = tt
     go b (x ∷ u) = by b x u (f x) refl
 
-calm_while : (f : ℕ → Bool) → Calm (take_while f)
-unfolding take_while
-calm_while f = record { runs = λ b u. tt }
-
 calm_tag2 : (s t : ℕ) → Calm (tag2 s t)
 unfolding tag2
 calm_tag2 s t = record { runs = go }
@@ -164,13 +160,13 @@ calm_tag2 s t = record { runs = go }
     go b (x ∷ y ∷ u) = by b x y u (eqb x s && eqb y t) refl
 
 pub calm_id : Calm parse_id
-unfolding parse_id position
-calm_id = calm_bind (record { runs = λ b u. tt }) λ o. calm_bind (calm_run is_letter) λ v. calm_bind (calm_while is_word) λ w. calm_ret _
+unfolding parse_id position take_while
+calm_id = calm_bind (record { runs = λ b u. tt }) λ o. calm_bind (calm_run is_letter) λ v. calm_bind (record { runs = λ b u. tt }) λ w. calm_ret _
 
 -- blanks
 calm_line : Calm line_comment
 unfolding line_comment
-calm_line = calm_then (calm_tag2 slash slash) (calm_then (calm_while in_line) (calm_ret _))
+calm_line = calm_then (calm_tag2 slash slash) (calm_then (calm_run in_line) (calm_ret _))
 
 closed_runs : (b : ℕ) (v : List ℕ) (x : Until) → Runs (closed b v x)
 unfolding closed

@@ -7,7 +7,7 @@ use native.Mathlib.Omega.{arith}
 use lib.Dec.{eqb}
 use lib.ListN.{length, drop}
 use Rattle.lexing.specs.bytes.{slash, star, is_space, in_line}
-use Rattle.lexing.specs.runs.{take_while, take_while1, tag2}
+use Rattle.lexing.specs.runs.{take_while1, tag2}
 use Rattle.lexing.specs.reply.{Reply, ok, fail, stop, Parser, ret, ◌>>=◌, ◌>>◌, catch, iter_within, iter, keep}
 use Rattle.lexing.specs.blanks.{Whitespace, white, plain, doc_comment, line_comment, Until, found, never, until_close, comment_kind, closed, block_comment, multispace1, whitespace_group, Doc, no_doc, doc_at, doc_after, one_blank, whitespace0}
 use Rattle.lexing.specs.answers.{doc_of, BlankTo}
@@ -41,7 +41,7 @@ then_in {A} m k b c u h = go (m c u) refl
 
 line_in : (b : ℕ) (u : List ℕ) → GroupEnds b (line_comment b u)
 unfolding line_comment ret
-line_in b u = then_in (tag2 slash slash) (take_while in_line >> ret plain) b b u λ c r. then_in (take_while in_line) (ret plain) b c r λ d q. tt
+line_in b u = then_in (tag2 slash slash) (take_while1 in_line >> ret plain) b b u λ c r. then_in (take_while1 in_line) (ret plain) b c r λ d q. tt
 
 kind_in : (b n : ℕ) (v : List ℕ) → GroupIn b (b + (4 + n)) (comment_kind b n v)
 unfolding comment_kind

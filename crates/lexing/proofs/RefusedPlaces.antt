@@ -212,10 +212,6 @@ module _ {s : ℕ} {t : List ℕ} where
           go true e = rw (e, take_while1) tt
           go false e = rw (e, take_while1) (here b (x ∷ u) h)
 
-  placed_while : (f : ℕ → Bool) → Placed s t (take_while f)
-  unfolding take_while
-  placed_while f = record { places = λ b u h. tt }
-
   placed_tag2 : (c d : ℕ) → Placed s t (tag2 c d)
   unfolding tag2
   placed_tag2 c d = record { places = at }
@@ -321,7 +317,7 @@ module _ {s : ℕ} {t : List ℕ} where
   -- blanks
   line_in : Placed s t line_comment
   unfolding line_comment
-  line_in = placed_then (advances_onward (tag2_advances slash slash)) (placed_tag2 slash slash) (placed_last _ (placed_while in_line))
+  line_in = placed_then (advances_onward (tag2_advances slash slash)) (placed_tag2 slash slash) (placed_last _ (placed_run in_line))
 
   closed_in : (b : ℕ) (v : List ℕ) (x : Until) → InPart s t b → RefusedIn s t (closed b v x)
   unfolding closed

@@ -285,7 +285,7 @@ module _ (d : ℕ) where
   -- blanks
   shift_line : Shifts d (shift_blank d) line_comment line_comment
   unfolding line_comment shift_blank
-  shift_line = shift_then (shift_tag2 slash slash) (shift_then (shift_while in_line) (shift_ret plain plain refl))
+  shift_line = shift_then (shift_tag2 slash slash) (shift_then (shift_run in_line) (shift_ret plain plain refl))
 
   kind_shift : (b n : ℕ) (v : List ℕ) → comment_kind (d + b) n v ≡ shift_blank d (comment_kind b n v)
   unfolding comment_kind shift_blank

@@ -15,7 +15,7 @@ use Rattle.lexing.specs.strings.{Escape, allowed, forbidden, panics, string_rest
 use Rattle.lexing.specs.word_sets.{next_word, set_step, keywords_set, set_flags}
 use Rattle.lexing.proofs.Tests.{eq_of, and_left, and_right, blank_fails, digit_no_letter}
 use Rattle.lexing.proofs.Runs.{Cut, cut_tail, skip, suf_length, suf_cut, Has, cut_has, cut_has_lf, list_take_while_app, list_drop_while_app, list_drop_while_suf, list_drop_while_cut, tail_cut, list_drop_while_has}
-use Rattle.lexing.proofs.TokenRuns.{id_nil, id_yes, id_no, digits_nil, digits_yes, digits_no, space_nil, space_yes, space_no, line_nil, line_one, line_first, line_is, line_no, is_hex_front, hex_nil, hex_one, hex_other, hex_two, hex_yes, hex_else}
+use Rattle.lexing.proofs.TokenRuns.{id_nil, id_yes, id_no, digits_nil, digits_yes, digits_no, space_nil, space_yes, space_no, line_text, line_nil, line_one, line_first, line_is, line_no, text_yes, text_no, is_hex_front, hex_nil, hex_one, hex_other, hex_two, hex_yes, hex_else}
 use Rattle.lexing.proofs.Onward.{Reads, Advances, parse_id_advances, tag_advances, integer_advances, signed_advances, group_advances, string_advances}
 use Rattle.lexing.proofs.Shift.{shift_reply, Shifts, shift_parse_id, shift_integer, shift_signed, shift_group, shift_string}
 use Rattle.lexing.proofs.Chain.{dead, goes, following, any_escape, token, next, here, go_r, Clean, not_dead, Moves, CutRest, Shorter, ext, to_suf}
@@ -379,11 +379,30 @@ signed_keeps = record { keeps = signed_cut }
 pub signed_local : Local signed_integer
 signed_local = record { on_chain = signed_chain; local = λ k b u s c d. signed_ext b u s d }
 
--- line comments: a text that ends at a cut does not end in `//`, and each line comment in it, a bare one too, ends before its last line feed
+-- line comments: in a cut text they end before the last line feed
 line_has : (x y : ℕ) (u : List ℕ) → (eqb x slash && eqb y slash) ≡ true → Cut (x ∷ y ∷ u) → Has in_line u
 line_has x y [] e c = let q : ◌≡◌ {A = ℕ} slash 10 = sym (eq_of x slash (and_left (eqb x slash) (eqb y slash) e)) ∙ c.0 in absurd (omega arith)
 line_has x y (z ∷ []) e c = let q : ◌≡◌ {A = ℕ} slash 10 = sym (eq_of y slash (and_right (eqb x slash) (eqb y slash) e)) ∙ c.0 in absurd (omega arith)
 line_has x y (z ∷ v ∷ w) e c = cut_has_lf in_line in_line_10 z v w c
+
+text_cut : (b x y : ℕ) (u : List ℕ) → Has in_line u → Cut (x ∷ y ∷ u) → CutRest (line_text b u)
+text_cut b x y [] h c = absurd h
+text_cut b x y (z ∷ u) h c = go (in_line z) refl
+  where
+    go : (t : Bool) → in_line z ≡ t → CutRest (line_text b (z ∷ u))
+    go true e =
+        let p = list_drop_while_has in_line (z ∷ u) h in
+        rw (text_yes b z u e) (rw p.1.1 (suf_cut p.0 p.1.0 (skip x (skip y (rw p.1.1 at (list_drop_while_suf in_line (z ∷ u))))) c))
+    go false e = rw (text_no b z u e) tt
+
+text_ext : (b : ℕ) (u s : List ℕ) → Has in_line u → line_text b (u ++ s) ≡ ext s (line_text b u)
+unfolding ext
+text_ext b [] s h = absurd h
+text_ext b (z ∷ u) s h = go (in_line z) refl
+  where
+    go : (t : Bool) → in_line z ≡ t → line_text b (z ∷ (u ++ s)) ≡ ext s (line_text b (z ∷ u))
+    go true e = rw (text_yes b z (u ++ s) e, text_yes b z u e) (rw (list_take_while_app in_line (z ∷ u) s h, list_drop_while_app in_line (z ∷ u) s h))
+    go false e = rw (text_no b z (u ++ s) e, text_no b z u e)
 
 line_cut : (b : ℕ) (u : List ℕ) → Cut u → CutRest (line_comment b u)
 line_cut b [] c = absurd c
@@ -391,9 +410,7 @@ line_cut b (x ∷ []) c = rw (line_one b x) tt
 line_cut b (x ∷ y ∷ u) c = go (eqb x slash && eqb y slash) refl
   where
     go : (t : Bool) → (eqb x slash && eqb y slash) ≡ t → CutRest (line_comment b (x ∷ y ∷ u))
-    go true e =
-        let p = list_drop_while_has in_line u (line_has x y u e c) in
-        rw (line_is b x y u e) (rw p.1.1 (suf_cut p.0 p.1.0 (skip x (skip y (rw p.1.1 at (list_drop_while_suf in_line u)))) c))
+    go true e = rw (line_is b x y u e) (text_cut (b + 2) x y u (line_has x y u e c) c)
     go false e = rw (line_no b x y u e) tt
 
 line_ext : (b : ℕ) (u s : List ℕ) → Cut u → line_comment b (u ++ s) ≡ ext s (line_comment b u)
@@ -403,7 +420,7 @@ line_ext b (x ∷ []) s c = let e : eqb x slash ≡ false = ap (λ y. eqb y slas
 line_ext b (x ∷ y ∷ u) s c = go (eqb x slash && eqb y slash) refl
   where
     go : (t : Bool) → (eqb x slash && eqb y slash) ≡ t → line_comment b (x ∷ y ∷ (u ++ s)) ≡ ext s (line_comment b (x ∷ y ∷ u))
-    go true e = let h = line_has x y u e c in rw (line_is b x y (u ++ s) e, line_is b x y u e) (rw (list_take_while_app in_line u s h, list_drop_while_app in_line u s h))
+    go true e = rw (line_is b x y (u ++ s) e, line_is b x y u e) (text_ext (b + 2) u s (line_has x y u e c))
     go false e = rw (line_no b x y (u ++ s) e, line_no b x y u e)
 
 -- block comments: one that is closed stays so

@@ -11,7 +11,7 @@ use Rattle.lexing.specs.runs.{take_while, take_while1, tag2}
 use Rattle.lexing.specs.reply.{ok, fail, Parser, ret, ◌>>=◌, ◌>>◌, catch, position}
 use Rattle.lexing.specs.words.{word, parse_id}
 use Rattle.lexing.specs.integers.{fitting, hex_integer, decimal_integer}
-use Rattle.lexing.specs.blanks.{white, plain, line_comment, multispace1}
+use Rattle.lexing.specs.blanks.{Whitespace, white, plain, line_comment, multispace1}
 use Rattle.lexing.proofs.Tests.{and_left, and_right, letter_word}
 
 -- a run of at least one byte
@@ -105,7 +105,10 @@ module _ (s t b : ℕ) where
   unfolding tag2
   tag2_no x y u e = rw (e, tag2)
 
--- a line comment: two slashes, and what is after them in the line
+-- a line comment: two slashes, and what is after them
+abbrev pub line_text : Parser Whitespace
+line_text = take_while1 in_line >> ret plain
+
 pub line_nil : (b : ℕ) → line_comment b [] ≡ fail b
 unfolding line_comment tag2 ◌>>◌ ◌>>=◌
 line_nil b = refl
@@ -119,13 +122,26 @@ unfolding line_comment tag2 ◌>>◌ ◌>>=◌
 line_one b x = refl
 
 module _ (b x y : ℕ) (u : List ℕ) where
-  pub line_is : (eqb x slash && eqb y slash) ≡ true → line_comment b (x ∷ y ∷ u) ≡ ok plain (b + 2 + length (list_take_while in_line u)) (list_drop_while in_line u)
-  unfolding line_comment take_while ◌>>◌ ◌>>=◌ ret
+  pub line_is : (eqb x slash && eqb y slash) ≡ true → line_comment b (x ∷ y ∷ u) ≡ line_text (b + 2) u
+  unfolding line_comment ◌>>◌ ◌>>=◌
   line_is e = rw (tag2_yes slash slash b x y u e, line_comment, ◌>>◌, ◌>>=◌)
 
   pub line_no : (eqb x slash && eqb y slash) ≡ false → line_comment b (x ∷ y ∷ u) ≡ fail b
   unfolding line_comment ◌>>◌ ◌>>=◌
   line_no e = rw (tag2_no slash slash b x y u e, line_comment, ◌>>◌, ◌>>=◌)
+
+pub text_nil : (b : ℕ) → line_text b [] ≡ fail b
+unfolding take_while1 ◌>>◌ ◌>>=◌
+text_nil b = refl
+
+module _ (b x : ℕ) (u : List ℕ) where
+  pub text_yes : in_line x ≡ true → line_text b (x ∷ u) ≡ ok plain (b + length (list_take_while in_line (x ∷ u))) (list_drop_while in_line (x ∷ u))
+  unfolding ◌>>◌ ◌>>=◌ ret
+  text_yes e = rw (run_yes in_line b x u e, ◌>>◌, ◌>>=◌)
+
+  pub text_no : in_line x ≡ false → line_text b (x ∷ u) ≡ fail b
+  unfolding ◌>>◌ ◌>>=◌
+  text_no e = rw (run_no in_line b x u e, ◌>>◌, ◌>>=◌)
 
 -- hexadecimal integers, by the first bytes
 abbrev is_mark : ℕ → ℕ → Bool

@@ -1,7 +1,7 @@
 -- Blanks: white space and comments.
 use Rattle.std.specs.Prelude.{ℕ, zero, suc, ◌+◌, true, false, ◌&&◌, List, [], ◌∷◌, eqb}
 use Rattle.lexing.specs.bytes.{slash, star, is_space, in_line}
-use Rattle.lexing.specs.runs.{take_while, take_while1, tag2}
+use Rattle.lexing.specs.runs.{take_while1, tag2}
 use Rattle.lexing.specs.reply.{Reply, ok, fail, Parser, ret, ◌>>=◌, ◌>>◌, catch, iter, keep, position, fail_at, pick}
 
 -- one blank, as the Rust's `Whitespace`: white space, a comment that is no doc comment, or a doc comment's text, its offset and length
@@ -9,11 +9,11 @@ pub data Whitespace : Type 0 where
   white plain : Whitespace
   doc_comment : ℕ → ℕ → Whitespace
 
--- `preceded(tag("//"), is_not("\n\r"))`, but a line comment may have no text (document 02, L2)
+-- `preceded(tag("//"), is_not("\n\r"))`: a line comment has at least one byte
 unfoldable pub line_comment : Parser Whitespace
 line_comment = do
   tag2 slash slash
-  take_while in_line
+  take_while1 in_line
   ret plain
 
 -- `take_until("*/")` with the `*/` after it: how many bytes are before, and the rest

@@ -127,8 +127,11 @@ fn comment_group(part: &[u8], base: usize) -> Group
 {
     let y = peek(part, 1);
     if y == b'/' {
-        let size = 2 + line_length(after(part, 2));
-        return Group::Plain(size);
+        let n = line_length(after(part, 2));
+        if 0 < n {
+            return Group::Plain(2 + n);
+        }
+        return Group::Nothing;
     }
     if y != b'*' {
         return Group::Nothing;

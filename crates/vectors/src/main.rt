@@ -188,7 +188,7 @@ fn replay_lines(input: &[u8]) {
 }
 
 fn main() {
-    let mut input = [0u8; 655360];
+    let mut input = [0u8; 524288];
     let n = io::read_full(0, &mut input);
     replay_lines(&input[..n]);
 }

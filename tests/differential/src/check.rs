@@ -1,8 +1,7 @@
 //! The answer that document 01's table gives for what the Rust says of a text, and the checks of it.
-use crate::bare::{outside, Filled};
 use crate::catalogue::{decode, encode, Kind, Record, Span, Value};
 use crate::locate::{hoist, locate, read};
-use crate::outcome::{rust_outcome, Outcome, LIMIT};
+use crate::outcome::{rust_outcome, Outcome};
 use crate::tree::tree;
 use std::fmt;
 
@@ -24,31 +23,6 @@ impl fmt::Display for Answer {
 
 /// The answer for a text, or a disagreement between the Rust and `locate`.
 pub fn answer(text: &[u8]) -> Result<Answer, String> {
-    if outside(text) {
-        answer_outside(text)
-    } else {
-        agreed(text)
-    }
-}
-
-/// The locator's answer for a text outside the Rust's domain; moved, it is the Rust's for the filled text, if that is within the limit.
-fn answer_outside(text: &[u8]) -> Result<Answer, String> {
-    let filled = Filled::of(text);
-    let (found, moved) = match locate(text) {
-        Ok(records) => (Answer::Words(encode(&records)), Answer::Words(encode(&filled.records(records)))),
-        Err((number, place)) => (Answer::Refused(number, place), Answer::Refused(number, filled.place(place))),
-    };
-    if filled.text.len() > LIMIT {
-        return Ok(found);
-    }
-    match agreed(&filled.text)? {
-        rust if rust == moved => Ok(found),
-        rust => Err(format!("locate {found:?}\nwith bare comments filled {rust:?}")),
-    }
-}
-
-/// The Rust's answer, the same as the locator's.
-fn agreed(text: &[u8]) -> Result<Answer, String> {
     let rust = rust_outcome(text);
     if let Outcome::Refused(number @ 1..=2, place) = rust {
         return Ok(Answer::Refused(number, place));
@@ -72,10 +46,8 @@ fn agreed(text: &[u8]) -> Result<Answer, String> {
     }
 }
 
-/// The place of a panic, tested by the Rust alone, with bare comments filled: the shortest front of the text on which the Rust panics so ends where document 01 puts the cause.
+/// The place of a panic, tested by the Rust alone: the shortest front of the text on which the Rust panics so ends where document 01 puts the cause.
 pub fn check_panic(text: &[u8], number: u64, place: usize) -> Result<(), String> {
-    let filled = Filled::of(text);
-    let (text, place) = (&filled.text, filled.place(place));
     let panics = |end: &usize| rust_outcome(&text[..*end]) == Outcome::Panicked(number);
     let end = (0..=text.len()).find(panics).ok_or("no front panics")?;
     let fits = match number {
@@ -95,11 +67,10 @@ pub fn check_panic(text: &[u8], number: u64, place: usize) -> Result<(), String>
 }
 
 /// The spans of a text's records, tested by the Rust alone: another word put at a span changes the Rust's tree at that span's part and nowhere else;
-/// at an annotation's, nowhere. A dropped type is first renamed, so that the Rust shows it, and bare comments are filled, so that the Rust reads on.
+/// at an annotation's, nowhere. A dropped type is first renamed, so that the Rust shows it.
 pub fn check_spans(text: &[u8]) -> Result<(), String> {
-    let text = Filled::of(text).text;
-    match read(&text) {
-        Ok(records) => check_spans_of(records, &text),
+    match read(text) {
+        Ok(records) => check_spans_of(records, text),
         Err(_) => Ok(()),
     }
 }

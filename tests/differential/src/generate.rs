@@ -1,5 +1,5 @@
 //! Texts from one seed: from the grammar, damaged, exhaustively short, and the Rust's own examples.
-pub use crate::grammar::{annotated, bare, from_grammar, Grammar};
+pub use crate::grammar::{annotated, from_grammar, Grammar};
 
 /// splitmix64.
 #[derive(Clone)]

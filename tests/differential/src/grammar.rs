@@ -5,11 +5,6 @@ const BLANKS: [&str; 20] = [
     " ", " ", " ", "\n", "\t", "\r\n", "  ", "\n\n    ", "/**/", "/* a */", "/** d */", "/***/", "// c\n", "//x\r\n", "/*/*/",
     "/** \u{e9}\u{20ac} */", "/*** x **/", "///\n", "/**e*/", "/* \u{1f600} */",
 ];
-/// Blanks of which many are line comments of no text.
-const BARE_BLANKS: [&str; 14] = [
-    " ", "\n", "//\n", "//\n", "//\r", "//\r\n", "//\n//\n", "  //\n  //\n  ", "// c\n", "///\n", "/**/", "/** d */", "/**e*///\n",
-    "//\n/** f */",
-];
 const NAMES: [&str; 16] = [
     "a", "b", "E", "S", "kOne", "_", "_1", "x9", "LongName_0123456789", "stable", "shared", "access", "default", "optional", "read", "type",
 ];
@@ -46,7 +41,6 @@ pub struct Grammar<'a> {
     pub out: String,
     /// Blanks where they are free: one in so many.
     blanks: usize,
-    blank_pieces: &'static [&'static str],
     /// Keywords in other cases, integers and strings that refuse: one in so many.
     odd: usize,
     /// The fewest and the most parts of anything.
@@ -60,7 +54,7 @@ impl<'a> Grammar<'a> {
         let blanks = *random.pick(&[&1000, &8, &3, &1]);
         let odd = *random.pick(&[&1000, &100, &20]);
         let parts = *random.pick(&[&1, &2, &2, &4]);
-        Grammar { random, out: String::new(), blanks, blank_pieces: &BLANKS, odd, fewest: 0, parts, lists: &FEW }
+        Grammar { random, out: String::new(), blanks, odd, fewest: 0, parts, lists: &FEW }
     }
 
     /// One item, mostly without blanks that are free.
@@ -68,7 +62,7 @@ impl<'a> Grammar<'a> {
         let blanks = *random.pick(&[&1000, &1000, &8]);
         let odd = *random.pick(&[&1000, &20]);
         let fewest = *random.pick(&[&0, &1, &1]);
-        let mut grammar = Grammar { random, out: String::new(), blanks, blank_pieces: &BLANKS, odd, fewest, parts: 1, lists: &FEW };
+        let mut grammar = Grammar { random, out: String::new(), blanks, odd, fewest, parts: 1, lists: &FEW };
         match grammar.random.below(8) {
             0..=3 => grammar.cluster(),
             4..=5 => grammar.endpoint(),
@@ -92,9 +86,9 @@ impl<'a> Grammar<'a> {
     }
 
     fn blank(&mut self) {
-        self.pick(if self.blanks > 100 { &BLANKS[..1] } else { self.blank_pieces });
+        self.pick(if self.blanks > 100 { &BLANKS[..1] } else { &BLANKS });
         while self.chance(self.blanks + 2) {
-            self.pick(self.blank_pieces);
+            self.pick(&BLANKS);
         }
     }
 
@@ -215,16 +209,6 @@ impl<'a> Grammar<'a> {
         self.several(|g| g.enumeration(top));
         self.put(if top { "" } else { "}" });
         self.out.into_bytes()
-    }
-
-    /// Any text, with line comments of no text.
-    pub fn bare(mut self) -> Vec<u8> {
-        self.blanks = *self.random.pick(&[&8, &3, &1]);
-        self.blank_pieces = &BARE_BLANKS;
-        let end = self.random.pick(&["", "", "//", "\n//", "//\r"]);
-        let mut text = self.text();
-        text.extend(end.bytes());
-        text
     }
 
     fn bare_type(&mut self) {
@@ -552,8 +536,4 @@ pub fn from_grammar(random: &mut Random) -> Vec<u8> {
 
 pub fn annotated(random: &mut Random) -> Vec<u8> {
     Grammar::new(random).annotated()
-}
-
-pub fn bare(random: &mut Random) -> Vec<u8> {
-    Grammar::new(random).bare()
 }

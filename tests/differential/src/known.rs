@@ -1,4 +1,4 @@
-//! Document 01's cases, the inputs of SEMANTICS.md and those of requests L1 and L2, with the answers that the papers give.
+//! Document 01's cases, the inputs of SEMANTICS.md and those of request L1, with the answers that the papers give.
 use crate::catalogue::{decode, Kind, Record, Span, Value};
 use crate::check::{answer, Answer};
 
@@ -8,13 +8,11 @@ pub enum Claim {
     Words(&'static [u64]),
     /// All the words after those of the first record, an enum's or a bitmap's.
     Entries(&'static [u64]),
-    /// How many bytes its catalogue has.
-    Bytes(usize),
     /// What the paper says of the accepted text's records.
     Accepted(fn(&[Record]) -> bool),
 }
 
-use Claim::{Accepted, Bytes, Entries, Refused, Words};
+use Claim::{Accepted, Entries, Refused, Words};
 
 /// The papers' short forms: C{ and P.
 fn long(text: &str) -> Vec<u8> {
@@ -44,9 +42,9 @@ fn places(records: &[Record]) -> Vec<u64> {
 const CASES: [(&str, Claim); 30] = [
     // The lister's example.
     ("enum E:t{}", Words(&[0x0240000005000010, 0, 0x0000700001000000])),
-    // Case 1, with document 02's L2.
+    // Case 1.
     ("", Words(&[])),
-    ("//", Words(&[])),
+    ("//", Refused(3, 0)),
     ("//a", Words(&[])),
     // Case 2.
     ("/**/enum E:t{}", Words(&[0x0240000009000010, 0, 0x0000b00001000000])),
@@ -97,9 +95,10 @@ const CASES: [(&str, Claim); 30] = [
     ("C{attribute t a=1;}", Accepted(|r| r[1].kind == Kind::Attribute { flags: [false; 4], read: 0, write: 1 })),
 ];
 
-/// SEMANTICS.md but for a bare `//`, and what follows from its sentences at once.
-const SEMANTICS: [(&str, Claim); 75] = [
+/// SEMANTICS.md, and what follows from its sentences at once.
+const SEMANTICS: [(&str, Claim); 76] = [
     // Blanks.
+    ("//\r\nenum E:t{}", Refused(3, 0)),
     ("/*/", Refused(3, 0)),
     ("/*/*/", Words(&[])),
     ("\u{c}enum E:t{}", Refused(3, 0)),
@@ -245,80 +244,28 @@ const ANNOTATIONS: [(&str, Claim); 24] = [
     ("C{shared enum E:t{a=1[b=\"\"];}shared enum F:t{}}", Accepted(|r| places(r) == [1, 1])),
 ];
 
-/// Document 02's request L2: `//` directly before CR, LF or the end is a comment of no text.
-const BARE: [(&str, Claim); 40] = [
-    // A blank, before LF, CR and the end.
-    ("//\n", Words(&[])),
-    ("//\r", Words(&[])),
-    ("//\r\n", Words(&[])),
-    ("//\r\nenum E:t{}", Words(&[0x0240000009000010, 0, 0x0000b00001000000])),
-    ("enum E:t{}//", Bytes(24)),
-    ("enum E:t{ //\n}", Bytes(24)),
-    ("//\n//\n//", Words(&[])),
-    ("////", Words(&[])),
-    ("///", Words(&[])),
-    ("/", Refused(3, 0)),
-    ("/\n/", Refused(3, 0)),
-    ("//\0", Words(&[])),
-    ("//\u{c}\n", Words(&[])),
-    ("//}\n", Words(&[])),
-    // Where a blank is owed, and where a refusal is after it.
-    ("enum//\nE:t{}", Words(&[0x0240000007000010, 0, 0x0000900001000000])),
-    ("enum//E:t{}", Refused(3, 11)),
-    ("enum E:t{}//\n?", Refused(3, 13)),
-    ("?//", Refused(3, 0)),
-    // Doc comments.
-    ("/**d*///\nenum E:t{}", Accepted(|r| r.len() == 1 && r[0].doc.is_none())),
-    ("/**d*/ // \nenum E:t{}", Accepted(|r| r.len() == 1 && r[0].doc.is_none())),
-    ("//\n/**d*/enum E:t{}", Accepted(|r| r.len() == 1 && r[0].doc == Some(Span { at: 6, len: 1 }))),
-    ("/**c*///\n/**d*/enum E:t{}", Accepted(|r| r.len() == 1 && r[0].doc == Some(Span { at: 12, len: 1 }))),
-    // In every part.
-    ("stable//\nenum E:t{}", Bytes(24)),
-    ("shared//\nenum E:t{}", Bytes(24)),
-    ("enum E:t{a//\n=//\n1//\n;//\n}", Entries(&[0x0400000009000010, 1])),
-    ("enum E:t{a=1[//\nb=\"c\"//\n,//\n];}", Entries(&[0x0400000009000010, 1, 0x1100000010000010, 0x0001300001000000])),
-    ("enum E:t{a=1[b=\"//\n\"];}", Entries(&[0x0400000009000010, 1, 0x110000000d000010, 0x0001000003000000])),
-    ("enum E:t{a=99999999999999999999//\n", Refused(4, 11)),
-    ("enum E:t{//\na=99999999999999999999;}", Refused(4, 14)),
-    ("/*//\n*/", Words(&[])),
-    ("//*\n*/", Refused(3, 4)),
-    ("/*\n//*/", Words(&[])),
-    ("C{//\nrevision 2;}", Accepted(|r| r.len() == 1 && r[0].kind == Kind::Cluster { code: 1, revision: 2 })),
-    ("C{optional//\n}", Refused(3, 12)),
-    ("C{/**d*///\nattribute t a=1;}", Accepted(|r| r.len() == 3 && r[1].doc.is_none())),
-    ("C{readonly//\nattribute t a=1;}", Bytes(80)),
-    ("struct S{optional//\nnullable t a=1;}", Bytes(56)),
-    ("endpoint 0{//\n}", Bytes(16)),
-    ("P default=//\n1;}}", Accepted(|r| default(r, Value::Number(1)))),
-    ("P default=\"//\n\";}}", Accepted(|r| default(r, Value::Text(Span { at: 53, len: 3 })))),
-];
-
-/// Inputs that are not UTF-8: SEMANTICS.md's and L2's.
-const NOT_UTF8: [(&[u8], Claim); 2] = [(b"endpoint 99999999999999999999\xff", Refused(2, 29)), (b"//\xff", Refused(2, 2))];
+/// The one input that is not UTF-8.
+const NOT_UTF8: &[u8] = b"endpoint 99999999999999999999\xff";
 
 /// Of document 01 and SEMANTICS.md.
 pub fn papers() -> Vec<Vec<u8>> {
-    let all = CASES.iter().chain(&SEMANTICS).map(|(text, _)| long(text));
-    all.chain(NOT_UTF8.iter().map(|(text, _)| text.to_vec())).collect()
+    let mut all: Vec<_> = CASES.iter().chain(&SEMANTICS).map(|(text, _)| long(text)).collect();
+    all.push(NOT_UTF8.into());
+    all
 }
 
 pub fn annotations() -> Vec<Vec<u8>> {
     ANNOTATIONS.iter().map(|(text, _)| long(text)).collect()
 }
 
-pub fn bare() -> Vec<Vec<u8>> {
-    BARE.iter().map(|(text, _)| long(text)).collect()
-}
-
 pub fn texts() -> Vec<Vec<u8>> {
-    [papers(), annotations(), bare()].concat()
+    [papers(), annotations()].concat()
 }
 
 fn holds(claim: &Claim, answer: &Answer) -> bool {
     match (claim, answer) {
         (Refused(number, place), Answer::Refused(n, p)) => number == n && place == p,
         (Words(words), Answer::Words(found)) => words == found,
-        (Bytes(bytes), Answer::Words(found)) => *bytes == found.len() * 8,
         (Entries(words), Answer::Words(found)) => found.get(3..) == Some(*words),
         (Accepted(says), Answer::Words(found)) => decode(found).is_ok_and(|records| says(&records)),
         _ => false,
@@ -328,15 +275,16 @@ fn holds(claim: &Claim, answer: &Answer) -> bool {
 /// Prints every claim that doesn't hold of the Rust's answer, and a count; returns how many don't.
 pub fn check() -> usize {
     let mut wrong = 0;
-    let texts = CASES.iter().chain(&SEMANTICS).chain(&ANNOTATIONS).chain(&BARE).map(|(text, claim)| (long(text), claim));
-    let claims: Vec<_> = texts.chain(NOT_UTF8.iter().map(|(text, claim)| (text.to_vec(), claim))).collect();
-    for (text, claim) in &claims {
+    let last = (String::new(), NOT_UTF8.to_vec(), &Refused(2, 29));
+    let claims = CASES.iter().chain(&SEMANTICS).chain(&ANNOTATIONS).map(|(text, claim)| (text.to_string(), long(text), claim));
+    let claims: Vec<_> = claims.chain([last]).collect();
+    for (short, text, claim) in &claims {
         let found = answer(text);
         if !found.as_ref().is_ok_and(|answer| holds(claim, answer)) {
             wrong += 1;
-            println!("not as the paper says: \"{}\": {found:?}", text.escape_ascii());
+            println!("not as the paper says: {short:?}: {found:?}");
         }
     }
-    println!("{} texts of document 01, SEMANTICS.md and requests L1 and L2, {wrong} not as the paper says", claims.len());
+    println!("{} texts of document 01, SEMANTICS.md and request L1, {wrong} not as the paper says", claims.len());
     wrong
 }

@@ -1,9 +1,9 @@
-//! A plain reader with offsets, after document 01's text, document 02's requests and the order of the Rust's tries.
+//! A plain reader with offsets, after document 01's text and the order of the Rust's tries.
 //!
 //! The Rust's tree holds strings without offsets, parts of different kinds in lists of their own, no dropped types, and nothing after a panic.
 //! Those are found here. What both tell (tree, number, place of a 3) is compared for every text; `check` also tests the spans by the Rust.
 use crate::catalogue::{Kind, Record, Span, Value, RESPONSE, SHARED};
-use std::collections::{BTreeSet, HashSet};
+use std::collections::HashSet;
 
 #[derive(Debug, PartialEq)]
 pub enum Halt {
@@ -22,8 +22,6 @@ struct Reader<'a> {
     text: &'a [u8],
     at: usize,
     records: Vec<Record>,
-    /// Where line comments of no text end.
-    bare: BTreeSet<usize>,
 }
 
 /// The records of a text, or the number and place of its refusal. The text is UTF-8 and within the limit.
@@ -35,22 +33,16 @@ pub fn locate(text: &[u8]) -> Result<Vec<Record>, (u64, usize)> {
 
 /// The records before hoisting: the place is TOP for types at the top level, else 0.
 pub fn read(text: &[u8]) -> Result<Vec<Record>, (u64, usize)> {
-    let mut reader = Reader::new(text);
-    reader.items().map_err(refusal)?;
+    let mut reader = Reader { text, at: 0, records: Vec::new() };
+    while reader.at < text.len() {
+        reader.item().map_err(refusal)?;
+    }
     Ok(reader.records)
-}
-
-/// Where the line comments of no text that are read as blanks end.
-pub fn bare_comments(text: &[u8]) -> Vec<usize> {
-    let mut reader = Reader::new(text);
-    // Also those before a refusal.
-    let _ = reader.items();
-    reader.bare.into_iter().collect()
 }
 
 /// The first item: its records, with place 1 for a type at the top level and else 0, and the offset after it.
 pub fn first_item(text: &[u8]) -> Result<(Vec<Record>, usize), (u64, usize)> {
-    let mut reader = Reader::new(text);
+    let mut reader = Reader { text, at: 0, records: Vec::new() };
     reader.item().map_err(refusal)?;
     reader.records.iter_mut().for_each(|r| r.place = r.place.min(1));
     Ok((reader.records, reader.at))
@@ -113,17 +105,6 @@ const FORMS: [&str; 3] = ["request", "response", "shared"];
 
 // How steps are put together.
 impl<'a> Reader<'a> {
-    fn new(text: &'a [u8]) -> Self {
-        Reader { text, at: 0, records: Vec::new(), bare: BTreeSet::new() }
-    }
-
-    fn items(&mut self) -> Step<()> {
-        while self.at < self.text.len() {
-            self.item()?;
-        }
-        Ok(())
-    }
-
     fn fail<T>(&self) -> Step<T> {
         Err(Halt::Failed(self.at))
     }
@@ -208,11 +189,11 @@ impl<'a> Reader<'a> {
             let rest = self.rest();
             if rest.starts_with(b"//") {
                 let len = rest.iter().position(|&c| c == b'\n' || c == b'\r').unwrap_or(rest.len());
+                if len == 2 {
+                    return doc;
+                }
                 doc = None;
                 self.at += len;
-                if len == 2 {
-                    self.bare.insert(self.at);
-                }
             } else if rest.starts_with(b"/*") {
                 let Some(len) = rest[2..].windows(2).position(|w| w == b"*/") else { return doc };
                 doc = Some(Span { at: self.at + 3, len: len.wrapping_sub(1) }).filter(|_| len > 0 && rest[2] == b'*');

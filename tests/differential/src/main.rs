@@ -1,5 +1,4 @@
 //! The Rust beside this repository's reader: see README.md.
-mod bare;
 mod catalogue;
 mod check;
 mod generate;

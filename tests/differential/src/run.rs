@@ -1,5 +1,4 @@
 //! Every text of a seed, checked or compared, with figures.
-use crate::bare::outside;
 use crate::check::{answer, check_panic, check_spans, Answer};
 use crate::generate::*;
 use crate::known;
@@ -11,7 +10,7 @@ use std::collections::{BTreeMap, HashSet};
 use std::path::Path;
 
 /// Calls `f` with the group and the text of every text of a seed: `count` texts from the grammar and three times as many damaged ones,
-/// `count` with many annotations, `count` with bare comments; from a thousand on, also long ones.
+/// `count` with many annotations; from a thousand on, also long ones.
 pub fn each_text(seed: u64, count: usize, f: &mut dyn FnMut(&'static str, &[u8])) {
     for known in known::texts() {
         f("known", &known);
@@ -40,8 +39,7 @@ pub fn each_text(seed: u64, count: usize, f: &mut dyn FnMut(&'static str, &[u8])
         }
         other = text;
     }
-    each_of("annotated", annotated, &mut random, count / 2, f);
-    each_of("bare", bare, &mut random, count / 2, f);
+    each_annotated(&mut random, count / 2, f);
     if count < 1_000 {
         return;
     }
@@ -55,19 +53,13 @@ pub fn each_text(seed: u64, count: usize, f: &mut dyn FnMut(&'static str, &[u8])
     }
 }
 
-/// Texts of a group, each as it is made and damaged.
-fn each_of(
-    group: &'static str,
-    make: fn(&mut Random) -> Vec<u8>,
-    random: &mut Random,
-    count: usize,
-    f: &mut dyn FnMut(&'static str, &[u8]),
-) {
+/// Texts with many annotations, each sound (but for lists that fail) and damaged.
+fn each_annotated(random: &mut Random, count: usize, f: &mut dyn FnMut(&'static str, &[u8])) {
     let mut other = Vec::new();
     for _ in 0..count {
-        let text = make(random);
-        f(group, &text);
-        f(group, &damaged(random, &text, &other));
+        let text = annotated(random);
+        f("annotated", &text);
+        f("annotated", &damaged(random, &text, &other));
         other = text;
     }
 }
@@ -109,30 +101,26 @@ fn rust_examples() -> Vec<Vec<u8>> {
     all
 }
 
-/// Figures by group and answer, and how many are outside the Rust's domain.
+/// Figures by group and answer.
 #[derive(Default)]
-struct Figures {
-    answers: BTreeMap<(&'static str, String), usize>,
-    outside: usize,
-}
+struct Figures(BTreeMap<(&'static str, String), usize>);
 
 impl Figures {
-    fn count(&mut self, group: &'static str, text: &[u8], answer: &Answer) {
+    fn count(&mut self, group: &'static str, answer: &Answer) {
         let key = match answer {
             Answer::Words(_) => "accepted".into(),
             Answer::Refused(number, _) => format!("refused {number}"),
         };
-        *self.answers.entry((group, key)).or_default() += 1;
-        self.outside += outside(text) as usize;
+        *self.0.entry((group, key)).or_default() += 1;
     }
 
     fn print(&self) {
         let mut total = 0;
-        for ((group, answer), n) in &self.answers {
+        for ((group, answer), n) in &self.0 {
             println!("{group:10} {answer:10} {n:9}");
             total += n;
         }
-        println!("{total} texts, {} of them outside the Rust's domain and compared with bare comments filled", self.outside);
+        println!("{total} texts");
     }
 }
 
@@ -170,7 +158,7 @@ pub fn check(seed: u64, count: usize) -> usize {
             Ok(answer) => answer,
             Err(_) => return disagreements.look(text, &|t| answer(t).err()),
         };
-        figures.count(group, text, &answer);
+        figures.count(group, &answer);
         match answer {
             Answer::Refused(4..=6, _) if text.len() < 2_000 && (turn % 4 == 0 || group == "known") => {
                 panics += 1;
@@ -218,7 +206,7 @@ pub fn compare(reader: &mut dyn Reader, seed: u64, count: usize, every: usize) -
             return;
         }
         if let Ok(answer) = answer(text) {
-            figures.count(group, text, &answer);
+            figures.count(group, &answer);
         }
         disagreements.look(text, &differs);
     });

@@ -156,7 +156,7 @@ pub fn stored(seed: u64) -> Vec<Vec<u8>> {
             all.push(text);
         }
     }
-    all.extend(ANNOTATED.iter().chain(&BARE).map(|text| text.as_bytes().to_vec()));
+    all.extend(ANNOTATED.map(|text| text.as_bytes().to_vec()));
     all
 }
 
@@ -171,21 +171,11 @@ const ANNOTATED: [&str; 6] = [
     "cluster C=1{shared enum E:t{a=1[b=\"\"];}shared enum F:t{}\n}",
 ];
 
-/// A bare `//` before a cut, after one and at the end; a refusal after one; one that cancels a doc comment in its own section.
-const BARE: [&str; 6] = [
-    "enum A:t{\n//\n}//\nenum B:t{\n}//",
-    "//\n}//\r\n}//\n",
-    "//}\n}//",
-    "enum A:t{//\na=99999999999999999999;\n}//\nenum B:?{\n}//\r\nenum C:t{\n}",
-    "enum A:t{\n}/**d*///\nenum B:t{\n}//\n/**d*/enum C:t{\n}",
-    "cluster C=1{shared//\nenum E:t{}\n}cluster D=2{//\r\n  shared enum//\rE:t{}//\n}",
-];
-
 #[cfg(feature = "library")]
 pub mod library {
     use super::*;
     use crate::catalogue::decode;
-    use crate::grammar::{annotated, bare};
+    use crate::grammar::annotated;
     use crate::reader::{matter_idl_read, matter_idl_survey, Library};
 
     fn call(text: &[u8], catalogue: usize, report: usize) -> (u64, Vec<u8>, Vec<u8>) {
@@ -315,8 +305,7 @@ pub mod library {
         let (mut found, mut parts, mut spoilt, mut replacements) = (0, 0, 0, 0);
         let mut other = Vec::new();
         for i in 0..count {
-            let sound = [annotated, bare, from_grammar, from_grammar][i % 4];
-            let text = many(&mut random, sound);
+            let text = many(&mut random, if i % 4 == 0 { annotated } else { from_grammar });
             if let Some(what) = differs(&text) {
                 found += 1;
                 let small = crate::shrink::shrink(&text, &mut |t| differs(t).is_some());

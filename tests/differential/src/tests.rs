@@ -1,6 +1,5 @@
 //! That wrong readers and wrong catalogues are noticed.
 mod annotations;
-mod bare;
 
 use crate::catalogue::{decode, encode, Kind, Record};
 use crate::check::{answer, check_spans_of, Answer};

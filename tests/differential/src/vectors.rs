@@ -6,7 +6,6 @@ use crate::catalogue::{decode, encode, Kind, Record, Span};
 use crate::check::{answer, Answer};
 use crate::generate::*;
 use crate::known;
-use crate::locate::bare_comments;
 use crate::survey::{stored, survey, Survey};
 use std::collections::{BTreeMap, HashSet};
 
@@ -14,11 +13,10 @@ use std::collections::{BTreeMap, HashSet};
 const MOST_TEXT: usize = 128;
 const MOST_CATALOGUE: usize = 512;
 /// The longest list: the program holds it in one buffer.
-const MOST_LIST: usize = 655_360;
+const MOST_LIST: usize = 524_288;
 /// Texts that are kept of each answer: accepted, then refused by 2 to 6.
 const KEPT: [(u64, usize); 6] = [(0, 1_200), (2, 120), (3, 1_000), (4, 100), (5, 60), (6, 60)];
 const KEPT_ANNOTATED: [(u64, usize); 1] = [(0, 15)];
-const KEPT_BARE: [(u64, usize); 5] = [(0, 120), (3, 100), (4, 10), (5, 5), (6, 5)];
 
 pub fn line(text: &[u8], answer: &Answer) -> String {
     let digits: String = text.iter().map(|b| format!("{b:02x}")).collect();
@@ -28,15 +26,13 @@ pub fn line(text: &[u8], answer: &Answer) -> String {
     }
 }
 
-/// The papers' texts and those of the whole grammar, then those about annotations and bare comments, each without the ones before.
+/// The papers' texts and those of the whole grammar, then those about annotations, each without the ones before.
 pub fn vectors(seed: u64) -> Vec<(Vec<u8>, Answer)> {
     let mut list = List::default();
     list.all(known::papers());
     list.choose(candidates(seed), &KEPT, part_traits);
     list.all(known::annotations());
-    list.choose(candidates_of(seed, annotated), &KEPT_ANNOTATED, annotation_traits);
-    list.all(known::bare());
-    list.choose(candidates_of(seed, bare), &KEPT_BARE, bare_traits);
+    list.choose(annotated_candidates(seed), &KEPT_ANNOTATED, annotation_traits);
     list.texts
 }
 
@@ -128,10 +124,10 @@ fn candidates(seed: u64) -> Vec<Vec<u8>> {
     all
 }
 
-/// Short texts of one making.
-fn candidates_of(seed: u64, make: fn(&mut Random) -> Vec<u8>) -> Vec<Vec<u8>> {
+/// Short texts with many annotations.
+fn annotated_candidates(seed: u64) -> Vec<Vec<u8>> {
     let mut random = Random(seed);
-    let mut all: Vec<_> = (0..10_000).map(|_| make(&mut random)).collect();
+    let mut all: Vec<_> = (0..10_000).map(|_| annotated(&mut random)).collect();
     all.retain(|text| text.len() <= MOST_TEXT);
     all.sort_by_key(|text| text.len() / 8);
     all
@@ -139,18 +135,10 @@ fn candidates_of(seed: u64, make: fn(&mut Random) -> Vec<u8>) -> Vec<Vec<u8>> {
 
 /// Of a refusal its number with the tokens around its place.
 fn refusal_traits(text: &[u8], number: u64, place: usize) -> Vec<String> {
-    let (before, after) = (token(tokens(&text[..place]).last()), token(tokens(&text[place..]).first()));
+    let token = |t: Option<&Vec<u8>>| t.map(|t| String::from_utf8_lossy(&t[..t.len().min(9)]).to_lowercase()).unwrap_or_default();
+    let (before, after) = (tokens(&text[..place]), tokens(&text[place..]));
+    let (before, after) = (token(before.last()), token(after.first()));
     vec![format!("{number} before {after:?}"), format!("{number} after {before:?}")]
-}
-
-/// The tokens around each line comment of no text.
-fn bare_traits(text: &[u8], _: &[Record]) -> Vec<String> {
-    let around = |end: usize| (token(tokens(&text[..end - 2]).last()), token(tokens(&text[end..]).first()));
-    bare_comments(text).into_iter().map(|end| format!("bare between {:?}", around(end))).collect()
-}
-
-fn token(token: Option<&Vec<u8>>) -> String {
-    token.map(|t| String::from_utf8_lossy(&t[..t.len().min(9)]).to_lowercase()).unwrap_or_default()
 }
 
 /// Each field of each kind of record but annotations, which are chosen apart.

@@ -11,7 +11,7 @@ use lib.Seq.{drop-cons, drop-drop, get_or-drop}
 use borrow.Author.Tests.{eq-eqb, ne_eqb, eqb-true}
 use Rattle.lexing.specs.bytes.{slash, star, is_space, in_line, list_take_while}
 use Rattle.lexing.specs.reply.{ok, fail, ret, ◌>>=◌, catch, keep, position, fail_at, pick}
-use Rattle.lexing.specs.blanks.{Whitespace, white, plain, doc_comment, Until, found, never, one_more, until_close, comment_kind, closed, block_comment, whitespace_group, Doc, no_doc, doc_at, doc_after, one_blank, whitespace0, whitespace1}
+use Rattle.lexing.specs.blanks.{Whitespace, white, plain, doc_comment, line_comment, Until, found, never, one_more, until_close, comment_kind, closed, block_comment, whitespace_group, Doc, no_doc, doc_at, doc_after, one_blank, whitespace0, whitespace1}
 use Rattle.lexing.specs.answers.{Rest, LacksIf, group_reply, blank_reply, BlankTo, doc_of, doc_by, RunTo}
 use Rattle.lexing.specs.inner.blanks.{is_close, end_until, turn_reply}
 use Rattle.lexing.specs.declared.blanks.End.{End}
@@ -25,7 +25,7 @@ use Rattle.lexing.specs.declared.blanks.Turn.{Turn}
 use Rattle.lexing.specs.declared.blanks.Turn.TheVariants.{Again, Done}
 use Rattle.lexing.proofs.Onward.{group_advances}
 use Rattle.lexing.proofs.TokenLocality.{no_block, no_group, one_blank_chain, one_blank_consumes}
-use Rattle.lexing.proofs.TokenRuns.{line_nil, line_one, line_first, line_is, line_no, space_nil, space_yes, space_no}
+use Rattle.lexing.proofs.TokenRuns.{line_text, line_nil, line_one, line_first, line_is, line_no, text_nil, text_yes, text_no, space_nil, space_yes, space_no}
 use Rattle.lexing.proofs.Scans.{first_of, turns, drop_run, run_cons, run_none, run_le, run_stops}
 use Rattle.lexing.proofs.Slicing.{took, walks, rest_from}
 use Rattle.lexing.proofs.Repetition.{IterAt, iter_start, iter_step, iter_ends}
@@ -98,9 +98,28 @@ pub until_eight : (u : List ℕ) (i : ℕ) → UntilAt u i → (t : Bool) → La
 until_eight u i h t p e = let q : LacksIf true star u i = rw e at p in until_plain u i 8 h q.0 q.1
 
 -- line comments
-line_at : (b n : ℕ) (u : List ℕ) → n ≡ length (list_take_while in_line u) → whitespace_group b (slash ∷ slash ∷ u) ≡ ok plain (b + (2 + n)) (drop n u)
-unfolding whitespace_group catch
-line_at b n u e = let z : b + 2 + n ≡ b + (2 + n) = omega arith in rw (line_is b slash slash u refl, catch) (rw (← e, z) (ap (ok plain (b + (2 + n))) (sym (drop_run in_line u) ∙ ap (λ k. drop k u) (sym e))))
+slashes : (b : ℕ) (u : List ℕ) → line_comment b (slash ∷ slash ∷ u) ≡ line_text (b + 2) u
+slashes b u = line_is b slash slash u refl
+
+line_some : (b n : ℕ) (u : List ℕ) → n ≡ length (list_take_while in_line u) → 0 < n → whitespace_group b (slash ∷ slash ∷ u) ≡ ok plain (b + (2 + n)) (drop n u)
+unfolding whitespace_group catch list_take_while
+line_some b n [] e h = absurd (omega arith)
+line_some b n (z ∷ u) e h = go (in_line z) refl
+  where
+    go : (t : Bool) → in_line z ≡ t → whitespace_group b (slash ∷ slash ∷ z ∷ u) ≡ ok plain (b + (2 + n)) (drop n (z ∷ u))
+    go true q =
+        let w : b + 2 + n ≡ b + (2 + n) = omega arith in
+        rw (slashes b (z ∷ u) ∙ text_yes (b + 2) z u q, catch) (rw (← e, w) (ap (ok plain (b + (2 + n))) (sym (drop_run in_line (z ∷ u)) ∙ ap (λ k. drop k (z ∷ u)) (sym e))))
+    go false q = let y : n ≡ 0 = e ∙ ap length (run_none in_line z u q) in absurd (omega arith)
+
+line_none : (b n : ℕ) (u : List ℕ) → n ≡ length (list_take_while in_line u) → n ≤ 0 → whitespace_group b (slash ∷ slash ∷ u) ≡ fail b
+unfolding whitespace_group catch block_comment is_space
+line_none b n [] e h = rw (slashes b [] ∙ text_nil (b + 2), catch) (space_no b slash (slash ∷ []) refl)
+line_none b n (z ∷ u) e h = go (in_line z) refl
+  where
+    go : (t : Bool) → in_line z ≡ t → whitespace_group b (slash ∷ slash ∷ z ∷ u) ≡ fail b
+    go true q = let y : n ≡ suc (length (list_take_while in_line u)) = e ∙ ap length (run_cons in_line z u q) in absurd (omega arith)
+    go false q = rw (slashes b (z ∷ u) ∙ text_no (b + 2) z u q, catch) (space_no b slash (slash ∷ z ∷ u) refl)
 
 -- block comments
 block_is : (b : ℕ) (u : List ℕ) → block_comment b (slash ∷ star ∷ u) ≡ closed b u (until_close u)
@@ -165,8 +184,11 @@ module _ (b : ℕ) (u : List ℕ) (first : get_or u 0 0 ≡ slash) where
       is_line : whitespace_group b u ≡ whitespace_group b (slash ∷ slash ∷ r)
       is_line = ap (whitespace_group b) (two_bytes u 46 46 first second ∙ ap (λ (v : List ℕ). slash ∷ slash ∷ v) (sym er))
 
-      pub group_line : ok plain (b + (2 + n)) (drop (2 + n) u) ≡ whitespace_group b u
-      group_line = sym (is_line ∙ (line_at b n r en ∙ ap (λ v. ok plain (b + (2 + n)) v) (ap (drop n) er ∙ drop-drop n 2 u)))
+      pub group_line : 0 < n → ok plain (b + (2 + n)) (drop (2 + n) u) ≡ whitespace_group b u
+      group_line h = sym (is_line ∙ (line_some b n r en h ∙ ap (λ v. ok plain (b + (2 + n)) v) (ap (drop n) er ∙ drop-drop n 2 u)))
+
+      pub group_bare : n ≤ 0 → fail b ≡ whitespace_group b u
+      group_bare h = sym (is_line ∙ line_none b n r en h)
 
       pub line_fits : n ≤ length u
       line_fits = omega (arith, run_le in_line r, ap length er, length-drop 2 u)

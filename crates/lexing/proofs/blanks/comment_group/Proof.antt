@@ -3,7 +3,7 @@ use Rattle.lexing.proofs.blanks.comment_group.Statement.{statement}
 use Rattle.lexing.proofs.blanks.comment_group.Tie as tie
 use mathlib.Core.Path.{sym, ◌∙◌}
 use native.Mathlib.Omega.{arith}
-use Rattle.lexing.proofs.blanks.Laws.{group_line, line_fits, group_other, group_open, group_short, group_doc, group_plain, closed_fits}
+use Rattle.lexing.proofs.blanks.Laws.{group_line, group_bare, line_fits, group_other, group_open, group_short, group_doc, group_plain, closed_fits}
 
 peek-requires : tie.Need-peek-requires
 peek-requires c κs = tt
@@ -14,14 +14,17 @@ after-requires c κs = tt
 line-length-requires : tie.Need-line-length-requires
 line-length-requires c κs = tt
 
-add-size : tie.Need-overflow-add-size
-add-size c = omega (arith, line_fits c.before.before.before.before.before.args.base c.before.before.before.before.before.args.part.now c.before.before.before.before.before.requires.1 _ c.before.after.ensures (sym c.before.before.before.peek.ensures ∙ c.before.before.if1.true) _ c.line-length.ensures)
+add-t10 : tie.Need-overflow-add-t10
+add-t10 c = omega (arith, line_fits c.before.before.before.before.before.before.args.base c.before.before.before.before.before.before.args.part.now c.before.before.before.before.before.before.requires.1 _ c.before.before.after.ensures (sym c.before.before.before.before.peek.ensures ∙ c.before.before.before.if1.true) _ c.before.line-length.ensures)
 
 returns : tie.Need-returns
-returns c = group_line _ _ c.before.before.before.before.before.requires.1 _ c.before.after.ensures (sym c.before.before.before.peek.ensures ∙ c.before.before.if1.true) _ c.line-length.ensures
+returns c = group_line _ _ c.before.before.before.before.before.before.requires.1 _ c.before.before.after.ensures (sym c.before.before.before.before.peek.ensures ∙ c.before.before.before.if1.true) _ c.before.line-length.ensures c.if2.true
 
 returns-2 : tie.Need-returns-2
-returns-2 c = group_other _ _ c.before.before.before.before.requires.1 _ c.before.before.peek.ensures c.before.if1.false c.if2.true
+returns-2 c = group_bare _ _ c.before.before.before.before.before.before.requires.1 _ c.before.before.after.ensures (sym c.before.before.before.before.peek.ensures ∙ c.before.before.before.if1.true) _ c.before.line-length.ensures c.if2.false
+
+returns-3 : tie.Need-returns-3
+returns-3 c = group_other _ _ c.before.before.before.before.requires.1 _ c.before.before.peek.ensures c.before.if1.false c.if3.true
 
 after-requires-2 : tie.Need-after-requires-2
 after-requires-2 c κs = tt
@@ -35,26 +38,26 @@ enum-known-e c = c.match.keys1
 enum_told : tie.Need-enum-told
 enum_told c = c.match.keys2
 
-returns-3 : tie.Need-returns-3
-returns-3 c = group_open _ _ c.before.before.before.before.before.before.before.before.requires.1 _ c.before.before.before.after2.ensures (sym c.before.before.before.before.before.before.peek.ensures ∙ c.before.before.before.before.if2.false) _ c.before.before.comment-end.ensures c.enum_told.given.1
-
 returns-4 : tie.Need-returns-4
-returns-4 c = group_short _ _ c.before.before.before.before.before.before.before.before.before.before.requires.1 _ c.before.before.before.before.before.after2.ensures (sym c.before.before.before.before.before.before.before.before.peek.ensures ∙ c.before.before.before.before.before.before.if2.false) _ c.before.before.before.before.comment-end.ensures _ c.before.before.e.given.1 c.if3.true
+returns-4 c = group_open _ _ c.before.before.before.before.before.before.before.before.requires.1 _ c.before.before.before.after2.ensures (sym c.before.before.before.before.before.before.peek.ensures ∙ c.before.before.before.before.if3.false) _ c.before.before.comment-end.ensures c.enum_told.given.1
+
+returns-5 : tie.Need-returns-5
+returns-5 c = group_short _ _ c.before.before.before.before.before.before.before.before.before.before.requires.1 _ c.before.before.before.before.before.after2.ensures (sym c.before.before.before.before.before.before.before.before.peek.ensures ∙ c.before.before.before.before.before.before.if3.false) _ c.before.before.before.before.comment-end.ensures _ c.before.before.e.given.1 c.if4.true
 
 peek-requires-2 : tie.Need-peek-requires-2
 peek-requires-2 c κs = tt
 
-sub-t12 : tie.Need-overflow-sub-t12
-sub-t12 c = search rules
-
-returns-5 : tie.Need-returns-5
-returns-5 c = group_doc _ _ c.before.before.before.before.before.before.before.before.before.before.before.before.requires.1 _ c.before.before.before.before.before.before.before.after2.ensures (sym c.before.before.before.before.before.before.before.before.before.before.peek.ensures ∙ c.before.before.before.before.before.before.before.before.if2.false) _ c.before.before.before.before.before.before.comment-end.ensures _ c.before.before.before.before.e.given.1 _ c.before.peek2.ensures c.before.before.if3.false c.if4.true
-
-add-t13 : tie.Need-overflow-add-t13
-add-t13 c = omega (arith, closed_fits c.before.before.before.before.before.before.before.before.before.before.before.before.args.base c.before.before.before.before.before.before.before.before.before.before.before.before.args.part.now c.before.before.before.before.before.before.before.before.before.before.before.before.requires.1 _ c.before.before.before.before.before.before.before.after2.ensures (sym c.before.before.before.before.before.before.before.before.before.before.peek.ensures ∙ c.before.before.before.before.before.before.before.before.if2.false) _ c.before.before.before.before.before.before.comment-end.ensures _ c.before.before.before.before.e.given.1)
+sub-t13 : tie.Need-overflow-sub-t13
+sub-t13 c = search rules
 
 returns-6 : tie.Need-returns-6
-returns-6 c = group_plain _ _ c.before.before.before.before.before.before.before.before.before.before.before.before.requires.1 _ c.before.before.before.before.before.before.before.after2.ensures (sym c.before.before.before.before.before.before.before.before.before.before.peek.ensures ∙ c.before.before.before.before.before.before.before.before.if2.false) _ c.before.before.before.before.before.before.comment-end.ensures _ c.before.before.before.before.e.given.1 _ c.before.peek2.ensures c.if4.false
+returns-6 c = group_doc _ _ c.before.before.before.before.before.before.before.before.before.before.before.before.requires.1 _ c.before.before.before.before.before.before.before.after2.ensures (sym c.before.before.before.before.before.before.before.before.before.before.peek.ensures ∙ c.before.before.before.before.before.before.before.before.if3.false) _ c.before.before.before.before.before.before.comment-end.ensures _ c.before.before.before.before.e.given.1 _ c.before.peek2.ensures c.before.before.if4.false c.if5.true
+
+add-t14 : tie.Need-overflow-add-t14
+add-t14 c = omega (arith, closed_fits c.before.before.before.before.before.before.before.before.before.before.before.before.args.base c.before.before.before.before.before.before.before.before.before.before.before.before.args.part.now c.before.before.before.before.before.before.before.before.before.before.before.before.requires.1 _ c.before.before.before.before.before.before.before.after2.ensures (sym c.before.before.before.before.before.before.before.before.before.before.peek.ensures ∙ c.before.before.before.before.before.before.before.before.if3.false) _ c.before.before.before.before.before.before.comment-end.ensures _ c.before.before.before.before.e.given.1)
+
+returns-7 : tie.Need-returns-7
+returns-7 c = group_plain _ _ c.before.before.before.before.before.before.before.before.before.before.before.before.requires.1 _ c.before.before.before.before.before.before.before.after2.ensures (sym c.before.before.before.before.before.before.before.before.before.before.peek.ensures ∙ c.before.before.before.before.before.before.before.before.if3.false) _ c.before.before.before.before.before.before.comment-end.ensures _ c.before.before.before.before.e.given.1 _ c.before.peek2.ensures c.if5.false
 
 pub comment-group-spec : {M : Type 1} → statement M
 comment-group-spec =
@@ -63,17 +66,18 @@ comment-group-spec =
     peek-requires
     after-requires
     line-length-requires
-    add-size
+    add-t10
     returns
     returns-2
+    returns-3
     after-requires-2
     comment-end-requires
     enum-known-e
     enum_told
-    returns-3
     returns-4
-    peek-requires-2
-    sub-t12
     returns-5
-    add-t13
-    returns-6)
+    peek-requires-2
+    sub-t13
+    returns-6
+    add-t14
+    returns-7)
