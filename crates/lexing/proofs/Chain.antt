@@ -62,7 +62,7 @@ pub data To (j : ℕ) (r : List ℕ) : ℕ → List ℕ → Type 0 where
 abbrev pub Clean : ℕ → List ℕ → Type 0
 Clean k u = To 0 [] k u
 
-pub to_trans : {i j k : ℕ} {r u v : List ℕ} → To j u k v → To i r j u → To i r k v
+pub to_trans : {i j : ℕ} {r u : List ℕ} {k : ℕ} {v : List ℕ} → To j u k v → To i r j u → To i r k v
 to_trans here q = q
 to_trans (go_r e p) q = go_r e (to_trans p q)
 to_trans (open_r e p) q = open_r e (to_trans p q)
@@ -73,7 +73,7 @@ unfolding next
 clash e = sym e
 
 -- the chain is one: what has come to r goes on from r
-pub resume : {j k : ℕ} {r u : List ℕ} → To j r k u → Clean k u → Clean j r
+pub resume : {j : ℕ} {r : List ℕ} {k : ℕ} {u : List ℕ} → To j r k u → Clean k u → Clean j r
 resume here c = c
 resume (go_r {v = v} e p) here = let z : ◌≡◌ {A = ℕ} 0 1 = cc (clash e) in absurd (omega arith)
 resume (go_r {v = v} e p) (go_r {v = w} d c) = let q : w ≡ v = cc in resume p (rw q at c)
@@ -169,7 +169,7 @@ next_suf (x ∷ u) = go (is_letter x) refl (is_digit x) refl (eqb x slash || is_
     go false e false e' true e'' = rw (e, e', e'', next) (token_suf group_advances (x ∷ u))
     go false e false e' false e'' = rw (e, e', e'', next) (other_suf x u)
 
-pub to_suf : {j k : ℕ} {r u : List ℕ} → To j r k u → Suf r u
+pub to_suf : {j : ℕ} {r : List ℕ} {k : ℕ} {u : List ℕ} → To j r k u → Suf r u
 to_suf here = same
 to_suf (go_r {u = u} e p) = suf_trans (to_suf p) (rw e at (next_suf u))
 to_suf (open_r {u = u} e p) = suf_trans (to_suf p) (rw e at (next_suf u))

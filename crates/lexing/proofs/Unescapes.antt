@@ -19,6 +19,7 @@ Faultless (fault_at k) = ⊥
 first_faultless : (x : ℕ) (r : Unescaped) → Faultless r → Faultless (first x r)
 unfolding first
 first_faultless x (gives l) h = tt
+first_faultless x (fault_at _) h = elim h [ ]
 
 -- of a string from offset b on, where e says that the backslash at b has been seen: what is up to its closing quote, unescaped from offset k on
 abbrev Clear : (k b : ℕ) (e : Bool) → List ℕ → Reply ℕ → Type 0

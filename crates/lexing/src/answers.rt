@@ -5,7 +5,7 @@ ghost use Rattle.lexing.specs.answers.{lost_of, optional_step, Stop};
 
 // Why there is no token. A failure, which another try may follow, has cause 0; what ends all reading has one more than the number of its
 // refusal. They are plain numbers.
-#[derive(Drop)]
+#[derive(Clone, Copy)]
 pub struct Lost {
     pub cause: usize,
     pub place: usize,
@@ -23,7 +23,7 @@ pub fn stop_by(number: usize, place: usize) -> Lost
 }
 
 // The offset after a token.
-#[derive(Drop)]
+#[derive(Clone, Copy)]
 pub enum Step {
     Next(usize),
     Not(Lost),

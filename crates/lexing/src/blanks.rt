@@ -11,28 +11,28 @@ use crate::bytes::{is_in_line, is_space};
 use crate::parts::{after, eight_without, peek, rest_at};
 
 // A doc comment's text: its offset and its length.
-#[derive(Drop)]
+#[derive(Clone, Copy)]
 pub enum DocSpan {
     Absent,
     At(usize, usize),
 }
 
 // A run of blanks: the offset after it, and the doc comment that counts.
-#[derive(Drop)]
+#[derive(Clone, Copy)]
 pub struct Blank {
     pub next: usize,
     pub doc: DocSpan,
 }
 
 // A run of at least one blank.
-#[derive(Drop)]
+#[derive(Clone, Copy)]
 pub enum Gap {
     Passed(Blank),
     NoGap(Lost),
 }
 
 // One blank: its kind and its length; of a doc comment the length of its text.
-#[derive(Drop)]
+#[derive(Clone, Copy)]
 pub enum Group {
     Nothing,
     White(usize),
@@ -41,14 +41,14 @@ pub enum Group {
 }
 
 // Where a block comment ends.
-#[derive(Drop)]
+#[derive(Clone, Copy)]
 enum End {
     Closed(usize),
     Open,
 }
 
 // A run of blanks in plain numbers: the offset after it, and the offset and the length of the doc comment's text, offset 0 where there is none.
-#[derive(Drop)]
+#[derive(Clone, Copy)]
 pub struct Run {
     pub next: usize,
     pub doc: usize,
@@ -56,7 +56,7 @@ pub struct Run {
 }
 
 // One turn of a run of blanks.
-#[derive(Drop)]
+#[derive(Clone, Copy)]
 enum Turn {
     Again(Run),
     Done,

@@ -10,21 +10,21 @@ use crate::bytes::{is_between, is_digit, is_hex};
 use crate::parts::{after, peek};
 
 // A value and the offset after it.
-#[derive(Drop)]
+#[derive(Clone, Copy)]
 pub enum Number {
     Value(u64, usize),
     NoNumber(Lost),
 }
 
 // Whether a number is negative, its magnitude, and the offset after it.
-#[derive(Drop)]
+#[derive(Clone, Copy)]
 pub enum SignedNumber {
     Sized(bool, u64, usize),
     NoSigned(Lost),
 }
 
 // Digits: their value and how many there are, or a value of 2^64 or more.
-#[derive(Drop)]
+#[derive(Clone, Copy)]
 enum Digits {
     Count(u64, usize),
     Over,

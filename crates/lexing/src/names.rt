@@ -13,7 +13,7 @@ use crate::steps::{blank_at, gap_at, integer_after, tag_after};
 use crate::words::{id_at, keyword, tag};
 
 // Where a name starts and ends, and the offset after all that was read.
-#[derive(Drop)]
+#[derive(Clone, Copy)]
 pub enum Named {
     Name(usize, usize, usize),
     NoName(Lost),

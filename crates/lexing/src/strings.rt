@@ -9,7 +9,7 @@ use crate::answers::{Lost, Step, stop_by};
 use crate::parts::rest_at;
 
 // How a byte after a backslash counts.
-#[derive(Drop)]
+#[derive(Clone, Copy)]
 enum Escaped {
     Allowed,
     Forbidden,
@@ -17,7 +17,7 @@ enum Escaped {
 }
 
 // A piece of a string: the offset after it, or the end of the string.
-#[derive(Drop)]
+#[derive(Clone, Copy)]
 enum Piece {
     More(usize),
     Last(Step),

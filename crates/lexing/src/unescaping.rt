@@ -5,7 +5,7 @@ ghost use Rattle.lexing.specs.inner.unescaping.{size_of, meant, PieceAt};
 ghost use Rattle.lexing.specs.outcomes.{returned, afterwards};
 
 // Written: the count of the bytes written. Fault: the offset of the first quote or backslash at fault. Short: the count of the bytes needed.
-#[derive(Drop)]
+#[derive(Clone, Copy)]
 pub enum Unescaping {
     Written(usize),
     Fault(usize),
@@ -13,21 +13,21 @@ pub enum Unescaping {
 }
 
 // What a backslash and a byte stand for.
-#[derive(Drop)]
+#[derive(Clone, Copy)]
 enum Meaning {
     Byte(u8),
     Nothing,
 }
 
 // What is at an offset: one byte or an escape, with the byte that comes out and the offset after it; or a fault.
-#[derive(Drop)]
+#[derive(Clone, Copy)]
 enum Piece {
     Makes(u8, usize),
     Wrong,
 }
 
 // The count of the bytes that come out, or the offset of the first fault.
-#[derive(Drop)]
+#[derive(Clone, Copy)]
 enum Size {
     Needs(usize),
     Faulty(usize),

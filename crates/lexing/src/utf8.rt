@@ -9,7 +9,7 @@ use crate::bytes::is_between;
 use crate::eights::{eight_at, non_ascii};
 
 // The offset is that of the first byte of the first ill-formed sequence.
-#[derive(Drop)]
+#[derive(Clone, Copy)]
 pub enum Utf8 {
     WellFormed,
     IllFormed(usize),

@@ -25,14 +25,14 @@ pub const COMMAND_SET: u8 = 3;
 pub const ATTRIBUTE_SET: u8 = 4;
 
 // The flags of the words that are written in lower case, the first keyword's bit the highest, and the offset after the last word.
-#[derive(Drop)]
+#[derive(Clone, Copy)]
 pub struct WordSet {
     pub flags: u8,
     pub next: usize,
 }
 
 // Where the next word of a set may be.
-#[derive(Drop)]
+#[derive(Clone, Copy)]
 enum Start {
     Here(usize),
     Nowhere,

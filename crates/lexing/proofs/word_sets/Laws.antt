@@ -229,17 +229,17 @@ word_flag ks k j w ws a e h = go (is_lower (bytes_of w)) refl
 pub bit_at : {o m : ℕ} → o ≡ m → 2 ^ m ≡ 2 ^ o
 bit_at e = rw e
 
-pub flag_off : (t : Bool) (p f : ℕ) → not t ≡ true → f ≡ with_flag t p f
-flag_off t p f e = rw (not-true t e) (sym (flag_none p f))
+pub flag_off : (t : Bool) (p f : ℕ) → t ≡ false → f ≡ with_flag t p f
+flag_off t p f e = rw e (sym (flag_none p f))
 
-module _ (t : Bool) (o p f : ℕ) (e : not t ≡ false) (h : p ≡ 2 ^ o) where
+module _ (t : Bool) (o p f : ℕ) (e : t ≡ true) (h : p ≡ 2 ^ o) where
   pub flag_there : f / p % 2 ≡ 1 → f ≡ with_flag t (2 ^ o) f
   unfolding with_flag
-  flag_there q = rw (not-false t e, ← h) (rw (eq-eqb (f / p % 2) 1 q, with_flag))
+  flag_there q = rw (e, ← h) (rw (eq-eqb (f / p % 2) 1 q, with_flag))
 
   pub flag_new : (f / p % 2 ≡ 1 → ⊥) → f + p ≡ with_flag t (2 ^ o) f
   unfolding with_flag
-  flag_new q = rw (not-false t e, ← h) (rw (ne_eqb (f / p % 2) 1 q, with_flag))
+  flag_new q = rw (e, ← h) (rw (ne_eqb (f / p % 2) 1 q, with_flag))
 
   pub flag_bit : o < 4 → (0 < p) × (p ≤ 8)
   flag_bit l = let d : o ≤ 3 = omega arith in let m : 2 ^ o ≤ 2 ^ 3 = pow-le-pow_right (omega arith) d in (rw h (pow_up o), rw h m)

@@ -1,0 +1,11 @@
+use borrow.Author.Tests.{le-leb, lt-leb}
+use Rattle.lexing.specs.bytes.{within}
+use Rattle.lexing.proofs.bytes.is_between.Goals as goal
+
+pub returns-then-x-lo : goal.returns-then-x-lo
+unfolding within
+returns-then-x-lo c = simp (lt-leb _ _ c.if-x-lo.true)
+
+pub returns : goal.returns
+unfolding within
+returns c = simp (le-leb _ _ c.if-x-lo.false)
