@@ -23,7 +23,7 @@ use lexing::strings::quoted_string;
 use lexing::words::tag;
 
 // An annotation: the offsets of its key, of the quote before its value, after its key and after the quote that ends its value.
-#[derive(Drop)]
+#[derive(Clone, Copy)]
 pub struct AnnotationParts {
     pub key: usize,
     pub quote: usize,
@@ -31,7 +31,7 @@ pub struct AnnotationParts {
     pub after: usize,
 }
 
-#[derive(Drop)]
+#[derive(Clone, Copy)]
 pub enum AnnotationRead {
     Read(AnnotationParts, usize),
     NoAnnotation(Lost),

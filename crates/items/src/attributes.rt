@@ -24,49 +24,49 @@ use lexing::word_sets::{ATTRIBUTE_SET, is_lower, keywords_set};
 use lexing::words::keyword;
 
 // The privileges to read and to write, and the offset after them, or why there are none.
-#[derive(Drop)]
+#[derive(Clone, Copy)]
 pub enum PrivilegesRead {
     Privileges(u8, u8, usize),
     NoPrivileges(Lost),
 }
 
 // An attribute up to its field; flags: readonly, writeonly, nosubscribe, timedwrite.
-#[derive(Drop)]
+#[derive(Clone, Copy)]
 struct AttributeHeadParts {
     flags: u8,
     read: u8,
     write: u8,
 }
 
-#[derive(Drop)]
+#[derive(Clone, Copy)]
 enum AttributeHeadRead {
     AttributeHead(AttributeHeadParts, usize),
     NoAttributeHead(Lost),
 }
 
 // What a word of the list names; in another case than the lower one it names neither.
-#[derive(Drop)]
+#[derive(Clone, Copy)]
 enum Operation {
     Read,
     Write,
     Neither,
 }
 
-#[derive(Drop)]
+#[derive(Clone, Copy)]
 enum OperationRead {
     Named(Operation, usize),
     NoOperation,
 }
 
 // What the entries so far have granted: the privileges to read and to write; or the list is refused at its first word that is not in lower case.
-#[derive(Drop)]
+#[derive(Clone, Copy)]
 enum Grants {
     Granted(u8, u8),
     RefusedAt(usize),
 }
 
 // What entries have granted, and the offset after them.
-#[derive(Drop)]
+#[derive(Clone, Copy)]
 struct AccessEntries {
     grants: Grants,
     next: usize,

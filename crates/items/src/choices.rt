@@ -22,7 +22,7 @@ use lexing::steps::{blank_at, tag_after};
 use lexing::words::id_at;
 
 // Up to the entries: whether it is shared, and the offsets of its name and of its base type and after them.
-#[derive(Drop)]
+#[derive(Clone, Copy)]
 pub struct ChoiceHeadParts {
     pub shared: bool,
     pub name: usize,
@@ -31,7 +31,7 @@ pub struct ChoiceHeadParts {
     pub base_end: usize,
 }
 
-#[derive(Drop)]
+#[derive(Clone, Copy)]
 pub enum ChoiceHeadRead {
     ChoiceHead(ChoiceHeadParts, usize),
     NoChoiceHead(Lost),

@@ -26,14 +26,14 @@ use lexing::steps::{blank_at, gap_at};
 use lexing::words::{keyword, tag};
 
 // Up to the braces: the offsets of its name and after it, and its code.
-#[derive(Drop)]
+#[derive(Clone, Copy)]
 pub struct ClusterHeadParts {
     pub name: usize,
     pub code: u64,
     pub end: usize,
 }
 
-#[derive(Drop)]
+#[derive(Clone, Copy)]
 pub enum ClusterHeadRead {
     ClusterHead(ClusterHeadParts, usize),
     NoClusterHead(Lost),

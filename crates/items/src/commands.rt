@@ -23,7 +23,7 @@ use lexing::word_sets::{COMMAND_SET, keywords_set};
 use lexing::words::{id_at, keyword};
 
 // Up to a command's name: its flags, the privilege to invoke it, the offsets of its name and after it.
-#[derive(Drop)]
+#[derive(Clone, Copy)]
 pub struct CommandHeadParts {
     pub name: usize,
     pub qualities: u8,
@@ -31,14 +31,14 @@ pub struct CommandHeadParts {
     pub end: usize,
 }
 
-#[derive(Drop)]
+#[derive(Clone, Copy)]
 pub enum CommandHeadRead {
     CommandHead(CommandHeadParts, usize),
     NoCommandHead(Lost),
 }
 
 // A command's input and output, each by the offset of its name and the one after it; they are the same where there is no input.
-#[derive(Drop)]
+#[derive(Clone, Copy)]
 pub struct CommandTypesParts {
     pub input: usize,
     pub output: usize,
@@ -46,20 +46,20 @@ pub struct CommandTypesParts {
     pub output_end: usize,
 }
 
-#[derive(Drop)]
+#[derive(Clone, Copy)]
 pub enum CommandTypesRead {
     CommandTypes(CommandTypesParts, usize),
     NoCommandTypes(Lost),
 }
 
-#[derive(Drop)]
+#[derive(Clone, Copy)]
 pub struct CommandParts {
     pub head: CommandHeadParts,
     pub types: CommandTypesParts,
     pub code: u64,
 }
 
-#[derive(Drop)]
+#[derive(Clone, Copy)]
 pub enum CommandRead {
     Command(CommandParts, usize),
     NoCommand(Lost),

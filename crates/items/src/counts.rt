@@ -8,7 +8,7 @@ use lexing::answers::{Lost, Step, step_lost};
 use lexing::steps::tag_after;
 
 // The words needed and the offset after the declaration, or why there is none.
-#[derive(Drop)]
+#[derive(Clone, Copy)]
 pub enum Count {
     Words(usize, usize),
     NoCount(Lost),

@@ -15,14 +15,14 @@ use lexing::strings::default_string;
 use lexing::words::keyword;
 
 // The bytes between two quotes.
-#[derive(Drop)]
+#[derive(Clone, Copy)]
 pub struct SpanParts {
     pub start: usize,
     pub length: usize,
 }
 
 // A default, or that there is none; a signed one is said to be negative or not, with its magnitude.
-#[derive(Drop)]
+#[derive(Clone, Copy)]
 pub enum DefaultValue {
     Absent,
     Number(u64),
@@ -31,7 +31,7 @@ pub enum DefaultValue {
     Text(SpanParts),
 }
 
-#[derive(Drop)]
+#[derive(Clone, Copy)]
 pub enum DefaultRead {
     Read(DefaultValue, usize),
     NoDefault(Lost),

@@ -35,7 +35,7 @@ use lexing::steps::{blank_at, integer_after, keyword_after, tag_after};
 use lexing::words::tag;
 
 // A device type: where its name starts and ends, its code and its version.
-#[derive(Drop)]
+#[derive(Clone, Copy)]
 pub struct DeviceTypeParts {
     pub name: usize,
     pub code: u64,
@@ -43,7 +43,7 @@ pub struct DeviceTypeParts {
     pub version: u64,
 }
 
-#[derive(Drop)]
+#[derive(Clone, Copy)]
 pub enum DeviceTypeRead {
     DeviceType(DeviceTypeParts, usize),
     NoDeviceType(Lost),

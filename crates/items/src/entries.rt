@@ -22,7 +22,7 @@ use lexing::steps::{blank_at, tag_after};
 use lexing::words::{id_at, tag};
 
 // An entry: its maturity, the offsets of its name and after it, its code, the offset after that, and the words of its annotations, which are from there on.
-#[derive(Drop)]
+#[derive(Clone, Copy)]
 pub struct EntryParts {
     pub maturity: u8,
     pub name: usize,
@@ -32,7 +32,7 @@ pub struct EntryParts {
     pub words: usize,
 }
 
-#[derive(Drop)]
+#[derive(Clone, Copy)]
 pub enum EntryRead {
     Read(EntryParts, usize),
     NoEntry(Lost),

@@ -24,21 +24,21 @@ use lexing::word_sets::{EVENT_SET, keywords_set};
 use lexing::words::keyword;
 
 // Up to an event's name: its flag, its priority and the privilege to read it.
-#[derive(Drop)]
+#[derive(Clone, Copy)]
 pub struct EventQualitiesParts {
     pub sensitive: u8,
     pub rank: u8,
     pub privilege: u8,
 }
 
-#[derive(Drop)]
+#[derive(Clone, Copy)]
 pub enum EventQualitiesRead {
     EventQualities(EventQualitiesParts, usize),
     NoEventQualities(Lost),
 }
 
 // An event up to its fields: the offsets of its name and after it, and its code.
-#[derive(Drop)]
+#[derive(Clone, Copy)]
 pub struct EventHeadParts {
     pub sensitive: u8,
     pub rank: u8,
@@ -48,7 +48,7 @@ pub struct EventHeadParts {
     pub end: usize,
 }
 
-#[derive(Drop)]
+#[derive(Clone, Copy)]
 pub enum EventHeadRead {
     EventHead(EventHeadParts, usize),
     NoEventHead(Lost),

@@ -24,7 +24,7 @@ use lexing::word_sets::{FIELD_SET, keywords_set};
 use lexing::words::{id_at, tag};
 
 // A field: where its type's name starts and ends, its largest length where it has one, where its name starts and ends, whether it is a list, its code.
-#[derive(Drop)]
+#[derive(Clone, Copy)]
 pub struct FieldParts {
     pub type_at: usize,
     pub name: usize,
@@ -36,35 +36,35 @@ pub struct FieldParts {
     pub list: bool,
 }
 
-#[derive(Drop)]
+#[derive(Clone, Copy)]
 pub enum FieldRead {
     Field(FieldParts, usize),
     NoField(Lost),
 }
 
 // A field of a struct; flags: optional, nullable, fabric sensitive.
-#[derive(Drop)]
+#[derive(Clone, Copy)]
 pub struct StructFieldParts {
     pub maturity: u8,
     pub flags: u8,
     pub field: FieldParts,
 }
 
-#[derive(Drop)]
+#[derive(Clone, Copy)]
 pub enum StructFieldRead {
     StructField(StructFieldParts, usize),
     NoStructField(Lost),
 }
 
 // Whether there is a largest length, and which, and the offset after it.
-#[derive(Drop)]
+#[derive(Clone, Copy)]
 enum MaxLength {
     Length(bool, u64, usize),
     NoLength(Lost),
 }
 
 // Whether a field is a list, and the offset after the marker.
-#[derive(Drop)]
+#[derive(Clone, Copy)]
 struct Marker {
     list: bool,
     next: usize,

@@ -32,7 +32,7 @@ use lexing::steps::{blank_at, gap_at, tag_after};
 use lexing::words::tag;
 
 // An instance of an attribute: where its name starts and ends, its default, its handling.
-#[derive(Drop)]
+#[derive(Clone, Copy)]
 pub struct AttributeInstanceParts {
     pub name: usize,
     pub default: DefaultValue,
@@ -41,7 +41,7 @@ pub struct AttributeInstanceParts {
 }
 
 // An instance: that of an attribute, or of a command or an event, by the kind of its record and where its name starts and ends.
-#[derive(Drop)]
+#[derive(Clone, Copy)]
 pub enum InstanceRead {
     AttributeInstance(AttributeInstanceParts, usize),
     NamedInstance(u8, usize, usize, usize),

@@ -25,7 +25,7 @@ use lexing::blanks::{DocSpan, whitespace0};
 use lexing::parts::rest_at;
 
 // What a declaration is by its first word.
-#[derive(Drop)]
+#[derive(Clone, Copy)]
 pub enum DeclarationKind {
     Cluster,
     Endpoint,
@@ -36,7 +36,7 @@ pub enum DeclarationKind {
 }
 
 // How a declaration starts: the one try that its first word selects, the furthest place at which the others fail, its maturity, where the try is and, after `shared`, where it goes on.
-#[derive(Drop)]
+#[derive(Clone, Copy)]
 pub struct DeclarationStart {
     pub kind: DeclarationKind,
     pub others_fail_at: usize,

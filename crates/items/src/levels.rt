@@ -14,14 +14,14 @@ use lexing::steps::{blank_at, tag_after};
 use lexing::words::{keyword, tag};
 
 // The number of a keyword out of at most four and the offset after it, or why there is none.
-#[derive(Drop)]
+#[derive(Clone, Copy)]
 pub enum Level {
     Chosen(u8, usize),
     NoLevel(Lost),
 }
 
 // The privilege to read an event or to invoke a command, and the offset after it.
-#[derive(Drop)]
+#[derive(Clone, Copy)]
 pub struct Privilege {
     pub level: u8,
     pub next: usize,

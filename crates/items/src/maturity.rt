@@ -14,7 +14,7 @@ use lexing::steps::blank_at;
 use lexing::words::keyword;
 
 // A maturity is always there: where no word says one, it is stable and nothing is read.
-#[derive(Drop)]
+#[derive(Clone, Copy)]
 pub struct Maturity {
     pub level: u8,
     pub next: usize,

@@ -17,7 +17,7 @@ use lexing::parts::{peek, rest_at};
 use lexing::words::keyword;
 
 // What a member is by its first word.
-#[derive(Drop)]
+#[derive(Clone, Copy)]
 pub enum MemberKind {
     Revision,
     Bitmap,
@@ -30,7 +30,7 @@ pub enum MemberKind {
 }
 
 // The one try that a first word selects, the furthest place at which the others fail, and where the try goes on: after `shared` and its blanks, if it is there.
-#[derive(Drop)]
+#[derive(Clone, Copy)]
 pub struct MemberStart {
     pub kind: MemberKind,
     pub others_fail_at: usize,

@@ -27,7 +27,7 @@ use lexing::parts::rest_at;
 use lexing::steps::tag_after;
 
 // Where reading and writing are, and the last revision so far.
-#[derive(Drop)]
+#[derive(Clone, Copy)]
 pub struct MembersWrote {
     pub next: usize,
     pub to: usize,

@@ -25,7 +25,7 @@ use lexing::word_sets::{STRUCT_SET, is_lower, keywords_set};
 use lexing::words::keyword;
 
 // What the word before a struct makes of it; only a response has a code.
-#[derive(Drop)]
+#[derive(Clone, Copy)]
 pub enum StructKind {
     Regular,
     Request,
@@ -34,7 +34,7 @@ pub enum StructKind {
 }
 
 // A struct up to its fields: its kind, whether it is fabric scoped, where its name starts and ends, the code of a response.
-#[derive(Drop)]
+#[derive(Clone, Copy)]
 pub struct StructHeadParts {
     pub kind: StructKind,
     pub scoped: u8,
@@ -43,14 +43,14 @@ pub struct StructHeadParts {
     pub end: usize,
 }
 
-#[derive(Drop)]
+#[derive(Clone, Copy)]
 pub enum StructHeadRead {
     Head(StructHeadParts, usize),
     NoHead(Lost),
 }
 
 // The kind that the word before a struct says, and the offset after it and its blanks.
-#[derive(Drop)]
+#[derive(Clone, Copy)]
 struct StructWord {
     kind: StructKind,
     next: usize,

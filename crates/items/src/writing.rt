@@ -13,7 +13,7 @@ use lexing::blanks::DocSpan;
 use lexing::buffers::put_two;
 
 // What the first word of a record holds, from its top; the flags are seven bits, and an absent name is zeros.
-#[derive(Drop)]
+#[derive(Clone, Copy)]
 pub struct First {
     pub kind: u8,
     pub place: u8,
@@ -27,7 +27,7 @@ pub struct First {
 }
 
 // Where reading and writing are.
-#[derive(Drop)]
+#[derive(Clone, Copy)]
 pub struct Wrote {
     pub next: usize,
     pub to: usize,
@@ -49,7 +49,7 @@ pub fn first_word(f: First) -> u64
 }
 
 // What is before a declaration, and its record's kind and place.
-#[derive(Drop)]
+#[derive(Clone, Copy)]
 pub struct FrontParts {
     pub kind: u8,
     pub place: u8,

@@ -19,7 +19,7 @@ use lexing::parts::rest_at;
 use lexing::utf8::{Utf8, utf8_error};
 
 // What a text comes to: the words of its catalogue, or the number of a refusal and the value that goes with it.
-#[derive(Drop)]
+#[derive(Clone, Copy)]
 pub enum Verdict {
     Accepted(usize),
     Refused(usize, usize),

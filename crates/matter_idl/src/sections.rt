@@ -4,7 +4,7 @@ ghost use Rattle.items.specs.layout.{text_limit};
 ghost use Rattle.matter_idl.specs.inner.sections.{cut_at, Cutless, Uncut, FirstSection};
 
 // A section of a part: the offset after it, and whether it is the text's last, with no cut after it.
-#[derive(Drop)]
+#[derive(Clone, Copy)]
 pub struct Section {
     pub end: usize,
     pub last: bool,

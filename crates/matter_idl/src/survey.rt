@@ -85,7 +85,7 @@ fn remember(accepted_bits: &mut [u8], i: usize, v: Verdict)
 }
 
 // What the first pass counts: the sections, and the words of the accepted ones.
-#[derive(Drop)]
+#[derive(Clone, Copy)]
 pub struct Counted {
     pub sections: usize,
     pub words: usize,
