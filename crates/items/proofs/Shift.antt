@@ -401,7 +401,7 @@ module _ (d : ℕ) where
   shift_granted_by p l' [] e = rw e (shift_ret d _ _ refl)
   shift_granted_by p l' (a ∷ l) e =
       rw (e, bytes_shift d a.operation, offset_shift d a.operation)
-      (shift_pick d _ _ refl (shift_granted_by _ _ l refl) (shift_pick d _ _ refl (shift_granted_by _ _ l refl) (shift_stop d 6 _ _ refl)))
+      (shift_pick d _ _ refl (shift_granted_by (record { read = a.granted; write = p.write }) _ l refl) (shift_pick d _ _ refl (shift_granted_by (record { read = p.read; write = a.granted }) _ l refl) (shift_stop d 6 _ _ refl)))
 
   listed_moved : (o : Option (List Access)) → listed (shift_option (map (shift_access d)) o) ≡ map (shift_access d) (listed o)
   unfolding listed shift_option

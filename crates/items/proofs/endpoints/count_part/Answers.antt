@@ -1,3 +1,4 @@
+use native.Mathlib.Omega.{arith}
 use mathlib.Core.Path.{sym, ap, ◌∙◌}
 use Rattle.lexing.specs.bytes.{ascii, lower}
 use Rattle.lexing.specs.names.{named_after}
@@ -14,4 +15,4 @@ pub returns-in-98 : goal.returns-in-98
 returns-in-98 c = tried_by part_records part_tries binding (named_after (ascii "binding") (ascii "cluster")) c.count_binding.result (binding_alone _ _ c.requires.part_value ((ap lower (sym c.peek.ensures) ∙ sym c.lower_of-x.ensures) ∙ c.in-98.is)) c.count_binding.ensures
 
 pub returns-in_default : goal.returns-in_default
-returns-in_default c = tried_by part_records part_tries device device_type c.count_device_type.result (device_alone _ _ c.requires.part_value _ c.in-115.rest (ap lower (sym c.peek.ensures) ∙ sym c.lower_of-x.ensures)) c.count_device_type.ensures
+returns-in_default c = tried_by part_records part_tries device device_type c.count_device_type.result (device_alone _ _ c.requires.part_value _ ((tt, omega arith), omega arith) (ap lower (sym c.peek.ensures) ∙ sym c.lower_of-x.ensures)) c.count_device_type.ensures

@@ -1,3 +1,4 @@
+use lib.ListN.{length}
 use native.Mathlib.Omega.{arith}
 use Rattle.items.proofs.RecordWords.{put_same}
 use Rattle.items.proofs.entries.Laws.{entry_alone, entry_annotated, parts_count, annotations_ask}
@@ -16,7 +17,7 @@ pub rest_at-requires : goal.rest_at-requires
 rest_at-requires c = omega (arith, c.requires.entry_bounds.from, c.requires.entry_bounds.up, c.requires.entry_bounds.follows, c.requires.entry_bounds.inside)
 
 pub write_entry_annotations-requires : goal.write_entry_annotations-requires
-write_entry_annotations-requires c = record { part_bound = ((omega (arith, c.rest_at.ensures.size, c.requires.part_bound), annotations_ask c.args.e c.args.at c.requires.entry_bounds c.rest_at.ensures (let s = put_same _ _ _ c.put_entry.ensures (omega (arith, parts_count c.args.e, c.requires.words_in_bounds)) in omega (arith, c.requires.words_in_bounds, s)) c.if-e-eq0.false)).0; nonzero = ((omega (arith, c.rest_at.ensures.size, c.requires.part_bound), annotations_ask c.args.e c.args.at c.requires.entry_bounds c.rest_at.ensures (let s = put_same _ _ _ c.put_entry.ensures (omega (arith, parts_count c.args.e, c.requires.words_in_bounds)) in omega (arith, c.requires.words_in_bounds, s)) c.if-e-eq0.false)).1.0; part_in_bounds = ((omega (arith, c.rest_at.ensures.size, c.requires.part_bound), annotations_ask c.args.e c.args.at c.requires.entry_bounds c.rest_at.ensures (let s = put_same _ _ _ c.put_entry.ensures (omega (arith, parts_count c.args.e, c.requires.words_in_bounds)) in omega (arith, c.requires.words_in_bounds, s)) c.if-e-eq0.false)).1.1 }
+write_entry_annotations-requires c = record { part_bound = omega (arith, c.rest_at.ensures.size, c.requires.part_bound); nonzero = (annotations_ask {n = length c.put_entry.new.out} c.args.e c.args.at c.requires.entry_bounds c.rest_at.ensures (let s = put_same _ _ _ c.put_entry.ensures (omega (arith, parts_count c.args.e, c.requires.words_in_bounds)) in omega (arith, c.requires.words_in_bounds, s)) c.if-e-eq0.false).0; part_in_bounds = (annotations_ask {n = length c.put_entry.new.out} c.args.e c.args.at c.requires.entry_bounds c.rest_at.ensures (let s = put_same _ _ _ c.put_entry.ensures (omega (arith, parts_count c.args.e, c.requires.words_in_bounds)) in omega (arith, c.requires.words_in_bounds, s)) c.if-e-eq0.false).1 }
 
 pub returns : goal.returns
 returns c = entry_annotated _ c.requires.entry_bounds (omega arith) _ _ c.put_entry.ensures c.rest_at.ensures c.requires.words_in_bounds c.write_entry_annotations.ensures

@@ -1,3 +1,4 @@
+use native.Mathlib.Omega.{arith}
 use mathlib.Core.Path.{sym, ap, ◌∙◌}
 use Rattle.lexing.specs.bytes.{lower}
 use Rattle.items.proofs.instances.Laws.{command_alone, event_alone, attribute_found, attribute_alone, instance_by}
@@ -13,4 +14,4 @@ pub returns-in-101 : goal.returns-in-101
 returns-in-101 c = instance_by _ _ (event_alone _ _ ((ap lower (sym c.peek.ensures) ∙ sym c.lower_of-x.ensures) ∙ c.in-101.is)) c.event_instance.ensures
 
 pub returns-in_default-x : goal.returns-in_default-x
-returns-in_default-x c = instance_by _ _ (attribute_alone _ _ _ c.in-104.rest (ap lower (sym c.peek.ensures) ∙ sym c.lower_of-x.ensures)) c.attribute_instantiation-attribute.ensures
+returns-in_default-x c = instance_by _ _ (attribute_alone _ _ _ ((tt, omega arith), omega arith) (ap lower (sym c.peek.ensures) ∙ sym c.lower_of-x.ensures)) c.attribute_instantiation-attribute.ensures

@@ -1,3 +1,4 @@
+use native.Mathlib.Omega.{arith}
 use mathlib.Core.Path.{refl, sym, ap, ◌∙◌}
 use mathlib.Core.List.{[], ◌∷◌}
 use Rattle.lexing.specs.bytes.{ascii, lower}
@@ -26,4 +27,4 @@ returns-in-97 c = level_as _ _ (last_of_all _ _ _ ((ap lower (sym c.peek.ensures
 
 pub returns-in_default : goal.returns-in_default
 unfolding access_privilege numbered
-returns-in_default c = level_other _ _ (97 ∷ 109 ∷ 111 ∷ 118 ∷ []) privileges (ascii "administer", 3) refl _ c.in-118.rest (ap lower (sym c.peek.ensures) ∙ sym c.lower_of-x.ensures)
+returns-in_default c = level_other _ _ (97 ∷ 109 ∷ 111 ∷ 118 ∷ []) privileges (ascii "administer", 3) refl _ ((((tt, omega arith), omega arith), omega arith), omega arith) (ap lower (sym c.peek.ensures) ∙ sym c.lower_of-x.ensures)

@@ -1,3 +1,4 @@
+use native.Mathlib.Omega.{arith}
 use mathlib.Core.Path.{refl, sym, ap, ◌∙◌}
 use mathlib.Core.List.{[], ◌∷◌}
 use Rattle.lexing.specs.bytes.{ascii, lower}
@@ -22,4 +23,4 @@ returns-in-100 c = level_as _ _ (last_of_all _ _ _ ((ap lower (sym c.peek.ensure
 
 pub returns-in_default : goal.returns-in_default
 unfolding event_priority numbered
-returns-in_default c = level_other _ _ (100 ∷ 99 ∷ 105 ∷ []) priorities (ascii "debug", 2) refl _ c.in-105.rest (ap lower (sym c.peek.ensures) ∙ sym c.lower_of-x.ensures)
+returns-in_default c = level_other _ _ (100 ∷ 99 ∷ 105 ∷ []) priorities (ascii "debug", 2) refl _ (((tt, omega arith), omega arith), omega arith) (ap lower (sym c.peek.ensures) ∙ sym c.lower_of-x.ensures)

@@ -1,3 +1,4 @@
+use native.Mathlib.Omega.{arith}
 use mathlib.Core.Path.{refl, sym, ap, ◌∙◌}
 use mathlib.Core.List.{[], ◌∷◌}
 use Rattle.lexing.specs.bytes.{ascii, lower}
@@ -22,4 +23,4 @@ unfolding same_bytes
 returns-in-100 c = maturity_left _ ((ap lower (sym c.peek.ensures) ∙ sym c.lower_of-x.ensures) ∙ c.in-100.is) (ascii "deprecated") 3 refl c.maturity_by-in-100.ensures
 
 pub returns-in_default : goal.returns-in_default
-returns-in_default c = maturity_other _ _ (100 ∷ 105 ∷ 112 ∷ 115 ∷ []) refl _ c.in-115.rest (ap lower (sym c.peek.ensures) ∙ sym c.lower_of-x.ensures)
+returns-in_default c = maturity_other _ _ (100 ∷ 105 ∷ 112 ∷ 115 ∷ []) refl _ ((((tt, omega arith), omega arith), omega arith), omega arith) (ap lower (sym c.peek.ensures) ∙ sym c.lower_of-x.ensures)

@@ -1,3 +1,4 @@
+use lib.Bits.{bit_or}
 use borrow.Author.Tests.{ne_eqb}
 use mathlib.Core.Path.{sym, ap, ◌∙◌}
 use native.Mathlib.Omega.{arith}
@@ -18,4 +19,4 @@ pub returns-in-100 : goal.returns-in-100
 returns-in-100 c = sym (ap is_initial c.in-100.is) ∙ (initial_folded c.args.x (omega arith))
 
 pub returns-in_default : goal.returns-in_default
-returns-in_default c = rw (ne_eqb _ _ c.in-115.rest.0.0.0.1, ne_eqb _ _ c.in-115.rest.0.0.1, ne_eqb _ _ c.in-115.rest.0.1, ne_eqb _ _ c.in-115.rest.1) at (initial_folded c.args.x (omega arith))
+returns-in_default c = rw (ne_eqb (bit_or c.args.x 32) 100 (omega arith), ne_eqb (bit_or c.args.x 32) 105 (omega arith), ne_eqb (bit_or c.args.x 32) 112 (omega arith), ne_eqb (bit_or c.args.x 32) 115 (omega arith)) at (initial_folded c.args.x (omega arith))

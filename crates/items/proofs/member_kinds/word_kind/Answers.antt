@@ -1,3 +1,4 @@
+use native.Mathlib.Omega.{arith}
 use mathlib.Core.Path.{refl, sym, ap, ◌∙◌}
 use mathlib.Core.List.{[], ◌∷◌}
 use Rattle.lexing.specs.bytes.{ascii, lower}
@@ -50,4 +51,4 @@ unfolding same_bytes
 returns-else-starts-2 c = at_letters _ _ c.requires.part_value Command ((0, 116) ∷ []) (ascii "timedwrite" ∷ []) refl ((ap lower (sym c.peek.ensures) ∙ sym c.lower_of-x.ensures) ∙ c.in-116.is, tt) (frees_all (ascii "timedwrite" ∷ []) _ _ (sym c.starts-in-116.ensures ∙ c.if-starts-2.false)) c.requires.part_value_2
 
 pub returns-in_default : goal.returns-in_default
-returns-in_default c = at_other_letter _ _ c.requires.part_value ((116 ∷ []) ∷ (115 ∷ []) ∷ (114 ∷ []) ∷ (102 ∷ []) ∷ (101 ∷ []) ∷ (100 ∷ 105 ∷ []) ∷ (99 ∷ []) ∷ (98 ∷ []) ∷ (97 ∷ 110 ∷ 119 ∷ []) ∷ []) refl _ c.in-97.rest (ap lower (sym c.peek.ensures) ∙ sym c.lower_of-x.ensures) c.requires.part_value_2
+returns-in_default c = at_other_letter _ _ c.requires.part_value ((116 ∷ []) ∷ (115 ∷ []) ∷ (114 ∷ []) ∷ (102 ∷ []) ∷ (101 ∷ []) ∷ (100 ∷ 105 ∷ []) ∷ (99 ∷ []) ∷ (98 ∷ []) ∷ (97 ∷ 110 ∷ 119 ∷ []) ∷ []) refl _ (((((((((tt, omega arith), omega arith), omega arith), omega arith), omega arith), omega arith), omega arith), omega arith), omega arith) (ap lower (sym c.peek.ensures) ∙ sym c.lower_of-x.ensures) c.requires.part_value_2

@@ -1,3 +1,4 @@
+use native.Mathlib.Omega.{arith}
 use Rattle.items.specs.records.{further_of_kind}
 use Rattle.items.specs.layout.{layout, words_of_kind}
 use Rattle.items.proofs.records.Laws.{words_at, words_else}
@@ -56,4 +57,4 @@ unfolding words_of_kind further_of_kind layout
 returns-in-17 c = words_at c.in-17.is
 
 pub returns-in_default : goal.returns-in_default
-returns-in_default c = words_else c.in-1.rest
+returns-in_default c = words_else (((((((((((((tt, omega arith), omega arith), omega arith), omega arith), omega arith), omega arith), omega arith), omega arith), omega arith), omega arith), omega arith), omega arith), omega arith)

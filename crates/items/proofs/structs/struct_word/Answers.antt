@@ -1,4 +1,5 @@
-use mathlib.Core.Path.{refl, sym, ap, ◌∙◌}
+use native.Mathlib.Omega.{arith}
+use mathlib.Core.Path.{◌≡◌, refl, sym, ap, ◌∙◌}
 use Rattle.lexing.specs.bytes.{lower}
 use Rattle.items.proofs.structs.Laws.{request_kind, response_kind, shared_fits, word_shared, word_unshared, request_left, response_left}
 use Rattle.items.proofs.structs.struct_word.Goals as goal
@@ -19,4 +20,4 @@ pub returns-in-113 : goal.returns-in-113
 returns-in-113 c = request_left (word_unshared c.requires.struct_from c.if-base-from.false) ((ap lower (sym c.peek.ensures) ∙ sym c.lower_of-x.ensures) ∙ c.in-113.is) c.struct_word_by.ensures
 
 pub returns-in_default : goal.returns-in_default
-returns-in_default c = response_left (word_unshared c.requires.struct_from c.if-base-from.false) (λ e. c.in-113.rest.1 (sym (ap lower (sym c.peek.ensures) ∙ sym c.lower_of-x.ensures) ∙ e)) c.struct_word_by-in_default.ensures
+returns-in_default c = response_left (word_unshared c.requires.struct_from c.if-base-from.false) (λ e. let x : c.lower_of-x.result ≡ 113 → ⊥ = omega arith in x (sym (ap lower (sym c.peek.ensures) ∙ sym c.lower_of-x.ensures) ∙ e)) c.struct_word_by-in_default.ensures
