@@ -11,8 +11,8 @@ abbrev pub value_limit : ℕ
 value_limit = 72057594037927935
 
 -- number * 2^56 + value
-unfoldable pub result : Outcome → ℕ
-result o = (returned o).0 * number_unit + (returned o).1
+unfoldable pub answer_of : Outcome → ℕ
+answer_of o = (returned o).0 * number_unit + (returned o).1
 
 -- unescaping: a part whose length is no value, and so longer than any machine can lend, is refused by 1
 unfoldable pub unescaping : List ℕ → ℕ → Outcome

@@ -1,10 +1,10 @@
-// The C interface: byte buffers go in, and one number comes back, that of the refusal in its top 8 bits and its value below; 0 is acceptance, with the bytes written.
+// What is called from C, by way of matter_idl_c: byte buffers go in, and one number comes back, that of the refusal in its top 8 bits and its value below; 0 is acceptance, with the bytes written.
 ghost use Rattle.std.specs.Prelude.{◌≡◌, ◌+◌, ◌*◌, ◌≤◌, ◌<◌, length};
 ghost use Rattle.lexing.specs.outcomes.{afterwards};
 ghost use Rattle.items.specs.layout.{layout};
 ghost use Rattle.matter_idl.specs.reading.{reading};
 ghost use Rattle.matter_idl.specs.survey.{report_layout, for_catalogue, for_report, survey};
-ghost use Rattle.matter_idl.specs.interface.{format, value_limit, number_unit, result, unescaping};
+ghost use Rattle.matter_idl.specs.interface.{format, value_limit, number_unit, answer_of, unescaping};
 
 use crate::reading::{Verdict, verdict_on, write_items};
 use crate::survey::{ENTRY_SIZE, count_accepted, write_sections};
@@ -19,15 +19,14 @@ const NUMBER_UNIT: u64 = 0x100_0000_0000_0000;
 fn packed(number: usize, value: usize) -> u64
     requires number_bound { number < 256 }
     requires value_le_value_limit { value ≤ value_limit }
-    ensures* { λ r. ⌜ r ≡ number * number_unit + value ⌝ }
+    ensures { result ≡ number * number_unit + value }
 {
     number as u64 * NUMBER_UNIT + value as u64
 }
 
-#[unsafe(no_mangle)]
-pub extern "C" fn matter_idl_read(text: &[u8], catalogue: &mut [u8]) -> u64
-    ensures* r_value { λ r. ⌜ r ≡ result (reading layout text.now (length catalogue.old)) ⌝ }
-    ensures* catalogue_after { λ r. ⌜ catalogue.new ≡ afterwards (reading layout text.now (length catalogue.old)) catalogue.old ⌝ }
+pub fn matter_idl_read(text: &[u8], catalogue: &mut [u8]) -> u64
+    ensures answer_value { result ≡ answer_of (reading layout text.now (length catalogue.old)) }
+    ensures catalogue_after { catalogue.new ≡ afterwards (reading layout text.now (length catalogue.old)) catalogue.old }
 {
     let v = verdict_on(text);
     match v {
@@ -44,11 +43,10 @@ pub extern "C" fn matter_idl_read(text: &[u8], catalogue: &mut [u8]) -> u64
 }
 
 // The limit, the report's room, then that of the catalogue: no buffer is touched before all three are decided.
-#[unsafe(no_mangle)]
-pub extern "C" fn matter_idl_survey(text: &[u8], catalogue: &mut [u8], report: &mut [u8]) -> u64
-    ensures* r_value { λ r. ⌜ r ≡ result (for_catalogue (survey layout report_layout text.now (length catalogue.old) (length report.old))) ⌝ }
-    ensures* catalogue_after { λ _. ⌜ catalogue.new ≡ afterwards (for_catalogue (survey layout report_layout text.now (length catalogue.old) (length report.old))) catalogue.old ⌝ }
-    ensures* report_after { λ _. ⌜ report.new ≡ afterwards (for_report (survey layout report_layout text.now (length catalogue.old) (length report.old))) report.old ⌝ }
+pub fn matter_idl_survey(text: &[u8], catalogue: &mut [u8], report: &mut [u8]) -> u64
+    ensures answer_value { result ≡ answer_of (for_catalogue (survey layout report_layout text.now (length catalogue.old) (length report.old))) }
+    ensures catalogue_after { catalogue.new ≡ afterwards (for_catalogue (survey layout report_layout text.now (length catalogue.old) (length report.old))) catalogue.old }
+    ensures report_after { report.new ≡ afterwards (for_report (survey layout report_layout text.now (length catalogue.old) (length report.old))) report.old }
 {
     if TEXT_LIMIT < text.len() {
         return packed(1, TEXT_LIMIT);
@@ -75,10 +73,9 @@ pub extern "C" fn matter_idl_survey(text: &[u8], catalogue: &mut [u8], report: &
     packed(0, WORD * words)
 }
 
-#[unsafe(no_mangle)]
-pub extern "C" fn matter_idl_unescape(part: &[u8], output: &mut [u8]) -> u64
-    ensures* r_value { λ r. ⌜ r ≡ result (unescaping part.now (length output.old)) ⌝ }
-    ensures* output_after { λ r. ⌜ output.new ≡ afterwards (unescaping part.now (length output.old)) output.old ⌝ }
+pub fn matter_idl_unescape(part: &[u8], output: &mut [u8]) -> u64
+    ensures answer_value { result ≡ answer_of (unescaping part.now (length output.old)) }
+    ensures output_after { output.new ≡ afterwards (unescaping part.now (length output.old)) output.old }
 {
     if VALUE_LIMIT < part.len() {
         return packed(1, VALUE_LIMIT);
@@ -95,9 +92,8 @@ pub extern "C" fn matter_idl_unescape(part: &[u8], output: &mut [u8]) -> u64
 const FORMAT: u64 = 2;
 
 // The format, which the function's name says too: a program compiled with the header of another format does not link.
-#[unsafe(no_mangle)]
-pub extern "C" fn matter_idl_format_2() -> u64
-    ensures* { λ r. ⌜ r ≡ format ⌝ }
+pub fn matter_idl_format_2() -> u64
+    ensures { result ≡ format }
 {
     FORMAT
 }

@@ -11,7 +11,7 @@ use Rattle.lexing.specs.bytes.{quote, backslash}
 use Rattle.lexing.specs.outcomes.{Outcome, refused, fitted, returned, afterwards}
 use Rattle.lexing.specs.unescaping.{Unescaped, gives, fault_at, first, escaped, unescape_from, escape_from, unescape, into, outcome, answer}
 use Rattle.lexing.specs.declared.unescaping.Unescaping.{Unescaping}
-use Rattle.matter_idl.specs.interface.{number_unit, value_limit, result, unescaping}
+use Rattle.matter_idl.specs.interface.{number_unit, value_limit, answer_of, unescaping}
 
 -- no more bytes come out than there are, and a fault is among them
 abbrev Within : ℕ → ℕ → Unescaped → Type 0
@@ -70,9 +70,9 @@ module _ (u : List ℕ) (n : ℕ) where
     pub value_fits : length u ≤ value_limit → v ≤ value_limit
     value_fits l = let y : v ≡ (returned (outcome u n)).1 = ap (λ (p : ℕ × ℕ). p.1) (sym z ∙ h) in omega (arith, y, value_within u n, l)
 
-    pub told_result : {x : ℕ} → x ≡ k * number_unit + v → x ≡ result (unescaping u n)
-    unfolding result
-    told_result d = d ∙ (ap (λ (p : ℕ × ℕ). p.0 * number_unit + p.1) (sym z ∙ h) ∙ ap result (sym (not_long e)))
+    pub told_result : {x : ℕ} → x ≡ k * number_unit + v → x ≡ answer_of (unescaping u n)
+    unfolding answer_of
+    told_result d = d ∙ (ap (λ (p : ℕ × ℕ). p.0 * number_unit + p.1) (sym z ∙ h) ∙ ap answer_of (sym (not_long e)))
 
   pub told_left : leb (length u) value_limit ≡ true → (out : List ℕ) {new : List ℕ} → new ≡ afterwards (outcome u n) out → new ≡ afterwards (unescaping u n) out
   told_left e out h = h ∙ ap (λ (o : Outcome). afterwards o out) (sym (not_long e))

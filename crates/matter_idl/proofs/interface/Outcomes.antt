@@ -12,7 +12,7 @@ use Rattle.items.specs.declared.writing.Wrote.{Wrote}
 use Rattle.items.proofs.RecordWords.{catalogue_bytes_length}
 use Rattle.matter_idl.specs.hoisting.{no_ids, hoisted}
 use Rattle.matter_idl.specs.reading.{into_catalogue, reading}
-use Rattle.matter_idl.specs.interface.{number_unit, result}
+use Rattle.matter_idl.specs.interface.{number_unit, answer_of}
 use Rattle.matter_idl.specs.answers.reading.{AcceptedTo, RefusedTo, VerdictTo}
 use Rattle.matter_idl.specs.declared.reading.Verdict.{Verdict}
 use Rattle.matter_idl.specs.declared.reading.Verdict.TheVariants.{Accepted, Refused}
@@ -25,17 +25,17 @@ read_20 u n = reading layout u n
 
 -- a known outcome: what it returns, and what it leaves in its buffer
 module _ {o : Outcome} where
-  pub refused_result : {k v : ℕ} → o ≡ refused k v → {x : ℕ} → x ≡ k * number_unit + v → x ≡ result o
-  unfolding result returned
-  refused_result e h = h ∙ ap result (sym e)
+  pub refused_result : {k v : ℕ} → o ≡ refused k v → {x : ℕ} → x ≡ k * number_unit + v → x ≡ answer_of o
+  unfolding answer_of returned
+  refused_result e h = h ∙ ap answer_of (sym e)
 
   pub refused_left : {k v : ℕ} → o ≡ refused k v → (out : List ℕ) → out ≡ afterwards o out
   unfolding afterwards
   refused_left e out = ap (λ (x : Outcome). afterwards x out) (sym e)
 
-  pub written_result : {l : List ℕ} → o ≡ written l → {n : ℕ} → length l ≡ n → {x : ℕ} → x ≡ 0 * number_unit + n → x ≡ result o
-  unfolding result returned
-  written_result {l} e z {x} h = let y : x ≡ 0 * number_unit + length l = omega (arith, h, z) in y ∙ ap result (sym e)
+  pub written_result : {l : List ℕ} → o ≡ written l → {n : ℕ} → length l ≡ n → {x : ℕ} → x ≡ 0 * number_unit + n → x ≡ answer_of o
+  unfolding answer_of returned
+  written_result {l} e z {x} h = let y : x ≡ 0 * number_unit + length l = omega (arith, h, z) in y ∙ ap answer_of (sym e)
 
   pub written_left : {l : List ℕ} → o ≡ written l → (old : List ℕ) {new : List ℕ} → new ≡ l ++ drop (length l) old → new ≡ afterwards o old
   unfolding afterwards

@@ -14,14 +14,14 @@ use Rattle.lexing.proofs.buffers.Laws.{put_length}
 use Rattle.matter_idl.specs.hoisting.{no_ids, hoisted}
 use Rattle.matter_idl.specs.sections.{sections}
 use Rattle.matter_idl.specs.survey.{accepted_items, report_entries, report_layout, report_bytes, Surveyed, not_surveyed, surveyed, for_catalogue, for_report, into_buffers, survey}
-use Rattle.matter_idl.specs.interface.{number_unit, result}
+use Rattle.matter_idl.specs.interface.{number_unit, answer_of}
 use Rattle.matter_idl.proofs.interface.Outcomes.{refused_result, refused_left, written_result, written_left}
 use Rattle.matter_idl.proofs.reading.Marked.{put_after}
 use Rattle.matter_idl.proofs.survey.Laws.{report_length, entries_count}
 
 -- what a call returns and leaves in its two buffers
 abbrev SurveyTo : Surveyed → ℕ → (cat rep cat' rep' : List ℕ) → Type 0
-SurveyTo s x cat rep cat' rep' = (x ≡ result (for_catalogue s)) × ((cat' ≡ afterwards (for_catalogue s) cat) × (rep' ≡ afterwards (for_report s) rep))
+SurveyTo s x cat rep cat' rep' = (x ≡ answer_of (for_catalogue s)) × ((cat' ≡ afterwards (for_catalogue s) cat) × (rep' ≡ afterwards (for_report s) rep))
 
 pub survey_refused : {s : Surveyed} {k v : ℕ} → s ≡ not_surveyed k v → {x : ℕ} → x ≡ k * number_unit + v → (cat rep : List ℕ) → SurveyTo s x cat rep cat rep
 unfolding for_catalogue for_report
