@@ -1,0 +1,22 @@
+use mathlib.Core.Path.{refl, sym, ◌∙◌}
+use Rattle.matter_idl.specs.inner.hoisting.{flags_shared}
+use Rattle.matter_idl.proofs.hoisting.Laws.{unmarked_placed, unmarked_of, unmarked_other}
+use Rattle.matter_idl.proofs.hoisting.is_unmarked.Goals as goal
+
+pub returns-then-place_at-ne0 : goal.returns-then-place_at-ne0
+returns-then-place_at-ne0 c = unmarked_placed _ _ _ (λ e. c.if-place_at-ne0.true (c.place_at.ensures ∙ e))
+
+pub returns-in-5 : goal.returns-in-5
+unfolding flags_shared
+returns-in-5 c = unmarked_of _ _ _ (sym c.place_at.ensures ∙ c.if-place_at-ne0.false) ((sym c.kind_at-kind.ensures) ∙ c.in-5.is) (rw c.flags_at-flags.ensures refl)
+
+pub returns-in-2 : goal.returns-in-2
+unfolding flags_shared
+returns-in-2 c = unmarked_of _ _ _ (sym c.place_at.ensures ∙ c.if-place_at-ne0.false) ((sym c.kind_at-kind.ensures) ∙ c.in-2.is) (rw c.flags_at-flags.ensures refl)
+
+pub returns-in-3 : goal.returns-in-3
+unfolding flags_shared
+returns-in-3 c = unmarked_of _ _ _ (sym c.place_at.ensures ∙ c.if-place_at-ne0.false) ((sym c.kind_at-kind.ensures) ∙ c.in-3.is) (rw c.flags_at-flags.ensures refl)
+
+pub returns-in_default : goal.returns-in_default
+returns-in_default c = let n = c.in-5.rest in unmarked_other _ _ _ (sym c.place_at.ensures ∙ c.if-place_at-ne0.false) (λ e. n.0.0.1 (c.kind_at-kind.ensures ∙ e)) (λ e. n.0.1 (c.kind_at-kind.ensures ∙ e)) (λ e. n.1 (c.kind_at-kind.ensures ∙ e))
