@@ -59,7 +59,7 @@ accepted_reads b u l c r e =
     rw z at (many_reads (suc (length u)) b u l c r (sym m.0))
 
 -- the offset is counted on
-pub reads_ends : {b e : ℕ} {u v : List ℕ} {l : List Item} → Reads e v b u l → e + length v ≡ b + length u
+pub reads_ends : {e : ℕ} {v : List ℕ} {b : ℕ} {u : List ℕ} {l : List Item} → Reads e v b u l → e + length v ≡ b + length u
 reads_ends none = refl
 reads_ends (more {b = b} {u = u} q k) = let p = rw q at (item_local.on_chain.chain 0 b u) in reads_ends k ∙ p.1
 
@@ -75,16 +75,16 @@ before_none (ok k c r) = refl
 before_none (fail p) = refl
 before_none (stop n p) = refl
 
-pub reads_all : {b e : ℕ} {u v : List ℕ} {l : List Item} → Reads e v b u l → all_items b u ≡ before l (all_items e v)
+pub reads_all : {e : ℕ} {v : List ℕ} {b : ℕ} {u : List ℕ} {l : List Item} → Reads e v b u l → all_items b u ≡ before l (all_items e v)
 reads_all {e = e} {v = v} none = before_none (all_items e v)
 reads_all {e = e} {v = v} (more {b = b} {c = c} {u = u} {r = r} {i = i} {l = l} q k) = all_more b u i c r q ∙ (ap (prepend i) (reads_all k) ∙ before_prepend i l (all_items e v))
 
-pub reads_on : {b c e : ℕ} {u r v : List ℕ} {l k : List Item} → Reads c r b u l → Reads e v c r k → Reads e v b u (l ++ k)
+pub reads_on : {c e : ℕ} {r v : List ℕ} {b : ℕ} {u : List ℕ} {l k : List Item} → Reads c r b u l → Reads e v c r k → Reads e v b u (l ++ k)
 reads_on none y = y
 reads_on (more q x) y = more q (reads_on x y)
 
 -- what is read to its end is clean
-reads_clean : {b e : ℕ} {u : List ℕ} {l : List Item} → Reads e [] b u l → Clean 0 u
+reads_clean : {e b : ℕ} {u : List ℕ} {l : List Item} → Reads e [] b u l → Clean 0 u
 reads_clean none = here
 reads_clean (more {b = b} {u = u} q k) = let p = rw q at (item_local.on_chain.chain 0 b u) in to_trans p.0 (reads_clean k)
 
@@ -98,7 +98,7 @@ cut_rest [] f c = tt
 cut_rest (y ∷ r) f c = suf_cut y r f c
 
 -- so it is read whatever is after it
-continued : {b e : ℕ} {u : List ℕ} {l : List Item} (s : List ℕ) → Reads e [] b u l → Clean 0 u → CutOrEmpty u → Reads e s b (u ++ s) l
+continued : {e b : ℕ} {u : List ℕ} {l : List Item} (s : List ℕ) → Reads e [] b u l → Clean 0 u → CutOrEmpty u → Reads e s b (u ++ s) l
 unfolding ext
 continued s none c d = none
 continued s (more {b = b} {u = []} q k) c d = absurd (short (rw q at (item_consumes.consumes b [])))
@@ -109,7 +109,7 @@ continued s (more {b = b} {u = x ∷ u} {r = r} q k) c d =
     let p = rw q at (item_local.on_chain.chain 0 b (x ∷ u)) in
     more (item_local.local 0 b (x ∷ u) s c d ∙ ap (ext s) q) (continued s k (resume p.0 c) (cut_rest r (to_suf p.0) d))
 
-pub reads_continued : {b e : ℕ} {u : List ℕ} {l : List Item} (s : List ℕ) → Cut u → Reads e [] b u l → Reads e s b (u ++ s) l
+pub reads_continued : {e b : ℕ} {u : List ℕ} {l : List Item} (s : List ℕ) → Cut u → Reads e [] b u l → Reads e s b (u ++ s) l
 reads_continued {u = []} s d k = absurd d
 reads_continued {u = x ∷ u} s d k = continued s k (reads_clean k) d
 
@@ -121,7 +121,7 @@ joined_reading b u s l c r d e =
     rw z at (reads_all (reads_continued s d k))
 
 -- what is read in a part that ends at `end` or before is true of the part
-pub reads_true : (s : ℕ) (t : List ℕ) (end : ℕ) → s + length t ≤ end → {b e : ℕ} {u v : List ℕ} {l : List Item} → Rest s t b u → Reads e v b u l → All (ItemTrue s t end) l
+pub reads_true : (s : ℕ) (t : List ℕ) (end : ℕ) → s + length t ≤ end → {e : ℕ} {v : List ℕ} {b : ℕ} {u : List ℕ} {l : List Item} → Rest s t b u → Reads e v b u l → All (ItemTrue s t end) l
 reads_true s t end f h none = tt
 reads_true s t end f h (more {b = b} {u = u} {i = i} q k) =
     let p = rw q at (item_walks.onward b u) in

@@ -8,4 +8,4 @@ hash_of-requires c = omega (arith, c.requires.name_inside, c.name_offset_at.ensu
 
 pub returns : goal.returns
 unfolding bytes_at offset size
-returns c = record { value = (rw (c.kind_at.ensures, c.name_offset_at.ensures, c.name_length_at.ensures) at (c.hash_of.ensures.value, c.hash_of.ensures.upper_bound)).0; upper_bound = (rw (c.kind_at.ensures, c.name_offset_at.ensures, c.name_length_at.ensures) at (c.hash_of.ensures.value, c.hash_of.ensures.upper_bound)).1 }
+returns c = record { value = rw (c.kind_at.ensures, c.name_offset_at.ensures, c.name_length_at.ensures) at c.hash_of.ensures.value; upper_bound = c.hash_of.ensures.upper_bound }

@@ -1,4 +1,5 @@
-use mathlib.Core.Path.{refl, sym, ◌∙◌}
+use native.Mathlib.Omega.{arith}
+use mathlib.Core.Path.{◌≡◌, refl, sym, ◌∙◌}
 use Rattle.matter_idl.specs.inner.hoisting.{flags_shared}
 use Rattle.matter_idl.proofs.hoisting.Laws.{unmarked_placed, unmarked_of, unmarked_other}
 use Rattle.matter_idl.proofs.hoisting.is_unmarked.Goals as goal
@@ -19,4 +20,4 @@ unfolding flags_shared
 returns-in-3 c = unmarked_of _ _ _ (sym c.place_at.ensures ∙ c.if-place_at-ne0.false) ((sym c.kind_at-kind.ensures) ∙ c.in-3.is) (rw c.flags_at-flags.ensures refl)
 
 pub returns-in_default : goal.returns-in_default
-returns-in_default c = let n = c.in-5.rest in unmarked_other _ _ _ (sym c.place_at.ensures ∙ c.if-place_at-ne0.false) (λ e. n.0.0.1 (c.kind_at-kind.ensures ∙ e)) (λ e. n.0.1 (c.kind_at-kind.ensures ∙ e)) (λ e. n.1 (c.kind_at-kind.ensures ∙ e))
+returns-in_default c = let n5 : c.kind_at-kind.result ≡ 5 → ⊥ = omega arith in let n2 : c.kind_at-kind.result ≡ 2 → ⊥ = omega arith in let n3 : c.kind_at-kind.result ≡ 3 → ⊥ = omega arith in unmarked_other _ _ _ (sym c.place_at.ensures ∙ c.if-place_at-ne0.false) (λ e. n5 (c.kind_at-kind.ensures ∙ e)) (λ e. n2 (c.kind_at-kind.ensures ∙ e)) (λ e. n3 (c.kind_at-kind.ensures ∙ e))

@@ -30,7 +30,7 @@ pub id_hash-h-requires : goal.id_hash-h-requires
 id_hash-h-requires c = record { at_in_bounds = mark_room _ c.requires.text_len_bound c.requires.marking; name_inside = name_in c.requires.text_len_bound (mark_there _ c.requires.text_len_bound c.requires.marking) }
 
 pub is_known-requires : goal.is_known-requires
-is_known-requires c = record { text_len_bound = c.requires.text_len_bound; catalogue = c.requires.marking; filter_len = c.requires.marking.filtered.size; at_in_bounds = mark_room _ c.requires.text_len_bound c.requires.marking; name_inside = name_in c.requires.text_len_bound (mark_there _ c.requires.text_len_bound c.requires.marking); h_value = c.id_hash-h.ensures.value; h_bound = c.id_hash-h.ensures.upper_bound }
+is_known-requires c = record { text_len_bound = c.requires.text_len_bound; catalogue = c.requires.marking.before; filter_len = c.requires.marking.filtered.size; at_in_bounds = mark_room _ c.requires.text_len_bound c.requires.marking; name_inside = name_in c.requires.text_len_bound (mark_there _ c.requires.text_len_bound c.requires.marking); h_value = c.id_hash-h.ensures.value; h_bound = c.id_hash-h.ensures.upper_bound }
 
 pub set_place-requires : goal.set_place-requires
 set_place-requires c = record { at_in_bounds = mark_room _ c.requires.text_len_bound c.requires.marking; at_value = mark_free _ c.requires.text_len_bound c.requires.marking c.is_unmarked.ensures (grown_same _) c.if-not-is_unmarked.false; place_bound = lit< tt }
