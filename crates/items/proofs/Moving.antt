@@ -6,7 +6,7 @@ use mathlib.Core.List.{List, [], ◌∷◌, ◌++◌, map}
 use native.Mathlib.Omega.{arith}
 use Rattle.lexing.specs.buffers.{words_bytes}
 use Rattle.items.specs.records.{Extent, absent, at, Bits, bits, Further, value, spanned, Record, moved_extent, moved_further, moved}
-use Rattle.items.specs.layout.{packed, width, total, unpacked, offset, size, Field, kind_field, place_field, maturity_field, doc_field, flags_field, offset_field, length_field, first_privilege_field, second_privilege_field, no_field, valued, record_value, Cell, cell, filled, Layout, first_words, further_word, record_words, catalogue_bytes}
+use Rattle.items.specs.layout.{packed, total, unpacked, offset, size, Field, kind_field, place_field, maturity_field, doc_field, flags_field, offset_field, length_field, first_privilege_field, second_privilege_field, no_field, valued, record_value, Cell, cell, filled, Layout, first_words, further_word, record_words, catalogue_bytes}
 use Rattle.items.specs.stored.{field_number, same_field}
 use Rattle.lexing.proofs.Truth.{All}
 use Rattle.items.proofs.Packing.{bits_of, width_total, unpack_pack}

@@ -10,7 +10,6 @@ use Rattle.lexing.specs.reply.{ok, Parser, ◌>>◌, opt, many0}
 use Rattle.lexing.specs.bytes.{ascii}
 use Rattle.lexing.specs.words.{Word, parse_id, any_keyword}
 use Rattle.lexing.specs.blanks.{Doc, whitespace0, whitespace1}
-use Rattle.lexing.specs.word_sets.{flags}
 use Rattle.lexing.specs.answers.{Rest}
 use Rattle.lexing.proofs.Onward.{Onward, advances_onward, tag_advances}
 use Rattle.lexing.proofs.Slicing.{walks}

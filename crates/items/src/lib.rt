@@ -8,6 +8,8 @@
 // Read in place: where a reader is called at two places and is too long to be copied, one of the two takes its steps one by one, and the compiler
 // copies the reader at the other.
 // Told by a letter: most tries are told apart by a first letter, so one is selected and no other is run.
+#![tactic(auto)]
+
 mod annotations;
 mod attributes;
 mod choices;

@@ -1,5 +1,5 @@
 -- Known answers of the tokens, from document 01, the doc comments of parser.rs and nom's documentation: one table a kind of token, each closed by computing.
-use Prim.Native.Nat.{◌+◌, ◌-◌, ◌^◌}
+use Prim.Native.Nat.{◌-◌, ◌^◌}
 use mathlib.Core.Path.{◌≡◌, refl}
 use mathlib.Core.Bool.{true, false}
 use mathlib.Core.List.{List, [], ◌∷◌, map}

@@ -1,5 +1,5 @@
 -- Well-formed UTF-8: the table of the Unicode Standard, and an automaton that reads bytes by it.
-use Rattle.std.specs.Prelude.{ℕ, suc, ◌-◌, Bool, true, false, List, [], ◌∷◌}
+use Rattle.std.specs.Prelude.{ℕ, suc, Bool, true, false, List, [], ◌∷◌}
 use Rattle.std.proofs.Math.Option.{Option, none, some}
 use Rattle.lexing.specs.bytes.{within}
 use Rattle.lexing.specs.declared.utf8.Utf8.{Utf8}

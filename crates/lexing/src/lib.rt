@@ -14,6 +14,8 @@
 // Eight at a time: eight bytes are one number, which the compiler loads at once, and one test is made of all eight (`eights`).
 // Joined stores: the compiler makes one store of a word's eight bytes only where no other store is before them in the same block, so a test that
 // always holds is between two words (`buffers`).
+#![tactic(auto)]
+
 pub mod answers;
 pub mod blanks;
 pub mod buffers;

@@ -1,4 +1,6 @@
 // The reader of Matter IDL: a text becomes a catalogue of records, and its survey reads every section alone.
+#![tactic(auto)]
+
 mod bits;
 mod filter;
 mod hoisting;

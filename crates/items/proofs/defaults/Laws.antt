@@ -25,7 +25,7 @@ use Rattle.lexing.proofs.TokenLocality.{whitespace1_chain}
 use Rattle.lexing.proofs.Slicing.{walks, told_next, step_lost, integer_lost}
 use Rattle.items.specs.clusters.{mapped}
 use Rattle.items.specs.endpoints.{Default as DefaultOf, number, signed_number, truth, text, value_tries, default_attribute_value}
-use Rattle.items.specs.records.{at, twos_complement, default_number}
+use Rattle.items.specs.records.{twos_complement, default_number}
 use Rattle.items.specs.layout.{text_limit}
 use Rattle.items.specs.inner.defaults.{ValueTo, DefaultIn, optional_value, default_of, OptionalTo}
 use Rattle.items.specs.declared.defaults.SpanParts.{SpanParts}

@@ -5,7 +5,6 @@ use mathlib.Core.List.{List, [], ◌∷◌}
 use Prim.Native.Nat.{ℕ, ◌+◌, ◌-◌, ◌*◌, ◌≤◌}
 use native.Mathlib.Omega.{arith}
 use lib.ListN.{length, drop}
-use Rattle.lexing.specs.bytes.{within}
 use Rattle.lexing.specs.reply.{ok, Parser, opt}
 use Rattle.lexing.specs.words.{Word}
 use Rattle.lexing.specs.word_sets.{bit}

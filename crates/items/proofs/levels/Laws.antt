@@ -18,7 +18,6 @@ use Rattle.lexing.proofs.Locality.{chain_then, chain_opt, chain_inside}
 use Rattle.lexing.proofs.TokenLocality.{keyword_chain, whitespace0_chain}
 use Rattle.lexing.proofs.Slicing.{Took, walks, begin, on, fall, rebase}
 use Rattle.items.specs.members.{or_else, access_privilege, access_to}
-use Rattle.items.specs.records.{value, at}
 use Rattle.items.specs.inner.levels.{level_lost, LevelTo, LevelAt, access_opening, colon_privilege, PrivilegeTo}
 use Rattle.items.specs.declared.levels.Level.{Level}
 use Rattle.items.specs.declared.levels.Level.TheVariants.{Chosen, NoLevel}
@@ -31,7 +30,7 @@ use Rattle.lexing.proofs.steps.Laws.{tag_after_took, keyword_after_took}
 use Rattle.lexing.proofs.Composed.{onward_then}
 use Rattle.lexing.proofs.answers.Laws.{opt_ok, skip_took, skip_lost}
 use Rattle.items.proofs.Locality.{access_privilege_local, access_to_inside, attribute_handling_type_local}
-use Rattle.items.specs.endpoints.{number, attribute_handling_type}
+use Rattle.items.specs.endpoints.{attribute_handling_type}
 
 -- a step that is not there, where its answer is passed on or dropped
 pub skip_none : {A : Type 0} {m : Parser A} {a : Step} {l : Lost} {n : ℕ} {r : List ℕ} → a ≡ Not l → Skips m a n r → lost_reply l ≡ m n r

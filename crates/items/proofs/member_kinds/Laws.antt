@@ -4,13 +4,13 @@ use mathlib.Core.Logic.{◌⊎◌, inl, inr}
 use mathlib.Core.Bool.{Bool, true, false, cond, ◌&&◌, ◌||◌, true≢false, false≢true}
 use mathlib.Core.Option.{none, some}
 use mathlib.Core.List.{List, [], ◌∷◌, ◌++◌}
-use Prim.Native.Nat.{ℕ, zero, suc, ◌+◌, ◌-◌, ◌≤◌, max}
+use Prim.Native.Nat.{ℕ, zero, suc, ◌-◌, ◌≤◌, max}
 use native.Mathlib.Omega.{arith}
 use borrow.Author.Tests.{eqb-true}
 use lib.Dec.{eqb}
 use lib.ListN.{drop, get_or}
 use Rattle.lexing.specs.bytes.{ascii, byte, lower}
-use Rattle.lexing.specs.reply.{Reply, ok, fail, stop, ret, ◌or◌, no_nearer}
+use Rattle.lexing.specs.reply.{Reply, ok, fail, stop, ret, no_nearer}
 use Rattle.lexing.specs.words.{Word, keyword, any_keyword}
 use Rattle.lexing.specs.blanks.{Doc, no_doc, whitespace0, whitespace1}
 use Rattle.lexing.specs.word_sets.{same_bytes, struct_set}
@@ -26,7 +26,7 @@ use Rattle.lexing.proofs.FirstWord.{starts_of, Frees, free_set, disjoint, Starts
 use Rattle.lexing.proofs.words.Laws.{keyword_says}
 use Rattle.items.specs.entries.{shared_before, choice_head, choice_after_doc_maturity, parse_bitmap_after_doc_maturity, parse_enum_after_doc_maturity}
 use Rattle.items.specs.structs.{struct_head, parse_struct_after_doc_maturity}
-use Rattle.items.specs.clusters.{revision, bitmap, enum, struct, attribute, command, event, member_tries}
+use Rattle.items.specs.clusters.{member_tries}
 use Rattle.items.specs.inner.choices.{ChoiceFrom}
 use Rattle.items.specs.inner.structs.{StructFrom, after_shared, not_shared}
 use Rattle.items.specs.declared.member_kinds.MemberStart.{MemberStart}

@@ -1,10 +1,9 @@
 -- Members of clusters, counted.
 use mathlib.Core.Path.{◌≡◌, refl, sym, subst}
 use mathlib.Core.List.{List}
-use Prim.Native.Nat.{ℕ, ◌-◌}
+use Prim.Native.Nat.{ℕ}
 use native.Mathlib.Omega.{arith}
 use Rattle.lexing.specs.bytes.{ascii}
-use Rattle.lexing.specs.reply.{◌or◌}
 use Rattle.lexing.specs.blanks.{Doc}
 use Rattle.lexing.specs.answers.{lost_reply, Fail}
 use Rattle.lexing.specs.declared.answers.Lost.{Lost}

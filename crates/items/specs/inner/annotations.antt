@@ -1,6 +1,6 @@
 -- What the readers and writers of annotations promise.
 use Rattle.std.specs.Prelude.{ℕ, suc, ◌-◌, ◌≤◌, ◌<◌, List, [], ◌∷◌, map}
-use Rattle.lexing.specs.reply.{Reply, ok, fail, stop, Parser, ◌>>=◌, ◌>>◌}
+use Rattle.lexing.specs.reply.{Reply, ok, fail, stop, Parser, ◌>>◌}
 use Rattle.lexing.specs.blanks.{whitespace0}
 use Rattle.lexing.specs.answers.{Answer, got, lost, ReadTo, word_between, span_to, Fail}
 use Rattle.lexing.specs.declared.answers.Lost.{Lost}

@@ -1,5 +1,5 @@
 -- What the ends of a count promise.
-use Rattle.std.specs.Prelude.{ℕ, ◌-◌, max, ◌≤◌, ◌+◌, ◌≡◌, List, length}
+use Rattle.std.specs.Prelude.{ℕ, max, ◌≤◌, ◌+◌, ◌≡◌, List, length}
 use Rattle.lexing.specs.bytes.{byte}
 use Rattle.lexing.specs.words.{tag}
 use Rattle.lexing.specs.declared.answers.Lost.{Lost}

@@ -1,5 +1,5 @@
 -- What the readers of default values promise.
-use Rattle.std.specs.Prelude.{ℕ, ◌+◌, ◌<◌, ◌-◌, ◌≡◌, List}
+use Rattle.std.specs.Prelude.{ℕ, ◌+◌, ◌<◌, ◌≡◌, List}
 use Rattle.std.proofs.Math.Option.{Option, none, some}
 use Rattle.lexing.specs.reply.{Parser, ◌>>◌, opt, fail}
 use Rattle.lexing.specs.integers.{signed, positive_integer, signed_integer}

@@ -1,11 +1,11 @@
 -- What the readers and writers of members promise.
-use Rattle.std.specs.Prelude.{ℕ, ◌-◌, List, [], ◌∷◌, ◌≡◌}
+use Rattle.std.specs.Prelude.{ℕ, List, [], ◌∷◌, ◌≡◌}
 use Rattle.lexing.specs.reply.{Parser, ◌>>=◌, ◌>>◌}
 use Rattle.lexing.specs.answers.{Answer, got, lost, ReadTo}
 use Rattle.lexing.specs.declared.integers.Number.{Number}
 use Rattle.lexing.specs.declared.integers.Number.TheVariants.{Value, NoNumber}
 use Rattle.items.specs.clusters.{Member, revision, parse_revision, member_tries}
-use Rattle.items.specs.records.{Record, member_records, at, last_revision}
+use Rattle.items.specs.records.{Record, member_records, last_revision}
 use Rattle.items.specs.answers.{CountsTo, Written}
 use Rattle.items.specs.declared.counts.Count.{Count}
 use Rattle.lexing.specs.blanks.{Doc, whitespace0}

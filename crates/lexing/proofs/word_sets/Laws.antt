@@ -10,7 +10,7 @@ use native.Mathlib.Nat.{mul_assoc, mul_comm, pow-suc, one-le-pow, pow-le-pow_rig
 use lib.Dec.{eqb, leb, ltb}
 use lib.ListN.{length, drop, take, get_or, length-drop, drop_of_length-le, get_or-eq_default}
 use lib.Seq.{drop-cons, get_or-take, get_or-drop, length-take-le}
-use borrow.Author.Tests.{eq-eqb, ne_eqb, eqb-true, eqb-false, leb-true, ltb-true, ltb-false, not-true, not-false}
+use borrow.Author.Tests.{eq-eqb, ne_eqb, eqb-true, eqb-false, leb-true, ltb-true, ltb-false, not-true}
 use Rattle.lexing.specs.bytes.{slash, underscore, is_letter, is_digit, is_word, within, lower}
 use Rattle.lexing.specs.reply.{Reply, ok, fail, stop, ret, ◌>>=◌, ◌>>◌, ◌or◌, no_nearer, keep}
 use Rattle.lexing.specs.words.{Word, bytes_of, is_key_letter, is_key, is_keyword, is_lower, keyword, any_keyword}

@@ -1,5 +1,5 @@
 -- What the private functions of the readers of integers promise.
-use Rattle.std.specs.Prelude.{ℕ, ◌-◌, ◌≤◌, ◌<◌, ◌≡◌, Bool, true, false, ◌&&◌, ◌||◌, List, eqb, length, get_or}
+use Rattle.std.specs.Prelude.{ℕ, ◌≤◌, ◌<◌, ◌≡◌, Bool, true, false, ◌&&◌, ◌||◌, List, eqb, length, get_or}
 use Rattle.lexing.specs.bytes.{is_digit, is_hex, list_take_while, number}
 use Rattle.lexing.specs.integers.{u64_max}
 use Rattle.lexing.specs.declared.integers.Digits.{Digits}

@@ -11,7 +11,7 @@ use Rattle.lexing.specs.buffers.{each, big_endian, words_bytes, put}
 use Rattle.lexing.proofs.buffers.Laws.{each_one, big_endian_length}
 use Rattle.items.specs.clusters.{Member, revision, bitmap, enum, struct, attribute, command, event}
 use Rattle.items.specs.items.{Item}
-use Rattle.items.specs.records.{at, Record, item_records}
+use Rattle.items.specs.records.{Record, item_records}
 use Rattle.items.specs.layout.{packed, from_top, total, offset, size, kind_field, place_field, layout, first_words, record_words, catalogue_words, words_of_kind, catalogue_bytes, word_count, text_limit}
 use Rattle.items.specs.stored.{word_at, field_number, same_field, below, value_at, placed}
 use Rattle.items.specs.answers.items.{unhoisted_item}

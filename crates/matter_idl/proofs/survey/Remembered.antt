@@ -21,7 +21,7 @@ use Rattle.items.specs.answers.items.{unhoisted_item}
 use Rattle.items.specs.declared.writing.Wrote.{Wrote}
 use Rattle.matter_idl.specs.hoisting.{no_ids, hoisted}
 use Rattle.matter_idl.specs.reading.{all_items, Verdict as VerdictOf, accepted, turned_down, by_reply, by_utf8, verdict_at}
-use Rattle.matter_idl.specs.survey.{items_of, ReportEntry, sound, spoilt, report_entry}
+use Rattle.matter_idl.specs.survey.{items_of, ReportEntry, sound, report_entry}
 use Rattle.matter_idl.specs.answers.reading.{VerdictAtTo}
 use Rattle.matter_idl.specs.inner.reading.{HoistedItemsTo}
 use Rattle.matter_idl.specs.inner.bits.{bits_size, has_bit, BitSet}

@@ -1,5 +1,5 @@
 -- What the verdict on a part and on a whole text says, as that of the definition.
-use Rattle.std.specs.Prelude.{ℕ, ◌+◌, ◌-◌, ◌*◌, ◌≤◌, ◌<◌, ◌≡◌, List, length, drop}
+use Rattle.std.specs.Prelude.{ℕ, ◌+◌, ◌-◌, ◌*◌, ◌≤◌, ◌≡◌, List, length, drop}
 use Rattle.lexing.specs.reply.{ok}
 use Rattle.lexing.specs.outcomes.{part_numbers, text_numbers, Among}
 use Rattle.lexing.specs.answers.{on_lost}

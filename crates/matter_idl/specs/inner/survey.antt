@@ -1,5 +1,5 @@
 -- What the code of the survey holds of a verdict, and what its steps promise.
-use Rattle.std.specs.Prelude.{ℕ, ◌^◌, ◌-◌, ◌≤◌, ◌<◌, ◌≡◌, Bool, true, false, List, [], ◌∷◌, ◌++◌, length, get_or, drop}
+use Rattle.std.specs.Prelude.{ℕ, ◌^◌, ◌-◌, ◌≤◌, ◌<◌, ◌≡◌, Bool, true, false, List, ◌++◌, length, get_or, drop}
 use Rattle.items.specs.layout.{packed, offset_width, text_limit}
 use Rattle.matter_idl.specs.reading.{verdict_at}
 use Rattle.matter_idl.specs.survey.{items_of, ReportEntry, sound, spoilt, report_entry, number_width, report_row}

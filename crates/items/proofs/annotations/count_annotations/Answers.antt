@@ -1,5 +1,4 @@
 use native.Mathlib.Omega.{arith}
-use Prim.Native.Nat.{◌-◌}
 use Rattle.items.specs.entries.{blank_annotation}
 use Rattle.items.specs.records.{annotation_record}
 use Rattle.items.proofs.RecordWords.{map_elementwise}

@@ -1,6 +1,5 @@
 use native.Mathlib.Omega.{arith}
 use mathlib.Core.Path.{refl}
-use Prim.Native.Nat.{◌-◌}
 use Rattle.items.specs.records.{annotation_record}
 use Rattle.items.proofs.RecordWords.{map_elementwise}
 use Rattle.lexing.proofs.AnswerLaws.{read_within}

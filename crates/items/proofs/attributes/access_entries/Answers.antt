@@ -1,5 +1,4 @@
 use native.Mathlib.Omega.{arith}
-use Prim.Native.Nat.{◌-◌}
 use mathlib.Core.Path.{refl}
 use Rattle.lexing.proofs.steps.Laws.{tag_after_took}
 use Rattle.items.proofs.attributes.Laws.{first, next, entering_small, entering_at, entry_on, entries_end, entered, entries_closed}

@@ -1,5 +1,4 @@
 use native.Mathlib.Omega.{arith}
-use Prim.Native.Nat.{◌-◌}
 use Rattle.items.proofs.clusters.Laws.{members_start, members_more, members_on_turn, members_end}
 use Rattle.items.proofs.clusters.count_members.Goals as goal
 

@@ -1,5 +1,4 @@
 use native.Mathlib.Omega.{arith}
-use Prim.Native.Nat.{◌-◌}
 use Rattle.lexing.proofs.Slicing.{blank_took, tag_took, told_not}
 use Rattle.lexing.proofs.steps.Laws.{rest_clear}
 use Rattle.items.proofs.writing.Laws.{doc_in_limit}

@@ -1,5 +1,4 @@
 use native.Mathlib.Omega.{arith}
-use Prim.Native.Nat.{◌-◌}
 use Rattle.lexing.proofs.Slicing.{tag_took, told_not}
 use Rattle.items.specs.records.{part_records}
 use Rattle.items.proofs.Locality.{part_tries_inside, part_tries_consumes}

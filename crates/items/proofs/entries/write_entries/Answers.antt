@@ -1,6 +1,5 @@
 use native.Mathlib.Omega.{arith}
 use mathlib.Core.Path.{refl}
-use Prim.Native.Nat.{◌-◌}
 use Rattle.lexing.proofs.AnswerLaws.{read_within}
 use Rattle.items.specs.entries.{blank_entry, constant_entries}
 use Rattle.items.specs.records.{entry_records}

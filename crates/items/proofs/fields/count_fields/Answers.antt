@@ -1,5 +1,4 @@
 use native.Mathlib.Omega.{arith}
-use Prim.Native.Nat.{◌-◌}
 use Rattle.items.specs.records.{field_record}
 use Rattle.items.specs.structs.{closed_field, fields_run}
 use Rattle.items.proofs.Locality.{closed_field_consumes}

@@ -1,6 +1,5 @@
 use native.Mathlib.Omega.{arith}
 use mathlib.Core.Path.{refl}
-use Prim.Native.Nat.{◌-◌}
 use Rattle.items.specs.structs.{fields_run}
 use Rattle.items.specs.records.{field_record}
 use Rattle.items.proofs.RecordWords.{map_elementwise}

@@ -1,5 +1,4 @@
 use native.Mathlib.Omega.{arith}
-use Prim.Native.Nat.{◌-◌}
 use Rattle.lexing.proofs.Slicing.{tag_took, told_not}
 use Rattle.items.specs.records.{instance_record}
 use Rattle.items.proofs.Locality.{instance_tries_inside, instance_tries_consumes}

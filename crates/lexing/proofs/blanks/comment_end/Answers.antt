@@ -1,5 +1,4 @@
 use native.Mathlib.Omega.{arith}
-use Prim.Native.Nat.{◌-◌}
 use Rattle.lexing.proofs.blanks.Laws.{until_start, until_eight, until_more, until_found, until_end}
 use Rattle.lexing.proofs.blanks.comment_end.Goals as goal
 

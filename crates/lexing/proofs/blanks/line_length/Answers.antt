@@ -1,5 +1,4 @@
 use mathlib.Core.Path.{sym, ◌∙◌}
-use Prim.Native.Nat.{◌-◌}
 use Rattle.lexing.proofs.Scans.{runs_start, runs_more, runs_stop, runs_out}
 use Rattle.lexing.proofs.blanks.line_length.Goals as goal
 

@@ -1,5 +1,4 @@
 use native.Mathlib.Omega.{arith}
-use Prim.Native.Nat.{◌-◌}
 use Rattle.lexing.proofs.blanks.Laws.{blanks_start, blanks_comment, blanks_again, blanks_end}
 use Rattle.lexing.proofs.blanks.more_blanks.Goals as goal
 

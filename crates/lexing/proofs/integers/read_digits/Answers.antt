@@ -1,6 +1,5 @@
 use mathlib.Core.Path.{sym, ◌∙◌}
 use native.Mathlib.Omega.{arith}
-use Prim.Native.Nat.{◌-◌}
 use Rattle.lexing.proofs.integers.Laws.{digits_start, digits_stop, digits_more, digits_over, digits_out, with_room, without_room}
 use Rattle.lexing.proofs.integers.read_digits.Goals as goal
 

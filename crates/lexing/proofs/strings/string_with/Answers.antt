@@ -1,5 +1,4 @@
 use native.Mathlib.Omega.{arith}
-use Prim.Native.Nat.{◌-◌}
 use Rattle.lexing.specs.inner.strings.{escapes_of}
 use Rattle.lexing.proofs.strings.Laws.{string_no, string_start, string_more, string_ends}
 use Rattle.lexing.proofs.strings.string_with.Goals as goal

@@ -1,5 +1,4 @@
 use Rattle.lexing.proofs.unescaping.Laws.{counting_start, counting_more, counting_fault, counting_end, piece_less}
-use Prim.Native.Nat.{◌-◌}
 use native.Mathlib.Omega.{arith}
 use Rattle.lexing.proofs.unescaping.size_of.Goals as goal
 

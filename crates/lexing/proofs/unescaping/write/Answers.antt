@@ -1,5 +1,4 @@
 use Rattle.lexing.proofs.unescaping.Laws.{writing_start, writing_end, writing_fault, writing_fits, writing_more, piece_less}
-use Prim.Native.Nat.{◌-◌}
 use native.Mathlib.Omega.{arith}
 use Rattle.lexing.proofs.unescaping.write.Goals as goal
 

@@ -1,5 +1,4 @@
 use mathlib.Core.Path.{sym, ◌∙◌}
-use Prim.Native.Nat.{◌-◌}
 use Rattle.lexing.proofs.utf8.Laws.{size_cut, second_in, second_out, tail_in, tail_out, tails_end}
 use Rattle.lexing.proofs.utf8.size_by.Goals as goal
 

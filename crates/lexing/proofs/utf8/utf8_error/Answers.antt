@@ -1,4 +1,3 @@
-use Prim.Native.Nat.{◌-◌}
 use Rattle.lexing.proofs.utf8.Laws.{passed_start, passed_more, passed_end, passed_run, passed_ill, rest_first}
 use native.Mathlib.Omega.{arith}
 use Rattle.lexing.proofs.utf8.utf8_error.Goals as goal

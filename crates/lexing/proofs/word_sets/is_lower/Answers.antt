@@ -1,5 +1,4 @@
 use mathlib.Core.Path.{sym, ◌∙◌}
-use Prim.Native.Nat.{◌-◌}
 use Rattle.lexing.proofs.word_sets.Laws.{lower_more, lower_not, lower_end}
 use Rattle.lexing.proofs.word_sets.is_lower.Goals as goal
 

@@ -1,5 +1,4 @@
 use native.Mathlib.Omega.{arith}
-use Prim.Native.Nat.{◌-◌}
 use Rattle.lexing.proofs.word_sets.Laws.{lower_start, lower_eight}
 use Rattle.lexing.proofs.word_sets.lower_run.Goals as goal
 

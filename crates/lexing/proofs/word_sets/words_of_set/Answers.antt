@@ -3,7 +3,6 @@ use Rattle.lexing.specs.bytes.{lower}
 use Rattle.lexing.specs.answers.{set_of}
 use Rattle.lexing.specs.inner.word_sets.{initial}
 use native.Mathlib.Omega.{arith}
-use Prim.Native.Nat.{◌-◌}
 use Rattle.lexing.proofs.word_sets.Laws.{set_most, set_start, set_no_start, set_no_initial, start_took, walk_start, walk_end, walk_more, walk_found, walk_again}
 use Rattle.lexing.proofs.word_sets.words_of_set.Goals as goal
 

@@ -1,6 +1,5 @@
 use mathlib.Core.Path.{sym, ◌∙◌}
 use native.Mathlib.Omega.{arith}
-use Prim.Native.Nat.{◌-◌}
 use Rattle.lexing.proofs.words.Laws.{key_letter, key_short, key_no_byte, key_more, key_end}
 use Rattle.lexing.proofs.words.has_key.Goals as goal
 

@@ -1,7 +1,6 @@
 use borrow.Author.Count.{below_none, below_more}
 use mathlib.Core.Path.{sym, ◌∙◌}
 use native.Mathlib.Omega.{arith}
-use Prim.Native.Nat.{◌-◌}
 use Rattle.lexing.proofs.words.Laws.{is_key_not, is_key_end}
 use Rattle.lexing.proofs.words.is_key.Goals as goal
 

@@ -1,5 +1,4 @@
 use native.Mathlib.Omega.{arith}
-use Prim.Native.Nat.{◌-◌}
 use lib.Count.{trailing_le}
 use Rattle.lexing.proofs.Scans.{runs_from}
 use Rattle.lexing.proofs.words.Laws.{letters_some, letters_all}

@@ -1,4 +1,3 @@
-use Prim.Native.Nat.{◌-◌}
 use Rattle.matter_idl.proofs.filter.Laws.{adding_start, adding_more, adding_end}
 use Rattle.matter_idl.proofs.filter.add.Goals as goal
 

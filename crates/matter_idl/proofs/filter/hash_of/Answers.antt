@@ -1,4 +1,4 @@
-use Prim.Native.Nat.{◌+◌, ◌-◌}
+use Prim.Native.Nat.{◌+◌}
 use native.Mathlib.Omega.{arith}
 use Rattle.matter_idl.proofs.filter.Laws.{hash_start, hash_end, hash_more}
 use Rattle.matter_idl.proofs.filter.hash_of.Goals as goal

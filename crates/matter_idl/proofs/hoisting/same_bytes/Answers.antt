@@ -1,4 +1,3 @@
-use Prim.Native.Nat.{◌-◌}
 use Rattle.matter_idl.proofs.hoisting.Laws.{same_start, same_end, same_differs, same_more}
 use Rattle.matter_idl.proofs.hoisting.same_bytes.Goals as goal
 

@@ -1,5 +1,4 @@
 use native.Mathlib.Omega.{arith}
-use Prim.Native.Nat.{◌-◌}
 use Rattle.lexing.proofs.Slicing.{blank_took}
 use Rattle.lexing.proofs.steps.Laws.{rest_clear}
 use Rattle.matter_idl.proofs.reading.Laws.{items_start, items_more, items_lost, items_ended}

@@ -1,4 +1,3 @@
-use Prim.Native.Nat.{◌-◌}
 use Rattle.matter_idl.proofs.sections.Laws.{uncut_start, uncut_run}
 use Rattle.matter_idl.proofs.sections.cutless.Goals as goal
 

@@ -1,4 +1,3 @@
-use Prim.Native.Nat.{◌-◌}
 use mathlib.Core.Path.{refl}
 use Rattle.matter_idl.proofs.sections.Laws.{uncut_more, cut_found, cut_nowhere}
 use Rattle.matter_idl.proofs.sections.first_section.Goals as goal

@@ -1,4 +1,3 @@
-use Prim.Native.Nat.{◌-◌}
 use mathlib.Core.Path.{◌∙◌}
 use native.Mathlib.Omega.{arith}
 use Rattle.matter_idl.proofs.survey.SecondPass.{writing_start, catalogue_written, report_written, ends, this_part, this_mark, entry_room, words_room, writing_more}
