@@ -67,7 +67,13 @@ fn main(rt: HostRuntime) {
     let mut text = [0u8; 65536];
     let mut catalogue = [0u8; 65536];
     let errors = rt.stderr();
-    let listed = list(&mut rt.stdin(), &rt.stdout(), &errors, &mut text, &mut catalogue);
+    let listed = list(
+        &mut rt.stdin(),
+        &rt.stdout(),
+        &errors,
+        &mut text,
+        &mut catalogue,
+    );
     if listed.is_err() {
         let _ = errors.write_all(b"lister: the output can't be written\n");
     }

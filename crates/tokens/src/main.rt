@@ -118,7 +118,10 @@ fn print_answer(out: &impl Print, reader: u8, part: &[u8], base: usize) -> io::R
         b'a' => print_step(out, lexing::strings::quoted_string(part, base)),
         b'd' => print_step(out, lexing::strings::default_string(part, base)),
         b'u' => print_utf8(out, lexing::utf8::utf8_error(part, base)),
-        b'0'..=b'4' => print_set(out, lexing::word_sets::keywords_set(part, base, reader - b'0')),
+        b'0'..=b'4' => print_set(
+            out,
+            lexing::word_sets::keywords_set(part, base, reader - b'0'),
+        ),
         _ => out.write_all(b" no such reader"),
     }
 }
