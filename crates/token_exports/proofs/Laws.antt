@@ -3,7 +3,7 @@ use Prim.Native.Nat.{ℕ, zero, suc}
 use mathlib.Core.Path.{◌≡◌, refl, sym, ◌∙◌, ap, subst}
 use mathlib.Core.Bool.{Bool, true, false}
 use mathlib.Core.List.{List}
-use Rattle.lexing.specs.reply.{Reply, fail, stop}
+use Rattle.lexing.specs.reply.{fail, stop}
 use Rattle.lexing.specs.integers.{u64_max}
 use Rattle.lexing.specs.words.{Word, is_key, keyword}
 use Rattle.lexing.specs.answers.{word_at, word_reply, lost_case}

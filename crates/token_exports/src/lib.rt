@@ -1,4 +1,6 @@
 // Readers of tokens under C names, for the measurements in bench/.
+#![tactic(auto)]
+
 ghost use Rattle.std.specs.Prelude.{◌≡◌};
 ghost use Rattle.lexing.specs.blanks.{whitespace0};
 ghost use Rattle.token_exports.specs.exports.{following, after_keyword};

@@ -1,8 +1,10 @@
 // Replays stored texts: a line of standard input is a text's bytes in hexadecimal, then `=` and the bytes of its catalogue, or `!` and the result of its refusal, or, for
 // a survey, `@` and the bytes of its catalogue, then `+` and those of its report. A line whose answer is another comes back; last come the number of texts and of those that differ.
-ghost use Rattle.std.specs.Prelude.{◌≤◌, length};
+#![tactic(auto)]
 
-const OUT: i32 = 1;
+ghost use Rattle.std.specs.Prelude.{◌≤◌, IfOk, length};
+
+use std::io;
 
 // What a catalogue holds before the call, to see which bytes are written.
 const FILL: u8 = 0xa5;
@@ -88,9 +90,9 @@ fn is_untouched(bytes: &[u8]) -> bool {
 }
 
 // Whether a text was accepted with the wanted catalogue, and nothing after it is written.
-fn is_accepted(res: u64, catalogue: &[u8], wanted: &[u8]) -> bool {
+fn is_accepted(answer: u64, catalogue: &[u8], wanted: &[u8]) -> bool {
     let n = wanted.len();
-    if res != n as u64 {
+    if answer != n as u64 {
         return false;
     }
     if same(lines::front(catalogue, n), wanted) {
@@ -100,9 +102,9 @@ fn is_accepted(res: u64, catalogue: &[u8], wanted: &[u8]) -> bool {
 }
 
 // Whether a text was refused with the wanted result, and nothing is written.
-fn is_refused(res: u64, catalogue: &[u8], wanted: &[u8]) -> bool {
+fn is_refused(answer: u64, catalogue: &[u8], wanted: &[u8]) -> bool {
     let mut word = [0u8; 8];
-    lexing::buffers::put_word(&mut word, 0, res);
+    lexing::buffers::put_word(&mut word, 0, answer);
     if same(&word, wanted) {
         return is_untouched(catalogue);
     }
@@ -152,43 +154,40 @@ fn holds(line: &[u8]) -> bool {
 }
 
 // How many lines differ: 1 or 0.
-fn replay(line: &[u8]) -> usize
-    ensures { result ≤ 1 }
+fn replay(out: &impl Print, line: &[u8]) -> io::Result<usize>
+    ensures { IfOk result (λ n. n ≤ 1) }
 {
     if holds(line) {
-        return 0;
+        return Ok(0);
     }
-    io::write_all(OUT, line);
-    io::write_all(OUT, b"\n");
-    1
+    out.write_all(line)?;
+    out.write_all(b"\n")?;
+    Ok(1)
 }
 
-fn print_counts(texts: usize, differ: usize) {
-    io::print_decimal(OUT, texts as u64);
-    io::write_all(OUT, b" texts, ");
-    io::print_decimal(OUT, differ as u64);
-    io::write_all(OUT, b" differ\n");
+fn print_counts(out: &impl Print, texts: usize, differ: usize) -> io::Result<()> {
+    println!(out; "{texts} texts, {differ} differ")
 }
 
-fn replay_lines(input: &[u8]) {
+fn replay_lines(out: &impl Print, input: &[u8]) -> io::Result<()> {
     let mut at = 0;
     let mut texts = 0;
     let mut differ = 0;
     while at < input.len() {
         let rest = lexing::parts::rest_at(input, 0, at);
         let n = lines::line_length(rest);
-        differ += replay(lines::front(rest, n));
+        differ += replay(out, lines::front(rest, n))?;
         texts += 1;
         at += n;
         if at < input.len() {
             at += 1;
         }
     }
-    print_counts(texts, differ);
+    print_counts(out, texts, differ)
 }
 
-fn main() {
+fn main(rt: HostRuntime) -> io::Result<()> {
     let mut input = [0u8; 524288];
-    let n = io::read_full(0, &mut input);
-    replay_lines(&input[..n]);
+    let n = lines::read_full(&mut rt.stdin(), &mut input);
+    replay_lines(&rt.stdout(), &input[..n])
 }
