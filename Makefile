@@ -59,11 +59,12 @@ all: $(PROGRAMS) build/$(LINK)
 # sources, since their times tell that a file is gone.
 ifndef ARCHIVE
 ARCHIVE = target/staticlib/libmatter_idl.a
-CRATES = matter_idl $(shell sed -n 's/^matter_idl://p' crates.txt)
-$(ARCHIVE): crates.txt $(shell find $(foreach crate,$(CRATES),crates/$(crate)/src crates/$(crate)/specs crates/$(crate)/proofs))
+CRATES = matter_idl_c $(shell sed -n 's/^matter_idl_c staticlib://p' crates.txt)
+$(ARCHIVE): crates.txt $(shell find $(wildcard $(foreach crate,$(CRATES),crates/$(crate)/src crates/$(crate)/specs crates/$(crate)/proofs)))
 	@command -v rt >/dev/null || { echo "$@ isn't there or is older than its sources, and rt, which makes it, isn't there; ARCHIVE=path takes an archive as it is" >&2; exit 1; }
-	rt staticlib matter_idl
-	touch $@
+	cd crates/matter_idl_c && rt lib
+	mkdir -p $(@D)
+	cp crates/matter_idl_c/out/libmatter_idl_c.a $@
 endif
 # As a word for the shell, and as a prerequisite.
 archive = $(call quoted,$(ARCHIVE))
@@ -124,7 +125,7 @@ dist: build/explain build/$(LINK)
 	$(call pc,$${pcfiledir}/../..,$${prefix}/include,$${prefix}/lib) >build/dist/$(PACKAGE)/lib/pkgconfig/matter_idl.pc
 	tools/dist $(PACKAGE) $(archive) $(call quoted,$(CC))
 
-# What is proved, target/, stays.
+# The archive, in target/, stays, and what is proved, in crates/*/out/.
 clean:
 	rm -rf build
 
