@@ -43,10 +43,10 @@ extern "C" {
 #define MATTER_IDL_TEXT_LIMIT 1048575
 
 /* Bytes of catalogue that are always enough for n bytes of text, whether read or surveyed: no text takes more words than it
-   has bytes, which is proved (reading-enough, survey-catalogue-enough). It is never 0, so that malloc gives a pointer. */
+   has bytes, which is proved (reading_enough, survey_catalogue_enough). It is never 0, so that malloc gives a pointer. */
 #define MATTER_IDL_CATALOGUE_BYTES(n) (MATTER_IDL_CAST(size_t, 8) * MATTER_IDL_CAST(size_t, n) + 8)
 
-/* Bytes of report that are always enough for n bytes of text, which is proved (survey-report-enough). */
+/* Bytes of report that are always enough for n bytes of text, which is proved (survey_report_enough). */
 #define MATTER_IDL_REPORT_BYTES_ENOUGH(n) (MATTER_IDL_CAST(size_t, 4) * MATTER_IDL_CAST(size_t, n) + 8)
 
 /* Bytes of report that a survey needs for a number of sections (see matter_idl_sections), no more and no less. */
