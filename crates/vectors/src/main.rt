@@ -2,7 +2,7 @@
 // a survey, `@` and the bytes of its catalogue, then `+` and those of its report. A line whose answer is another comes back; last come the number of texts and of those that differ.
 #![tactic(auto)]
 
-ghost use Rattle.std.specs.Prelude.{◌≤◌, IfOk, length};
+ghost use Rattle.std.specs.Prelude.{◌≤◌, ◌≡◌, IfOk, length};
 
 use std::io;
 
@@ -186,8 +186,15 @@ fn replay_lines(out: &impl Print, input: &[u8]) -> io::Result<()> {
     print_counts(out, texts, differ)
 }
 
+// Zeros. The length is a parameter, since a proof over a numeral as large as that of main goes through every element.
+fn zeros<const N: usize>() -> [u8; N]
+    ensures { N ≡ length result }
+{
+    [0; N]
+}
+
 fn main(rt: HostRuntime) -> io::Result<()> {
-    let mut input = [0u8; 524288];
+    let mut input = zeros::<524288>();
     let n = lines::read_full(&mut rt.stdin(), &mut input);
     replay_lines(&rt.stdout(), &input[..n])
 }
