@@ -1,3 +1,3 @@
--- The laws of well_formed UTF-8, which callers cite too, and known answers.
+-- The laws of well-formed UTF-8, which callers cite too, and known answers.
 pub mod Laws
 pub mod KnownAnswers

@@ -71,7 +71,7 @@ fault between = none
 fault (inside r rs a) = some a
 fault (ill a) = some a
 
--- the offset of the first byte of the first ill-formed sequence, of bytes from the offset b on; none where they are well_formed
+-- the offset of the first byte of the first ill-formed sequence, of bytes from the offset b on; none where they are well-formed
 unfoldable pub utf8_error : ℕ → List ℕ → Option ℕ
 utf8_error b u = fault (run b between u)
 

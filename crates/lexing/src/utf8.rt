@@ -1,4 +1,4 @@
-// The test for well_formed UTF-8.
+// The test for well-formed UTF-8.
 ghost use Rattle.std.specs.Prelude.{◌≡◌, ◌+◌, ◌≤◌, ◌<◌, length, drop, get_or};
 ghost use Rattle.std.proofs.Math.Option.{some};
 ghost use Rattle.lexing.specs.integers.{u64_max};
@@ -36,7 +36,7 @@ fn size_by(rest: &[u8], n: usize, lo: u8, hi: u8) -> usize
     n
 }
 
-// The size of the well_formed sequence at the front, 0 where there is none: a test for each row of the Unicode Standard's table 3-7.
+// The size of the well-formed sequence at the front, 0 where there is none: a test for each row of the Unicode Standard's table 3-7.
 // ASCII, the table's first row, is not asked here.
 fn sequence_size(rest: &[u8]) -> usize
     requires { (0 < length rest.now) × (0x80 ≤ get_or rest.now 0 0) }
@@ -116,7 +116,7 @@ fn ascii_step(part: &[u8], i: usize) -> usize
     (u64::trailing_zeros(m) / 8) as usize
 }
 
-// Where a part is not well_formed UTF-8, if anywhere; base is the offset of its first byte. A turn passes ASCII bytes, or a longer sequence.
+// Where a part is not well-formed UTF-8, if anywhere; base is the offset of its first byte. A turn passes ASCII bytes, or a longer sequence.
 pub fn utf8_error(part: &[u8], base: usize) -> Utf8
     requires { base + length part.now ≤ u64_max }
     ensures { error_of result ≡ utf8_error base part.now }

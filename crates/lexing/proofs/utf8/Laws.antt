@@ -1,4 +1,4 @@
--- Laws of well_formed UTF-8: texts one after the other, moved offsets, where a fault can be; then the laws of the sequences that the code reads.
+-- Laws of well-formed UTF-8: texts one after the other, moved offsets, where a fault can be; then the laws of the sequences that the code reads.
 use mathlib.Core.Path.{◌≡◌, refl, sym, ap, ◌∙◌}
 use mathlib.Core.Bool.{Bool, true, false, ◌&&◌, false≢true}
 use mathlib.Core.Option.{Option, none, some}

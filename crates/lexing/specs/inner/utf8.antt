@@ -1,4 +1,4 @@
--- What the private functions of the test for well_formed UTF-8 promise.
+-- What the private functions of the test for well-formed UTF-8 promise.
 use Rattle.std.specs.Prelude.{ℕ, suc, ◌+◌, ◌-◌, ◌≤◌, ◌<◌, Bool, true, false, ◌&&◌, List, [], ◌∷◌, length, get_or, replicate}
 use Rattle.std.proofs.Math.Option.{Option, none, some}
 use Rattle.lexing.specs.utf8.{Range, ◌to◌, has, following, table}
@@ -14,7 +14,7 @@ unfoldable pub size_of : Option (List Range) → List ℕ → ℕ
 size_of none u = 0
 size_of (some rs) u = elim (fits rs u) [ true ↦ suc (length rs) | false ↦ 0 ]
 
--- the length of the well_formed sequence at the front, 0 where there is none
+-- the length of the well-formed sequence at the front, 0 where there is none
 unfoldable pub sequence_size : List ℕ → ℕ
 sequence_size [] = 0
 sequence_size (x ∷ u) = size_of (following table x) u
