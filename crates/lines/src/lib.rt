@@ -1,4 +1,4 @@
-// Lines of known answers, for the programs that run them.
+// Lines of known answers, for the programs that run them, and how a program reads its input.
 #![tactic(auto)]
 
 ghost use Rattle.std.specs.Prelude.{◌≤◌, ◌≡◌, length, take};

@@ -2,8 +2,6 @@
 // Standard error says where the input can't be read or the output can't be written.
 #![tactic(auto)]
 
-ghost use Rattle.std.specs.Prelude.{◌≤◌, length};
-
 use matter_idl::interface::matter_idl_read;
 use std::io;
 use std::io::Read;
