@@ -30,23 +30,33 @@ TOKEN = re.compile(CHARS + "+")
 DEFINED = re.compile(r"^\s*(?:(?:unfoldable|abbrev|pub|data|record|ruleset|opaque)\s+)*((?:%s+\s+)*%s+)\s*(?:\([^)]*\)\s*|\{[^}]*\}\s*)*:\s" % (CHARS, CHARS))
 
 
+# a list of lemmas, a name that an import gives, and a parameter that stands with others
+RULESET = re.compile(r"^\s*(?:pub )?ruleset (%s+) =" % CHARS)
+ALIAS = re.compile(r" as (%s+)" % CHARS)
+PARAMETERS = {"is-write", "unescapeOf"}
+
+
 def files(*patterns):
     return sorted({f for p in patterns for f in glob.glob(p, recursive=True)})
 
 
 def walk(file):
     """A function's proof, whose names Rattle makes."""
-    return file.endswith("/Proof.antt")
+    return file.endswith(("/Proof.antt", "/Answers.antt", "/Invariants.antt"))
 
 
 def own():
-    names = set()
+    names = set(PARAMETERS)
     for file in files("crates/*/specs/**/*.antt", "crates/*/proofs/**/*.antt"):
         if walk(file):
             continue
         for line in open(file):
-            if not line.lstrip().startswith("--") and (m := DEFINED.match(line)):
+            if line.lstrip().startswith("--"):
+                continue
+            if m := DEFINED.match(line):
                 names.update(m[1].split())
+            names.update(RULESET.findall(line))
+            names.update(ALIAS.findall(line) if line.startswith("use ") else [])
     return names
 
 

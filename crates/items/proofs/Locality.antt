@@ -164,17 +164,17 @@ pub braces_chain : {A : Type 0} {m : Parser A} → OnChain m → OnChain (braces
 unfolding braces
 braces_chain w = enclosed_chain where_missing w
 
-ruleset keeps-rules = (keeps_ret, keeps_bind, keeps_then, keeps_opt, keeps_or, keeps_catch, keeps_fail, keeps_position, keeps_pick, parse_id_keeps, keyword_keeps, any_keyword_keeps, punct_keeps, integer_keeps, whitespace0_keeps, whitespace1_keeps, quoted_keeps, default_string_keeps, signed_keeps, set_flags_keeps)
+ruleset keeps_rules = (keeps_ret, keeps_bind, keeps_then, keeps_opt, keeps_or, keeps_catch, keeps_fail, keeps_position, keeps_pick, parse_id_keeps, keyword_keeps, any_keyword_keeps, punct_keeps, integer_keeps, whitespace0_keeps, whitespace1_keeps, quoted_keeps, default_string_keeps, signed_keeps, set_flags_keeps)
 
-ruleset local-rules = (local_ret, local_bind, local_then, local_opt, local_or, local_catch, local_fail, local_position, local_pick, parse_id_local, keyword_local, any_keyword_local, punct_local, integer_local, whitespace0_local, whitespace1_local, quoted_local, default_string_local, signed_local, set_flags_local)
+ruleset local_rules = (local_ret, local_bind, local_then, local_opt, local_or, local_catch, local_fail, local_position, local_pick, parse_id_local, keyword_local, any_keyword_local, punct_local, integer_local, whitespace0_local, whitespace1_local, quoted_local, default_string_local, signed_local, set_flags_local)
 
-ruleset chain-rules = (chain_ret, chain_bind, chain_then, chain_opt, chain_or, chain_catch, chain_fail, chain_position, chain_pick, chain_many0, braces_chain, parse_id_chain, keyword_chain, any_keyword_chain, integer_chain, whitespace0_chain, whitespace1_chain, quoted_chain, default_string_chain, signed_chain, set_flags_chain, chain_local)
+ruleset chain_rules = (chain_ret, chain_bind, chain_then, chain_opt, chain_or, chain_catch, chain_fail, chain_position, chain_pick, chain_many0, braces_chain, parse_id_chain, keyword_chain, any_keyword_chain, integer_chain, whitespace0_chain, whitespace1_chain, quoted_chain, default_string_chain, signed_chain, set_flags_chain, chain_local)
 
-ruleset consumes-rules = (consumes_left, consumes_right, consumes_then_left, consumes_then_right, consumes_or, consumes_catch, consumes_fail, consumes_pick, parse_id_consumes, keyword_consumes, any_keyword_consumes, tag_consumes, integer_consumes, whitespace1_consumes)
+ruleset consumes_rules = (consumes_left, consumes_right, consumes_then_left, consumes_then_right, consumes_or, consumes_catch, consumes_fail, consumes_pick, parse_id_consumes, keyword_consumes, any_keyword_consumes, tag_consumes, integer_consumes, whitespace1_consumes)
 
-ruleset token-rules = (local_ret, parse_id_local, keyword_local, any_keyword_local, punct_local, integer_local, whitespace0_local, whitespace1_local, quoted_local, default_string_local, signed_local, set_flags_local)
+ruleset token_rules = (local_ret, parse_id_local, keyword_local, any_keyword_local, punct_local, integer_local, whitespace0_local, whitespace1_local, quoted_local, default_string_local, signed_local, set_flags_local)
 
-ruleset inside-rules = (inside_bind, inside_then, inside_opt, inside_or, inside_catch, inside_many0, inside_local)
+ruleset inside_rules = (inside_bind, inside_then, inside_opt, inside_or, inside_catch, inside_many0, inside_local)
 
 -- a value that is changed; it may be after the last }
 pub mapped_local : {A B : Type 0} {m : Parser A} (f : A → B) → Local m → Local (mapped m f)
@@ -196,19 +196,19 @@ mapped_inside f t = inside_bind t (λ a. inside_local (local_ret (f a)))
 -- entries, enums and bitmaps
 pub api_maturity_keeps : KeepsCut api_maturity
 unfolding api_maturity
-api_maturity_keeps = search (keeps-rules) depth 12
+api_maturity_keeps = search (keeps_rules) depth 12
 
 pub api_maturity_local : Local api_maturity
 unfolding api_maturity
-api_maturity_local = search (local-rules, keeps-rules) depth 12
+api_maturity_local = search (local_rules, keeps_rules) depth 12
 
 pub constant_annotation_local : Local constant_annotation
 unfolding constant_annotation
-constant_annotation_local = search (local-rules, keeps-rules) depth 20
+constant_annotation_local = search (local_rules, keeps_rules) depth 20
 
 pub constant_annotation_consumes : Consumes constant_annotation
 unfolding constant_annotation
-constant_annotation_consumes = search (consumes-rules, chain-rules, punct_local) depth 20
+constant_annotation_consumes = search (consumes_rules, chain_rules, punct_local) depth 20
 
 pub optional_comma_chain : OnChain (opt (tag 44))
 optional_comma_chain = chain_opt (punct_local 44 refl).on_chain
@@ -223,7 +223,7 @@ blank_annotation_consumes = consumes_then_right whitespace0_chain constant_annot
 
 pub annotations_in_brackets_inside : LocalInside annotations_in_brackets
 unfolding annotations_in_brackets blank_annotation
-annotations_in_brackets_inside = search (inside-rules, token-rules, constant_annotation_local, constant_annotation_consumes, consumes_then_right, whitespace0_chain) depth 20
+annotations_in_brackets_inside = search (inside_rules, token_rules, constant_annotation_local, constant_annotation_consumes, consumes_then_right, whitespace0_chain) depth 20
 
 pub constant_annotations_list_inside : LocalInside constant_annotations_list
 unfolding constant_annotations_list
@@ -231,19 +231,19 @@ constant_annotations_list_inside = inside_opt annotations_in_brackets_inside
 
 pub constant_entry_inside : LocalInside constant_entry
 unfolding constant_entry
-constant_entry_inside = search (inside-rules, token-rules, api_maturity_local, constant_annotations_list_inside) depth 30
+constant_entry_inside = search (inside_rules, token_rules, api_maturity_local, constant_annotations_list_inside) depth 30
 
 pub constant_entry_consumes : Consumes constant_entry
 unfolding constant_entry
-constant_entry_consumes = search (consumes-rules, chain-rules, chain_inside, punct_local, api_maturity_local, constant_annotations_list_inside) depth 30
+constant_entry_consumes = search (consumes_rules, chain_rules, chain_inside, punct_local, api_maturity_local, constant_annotations_list_inside) depth 30
 
 pub blank_entry_inside : LocalInside blank_entry
 unfolding blank_entry
-blank_entry_inside = search (inside-rules, token-rules, constant_entry_inside) depth 10
+blank_entry_inside = search (inside_rules, token_rules, constant_entry_inside) depth 10
 
 pub blank_entry_consumes : Consumes blank_entry
 unfolding blank_entry
-blank_entry_consumes = search (consumes-rules, chain-rules, chain_inside, punct_local, constant_entry_consumes) depth 10
+blank_entry_consumes = search (consumes_rules, chain_rules, chain_inside, punct_local, constant_entry_consumes) depth 10
 
 pub constant_entries_list_local : Local constant_entries_list
 unfolding constant_entries_list constant_entries
@@ -251,35 +251,35 @@ constant_entries_list_local = braces_local (inside_many0 blank_entry_inside blan
 
 pub shared_before_keeps : KeepsCut shared_before
 unfolding shared_before
-shared_before_keeps = search (keeps-rules) depth 8
+shared_before_keeps = search (keeps_rules) depth 8
 
 pub shared_before_local : Local shared_before
 unfolding shared_before
-shared_before_local = search (local-rules, keeps-rules) depth 8
+shared_before_local = search (local_rules, keeps_rules) depth 8
 
 pub shared_before_consumes : Consumes shared_before
 unfolding shared_before
-shared_before_consumes = search (consumes-rules, chain-rules) depth 8
+shared_before_consumes = search (consumes_rules, chain_rules) depth 8
 
 pub choice_head_keeps : (k : List ℕ) → KeepsCut (choice_head k)
 unfolding choice_head
-choice_head_keeps k = search (keeps-rules, shared_before_keeps) depth 24
+choice_head_keeps k = search (keeps_rules, shared_before_keeps) depth 24
 
 pub choice_head_local : (k : List ℕ) → Local (choice_head k)
 unfolding choice_head
-choice_head_local k = search (local-rules, keeps-rules, shared_before_local, shared_before_keeps) depth 24
+choice_head_local k = search (local_rules, keeps_rules, shared_before_local, shared_before_keeps) depth 24
 
 pub choice_head_consumes : (k : List ℕ) → Consumes (choice_head k)
 unfolding choice_head
-choice_head_consumes k = search (consumes-rules, chain-rules, shared_before_local, punct_local) depth 24
+choice_head_consumes k = search (consumes_rules, chain_rules, shared_before_local, punct_local) depth 24
 
 pub choice_after_doc_maturity_local : (k : List ℕ) (d : Doc) (m : ℕ) → Local (choice_after_doc_maturity k d m)
 unfolding choice_after_doc_maturity
-choice_after_doc_maturity_local k d m = search (local-rules, keeps-rules, choice_head_local, choice_head_keeps, constant_entries_list_local, local_last, blind_ret) depth 24
+choice_after_doc_maturity_local k d m = search (local_rules, keeps_rules, choice_head_local, choice_head_keeps, constant_entries_list_local, local_last, blind_ret) depth 24
 
 pub choice_after_doc_maturity_consumes : (k : List ℕ) (d : Doc) (m : ℕ) → Consumes (choice_after_doc_maturity k d m)
 unfolding choice_after_doc_maturity
-choice_after_doc_maturity_consumes k d m = search (consumes-rules, chain-rules, choice_head_consumes, constant_entries_list_local) depth 24
+choice_after_doc_maturity_consumes k d m = search (consumes_rules, chain_rules, choice_head_consumes, constant_entries_list_local) depth 24
 
 pub parse_enum_local : (d : Doc) (m : ℕ) → Local (parse_enum_after_doc_maturity d m)
 unfolding parse_enum_after_doc_maturity
@@ -300,35 +300,35 @@ parse_bitmap_consumes d m = choice_after_doc_maturity_consumes (ascii "bitmap") 
 -- fields and structs
 pub max_length_local : Local max_length
 unfolding max_length
-max_length_local = search (local-rules, keeps-rules) depth 12
+max_length_local = search (local_rules, keeps_rules) depth 12
 
 pub list_marker_local : Local list_marker
 unfolding list_marker
-list_marker_local = search (local-rules, keeps-rules) depth 12
+list_marker_local = search (local_rules, keeps_rules) depth 12
 
 pub parse_field_inside : LocalInside parse_field
 unfolding parse_field
-parse_field_inside = search (inside-rules, token-rules, max_length_local, list_marker_local) depth 24
+parse_field_inside = search (inside_rules, token_rules, max_length_local, list_marker_local) depth 24
 
 pub parse_field_consumes : Consumes parse_field
 unfolding parse_field
-parse_field_consumes = search (consumes-rules, chain-rules, chain_inside, punct_local, max_length_local, list_marker_local) depth 24
+parse_field_consumes = search (consumes_rules, chain_rules, chain_inside, punct_local, max_length_local, list_marker_local) depth 24
 
 pub parse_struct_field_inside : LocalInside parse_struct_field
 unfolding parse_struct_field
-parse_struct_field_inside = search (inside-rules, token-rules, api_maturity_local, parse_field_inside) depth 16
+parse_struct_field_inside = search (inside_rules, token_rules, api_maturity_local, parse_field_inside) depth 16
 
 pub parse_struct_field_consumes : Consumes parse_struct_field
 unfolding parse_struct_field
-parse_struct_field_consumes = search (consumes-rules, chain-rules, chain_inside, punct_local, api_maturity_local, parse_field_consumes) depth 16
+parse_struct_field_consumes = search (consumes_rules, chain_rules, chain_inside, punct_local, api_maturity_local, parse_field_consumes) depth 16
 
 pub closed_field_inside : LocalInside closed_field
 unfolding closed_field
-closed_field_inside = search (inside-rules, token-rules, parse_struct_field_inside) depth 16
+closed_field_inside = search (inside_rules, token_rules, parse_struct_field_inside) depth 16
 
 pub closed_field_consumes : Consumes closed_field
 unfolding closed_field
-closed_field_consumes = search (consumes-rules, chain-rules, chain_inside, punct_local, parse_struct_field_inside, parse_struct_field_consumes) depth 16
+closed_field_consumes = search (consumes_rules, chain_rules, chain_inside, punct_local, parse_struct_field_inside, parse_struct_field_consumes) depth 16
 
 pub struct_fields_local : Local struct_fields
 unfolding struct_fields fields_run
@@ -336,114 +336,114 @@ struct_fields_local = braces_local (inside_many0 closed_field_inside closed_fiel
 
 pub response_code_keeps : KeepsCut response_code
 unfolding response_code
-response_code_keeps = search keeps-rules depth 12
+response_code_keeps = search keeps_rules depth 12
 
 pub response_code_local : Local response_code
 unfolding response_code
-response_code_local = search (local-rules, keeps-rules) depth 12
+response_code_local = search (local_rules, keeps_rules) depth 12
 
 pub struct_type_of_keeps : (k : Option Word) → KeepsCut (struct_type_of k)
 unfolding struct_type_of type_by_word
 struct_type_of_keeps none = keeps_ret _
-struct_type_of_keeps (some w) = search (keeps-rules, response_code_keeps) depth 12
+struct_type_of_keeps (some w) = search (keeps_rules, response_code_keeps) depth 12
 
 pub struct_type_of_local : (k : Option Word) → Local (struct_type_of k)
 unfolding struct_type_of type_by_word
 struct_type_of_local none = local_ret _
-struct_type_of_local (some w) = search (local-rules, keeps-rules, response_code_local) depth 12
+struct_type_of_local (some w) = search (local_rules, keeps_rules, response_code_local) depth 12
 
 pub struct_head_keeps : KeepsCut struct_head
 unfolding struct_head
-struct_head_keeps = search (keeps-rules, struct_type_of_keeps) depth 24
+struct_head_keeps = search (keeps_rules, struct_type_of_keeps) depth 24
 
 pub struct_head_local : Local struct_head
 unfolding struct_head
-struct_head_local = search (local-rules, keeps-rules, struct_type_of_local, struct_type_of_keeps) depth 24
+struct_head_local = search (local_rules, keeps_rules, struct_type_of_local, struct_type_of_keeps) depth 24
 
 pub struct_head_consumes : Consumes struct_head
 unfolding struct_head
-struct_head_consumes = search (consumes-rules, chain-rules, struct_type_of_local) depth 24
+struct_head_consumes = search (consumes_rules, chain_rules, struct_type_of_local) depth 24
 
 pub parse_struct_local : (d : Doc) (m : ℕ) → Local (parse_struct_after_doc_maturity d m)
 unfolding parse_struct_after_doc_maturity
-parse_struct_local d m = search (local-rules, keeps-rules, struct_head_local, struct_head_keeps, struct_fields_local, local_last, blind_ret) depth 24
+parse_struct_local d m = search (local_rules, keeps_rules, struct_head_local, struct_head_keeps, struct_fields_local, local_last, blind_ret) depth 24
 
 pub parse_struct_consumes : (d : Doc) (m : ℕ) → Consumes (parse_struct_after_doc_maturity d m)
 unfolding parse_struct_after_doc_maturity
-parse_struct_consumes d m = search (consumes-rules, chain-rules, struct_head_consumes, struct_fields_local) depth 24
+parse_struct_consumes d m = search (consumes_rules, chain_rules, struct_head_consumes, struct_fields_local) depth 24
 
 -- events, commands, attributes
 pub access_privilege_local : Local access_privilege
 unfolding access_privilege
-access_privilege_local = search (local-rules, keeps-rules) depth 12
+access_privilege_local = search (local_rules, keeps_rules) depth 12
 
 pub event_priority_local : Local event_priority
 unfolding event_priority
-event_priority_local = search (local-rules, keeps-rules) depth 12
+event_priority_local = search (local_rules, keeps_rules) depth 12
 
 pub event_priority_consumes : Consumes event_priority
 unfolding event_priority
-event_priority_consumes = search (consumes-rules, chain-rules, punct_local) depth 12
+event_priority_consumes = search (consumes_rules, chain_rules, punct_local) depth 12
 
 pub access_to_inside : (k : List ℕ) → LocalInside (access_to k)
 unfolding access_to
-access_to_inside k = search (inside-rules, token-rules, access_privilege_local) depth 24
+access_to_inside k = search (inside_rules, token_rules, access_privilege_local) depth 24
 
 pub event_qualities_inside : LocalInside event_qualities
 unfolding event_qualities
-event_qualities_inside = search (inside-rules, token-rules, event_priority_local, access_to_inside) depth 24
+event_qualities_inside = search (inside_rules, token_rules, event_priority_local, access_to_inside) depth 24
 
 pub event_qualities_consumes : Consumes event_qualities
 unfolding event_qualities
-event_qualities_consumes = search (consumes-rules, chain-rules, chain_inside, event_priority_consumes, access_to_inside) depth 24
+event_qualities_consumes = search (consumes_rules, chain_rules, chain_inside, event_priority_consumes, access_to_inside) depth 24
 
 pub event_head_inside : LocalInside event_head
 unfolding event_head
-event_head_inside = search (inside-rules, token-rules, event_qualities_inside) depth 24
+event_head_inside = search (inside_rules, token_rules, event_qualities_inside) depth 24
 
 pub event_head_consumes : Consumes event_head
 unfolding event_head
-event_head_consumes = search (consumes-rules, chain-rules, chain_inside, punct_local, event_qualities_consumes) depth 24
+event_head_consumes = search (consumes_rules, chain_rules, chain_inside, punct_local, event_qualities_consumes) depth 24
 
 pub parse_event_inside : (d : Doc) (m : ℕ) → LocalInside (parse_event_after_doc_maturity d m)
 unfolding parse_event_after_doc_maturity
-parse_event_inside d m = search (inside-rules, token-rules, event_head_inside, struct_fields_local) depth 30
+parse_event_inside d m = search (inside_rules, token_rules, event_head_inside, struct_fields_local) depth 30
 
 pub parse_event_consumes : (d : Doc) (m : ℕ) → Consumes (parse_event_after_doc_maturity d m)
 unfolding parse_event_after_doc_maturity
-parse_event_consumes d m = search (consumes-rules, chain-rules, chain_inside, event_head_consumes, struct_fields_local) depth 30
+parse_event_consumes d m = search (consumes_rules, chain_rules, chain_inside, event_head_consumes, struct_fields_local) depth 30
 
 pub command_head_inside : LocalInside command_head
 unfolding command_head
-command_head_inside = search (inside-rules, token-rules, access_to_inside) depth 24
+command_head_inside = search (inside_rules, token_rules, access_to_inside) depth 24
 
 pub command_head_consumes : Consumes command_head
 unfolding command_head
-command_head_consumes = search (consumes-rules, chain-rules, chain_inside, punct_local, access_to_inside) depth 24
+command_head_consumes = search (consumes_rules, chain_rules, chain_inside, punct_local, access_to_inside) depth 24
 
 pub command_types_inside : LocalInside command_types
 unfolding command_types
-command_types_inside = search (inside-rules, token-rules) depth 24
+command_types_inside = search (inside_rules, token_rules) depth 24
 
 pub parse_command_inside : (d : Doc) (m : ℕ) → LocalInside (parse_command_after_doc_maturity d m)
 unfolding parse_command_after_doc_maturity
-parse_command_inside d m = search (inside-rules, token-rules, command_head_inside, command_types_inside) depth 30
+parse_command_inside d m = search (inside_rules, token_rules, command_head_inside, command_types_inside) depth 30
 
 pub parse_command_consumes : (d : Doc) (m : ℕ) → Consumes (parse_command_after_doc_maturity d m)
 unfolding parse_command_after_doc_maturity
-parse_command_consumes d m = search (consumes-rules, chain-rules, chain_inside, punct_local, command_head_consumes, command_types_inside) depth 30
+parse_command_consumes d m = search (consumes_rules, chain_rules, chain_inside, punct_local, command_head_consumes, command_types_inside) depth 30
 
 pub access_entry_inside : LocalInside access_entry
 unfolding access_entry
-access_entry_inside = search (inside-rules, token-rules, access_privilege_local) depth 24
+access_entry_inside = search (inside_rules, token_rules, access_privilege_local) depth 24
 
 pub access_entry_consumes : Consumes access_entry
 unfolding access_entry
-access_entry_consumes = search (consumes-rules, chain-rules, chain_inside, punct_local, access_privilege_local) depth 24
+access_entry_consumes = search (consumes_rules, chain_rules, chain_inside, punct_local, access_privilege_local) depth 24
 
 pub comma_local : Local comma
 unfolding comma
-comma_local = search (local-rules, keeps-rules) depth 12
+comma_local = search (local_rules, keeps_rules) depth 12
 
 pub separated_list0_inside : {A : Type 0} {s : Parser (Unit {0})} {m : Parser A} → Local s → LocalInside m → Consumes m → LocalInside (separated_list0 s m)
 unfolding separated_list0
@@ -451,7 +451,7 @@ separated_list0_inside s m p = inside_catch (inside_bind m λ a. inside_bind (in
 
 pub access_list_inside : LocalInside access_list
 unfolding access_list
-access_list_inside = search (inside-rules, separated_list0_inside, comma_local, access_entry_inside, access_entry_consumes, token-rules) depth 24
+access_list_inside = search (inside_rules, separated_list0_inside, comma_local, access_entry_inside, access_entry_consumes, token_rules) depth 24
 
 -- steps that look at no text
 pub blind_local : {A : Type 0} {m : Parser A} → Blind m → Local m
@@ -477,24 +477,24 @@ attribute_access_inside = inside_bind (inside_opt access_list_inside) λ l. insi
 
 pub parse_attribute_inside : (d : Doc) (m : ℕ) → LocalInside (parse_attribute_after_doc_maturity d m)
 unfolding parse_attribute_after_doc_maturity
-parse_attribute_inside d m = search (inside-rules, token-rules, attribute_access_inside, parse_struct_field_inside) depth 40
+parse_attribute_inside d m = search (inside_rules, token_rules, attribute_access_inside, parse_struct_field_inside) depth 40
 
 pub parse_attribute_consumes : (d : Doc) (m : ℕ) → Consumes (parse_attribute_after_doc_maturity d m)
 unfolding parse_attribute_after_doc_maturity
-parse_attribute_consumes d m = search (consumes-rules, chain-rules, chain_inside, punct_local, attribute_access_inside, parse_struct_field_inside) depth 40
+parse_attribute_consumes d m = search (consumes_rules, chain_rules, chain_inside, punct_local, attribute_access_inside, parse_struct_field_inside) depth 40
 
 -- clusters
 pub parse_revision_local : Local parse_revision
 unfolding parse_revision
-parse_revision_local = search (local-rules, keeps-rules) depth 16
+parse_revision_local = search (local_rules, keeps_rules) depth 16
 
 pub parse_revision_consumes : Consumes parse_revision
 unfolding parse_revision
-parse_revision_consumes = search (consumes-rules, chain-rules, punct_local) depth 16
+parse_revision_consumes = search (consumes_rules, chain_rules, punct_local) depth 16
 
 pub member_tries_inside : (d : Doc) (m : ℕ) → LocalInside (member_tries d m)
 unfolding member_tries
-member_tries_inside d m = search (inside-rules, mapped_inside, parse_revision_local, parse_bitmap_local, parse_enum_local, parse_struct_local, parse_attribute_inside, parse_command_inside, parse_event_inside) depth 16
+member_tries_inside d m = search (inside_rules, mapped_inside, parse_revision_local, parse_bitmap_local, parse_enum_local, parse_struct_local, parse_attribute_inside, parse_command_inside, parse_event_inside) depth 16
 
 pub member_tries_consumes : (d : Doc) (m : ℕ) → Consumes (member_tries d m)
 unfolding member_tries
@@ -502,47 +502,47 @@ member_tries_consumes d m = search (consumes_or, mapped_consumes, parse_revision
 
 pub parse_cluster_member_inside : LocalInside parse_cluster_member
 unfolding parse_cluster_member
-parse_cluster_member_inside = search (inside-rules, token-rules, api_maturity_local, member_tries_inside) depth 16
+parse_cluster_member_inside = search (inside_rules, token_rules, api_maturity_local, member_tries_inside) depth 16
 
 pub parse_cluster_member_consumes : Consumes parse_cluster_member
 unfolding parse_cluster_member
-parse_cluster_member_consumes = search (consumes-rules, chain-rules, chain_inside, punct_local, api_maturity_local, member_tries_consumes) depth 16
+parse_cluster_member_consumes = search (consumes_rules, chain_rules, chain_inside, punct_local, api_maturity_local, member_tries_consumes) depth 16
 
 pub side_keeps : KeepsCut side
 unfolding side
-side_keeps = search (keeps-rules) depth 8
+side_keeps = search (keeps_rules) depth 8
 
 pub side_local : Local side
 unfolding side
-side_local = search (local-rules, keeps-rules) depth 8
+side_local = search (local_rules, keeps_rules) depth 8
 
 pub cluster_head_keeps : KeepsCut cluster_head
 unfolding cluster_head
-cluster_head_keeps = search (keeps-rules, side_keeps) depth 24
+cluster_head_keeps = search (keeps_rules, side_keeps) depth 24
 
 pub cluster_head_local : Local cluster_head
 unfolding cluster_head
-cluster_head_local = search (local-rules, keeps-rules, side_local, side_keeps) depth 24
+cluster_head_local = search (local_rules, keeps_rules, side_local, side_keeps) depth 24
 
 pub cluster_head_consumes : Consumes cluster_head
 unfolding cluster_head
-cluster_head_consumes = search (consumes-rules, chain-rules, punct_local, side_local) depth 24
+cluster_head_consumes = search (consumes_rules, chain_rules, punct_local, side_local) depth 24
 
 pub cluster_after_doc_maturity_local : (d : Doc) (m : ℕ) → Local (cluster_after_doc_maturity d m)
 unfolding cluster_after_doc_maturity cluster_members
-cluster_after_doc_maturity_local d m = search (local-rules, keeps-rules, cluster_head_local, cluster_head_keeps, braces_local, inside_many0, parse_cluster_member_inside, parse_cluster_member_consumes, local_last, blind_ret) depth 16
+cluster_after_doc_maturity_local d m = search (local_rules, keeps_rules, cluster_head_local, cluster_head_keeps, braces_local, inside_many0, parse_cluster_member_inside, parse_cluster_member_consumes, local_last, blind_ret) depth 16
 
 pub cluster_after_doc_maturity_consumes : (d : Doc) (m : ℕ) → Consumes (cluster_after_doc_maturity d m)
 unfolding cluster_after_doc_maturity cluster_members
-cluster_after_doc_maturity_consumes d m = search (consumes-rules, cluster_head_consumes, chain-rules, chain_inside, parse_cluster_member_inside) depth 16
+cluster_after_doc_maturity_consumes d m = search (consumes_rules, cluster_head_consumes, chain_rules, chain_inside, parse_cluster_member_inside) depth 16
 
 pub parse_cluster_local : Local parse_cluster
 unfolding parse_cluster
-parse_cluster_local = search (local-rules, keeps-rules, api_maturity_local, api_maturity_keeps, cluster_after_doc_maturity_local) depth 16
+parse_cluster_local = search (local_rules, keeps_rules, api_maturity_local, api_maturity_keeps, cluster_after_doc_maturity_local) depth 16
 
 pub parse_cluster_consumes : Consumes parse_cluster
 unfolding parse_cluster
-parse_cluster_consumes = search (consumes-rules, chain-rules, api_maturity_local, cluster_after_doc_maturity_consumes) depth 16
+parse_cluster_consumes = search (consumes_rules, chain_rules, api_maturity_local, cluster_after_doc_maturity_consumes) depth 16
 
 -- endpoints: loops that keep the furthest place
 module _ {A : Type 0} {m : Parser A} {k : ℕ → Parser (Tried A)} where
@@ -573,59 +573,59 @@ module _ {A : Type 0} {f : ℕ → Parser (Tried A)} (t : (q : ℕ) → LocalIns
 
 pub two_keywords_name_keeps : (k j : List ℕ) → KeepsCut (two_keywords_name k j)
 unfolding two_keywords_name
-two_keywords_name_keeps k j = search (keeps-rules) depth 16
+two_keywords_name_keeps k j = search (keeps_rules) depth 16
 
 pub two_keywords_name_local : (k j : List ℕ) → Local (two_keywords_name k j)
 unfolding two_keywords_name
-two_keywords_name_local k j = search (local-rules, keeps-rules) depth 16
+two_keywords_name_local k j = search (local_rules, keeps_rules) depth 16
 
 pub two_keywords_name_consumes : (k j : List ℕ) → Consumes (two_keywords_name k j)
 unfolding two_keywords_name
-two_keywords_name_consumes k j = search (consumes-rules, chain-rules, punct_local) depth 16
+two_keywords_name_consumes k j = search (consumes_rules, chain_rules, punct_local) depth 16
 
 pub device_version_local : Local device_version
 unfolding device_version
-device_version_local = search (local-rules, keeps-rules) depth 24
+device_version_local = search (local_rules, keeps_rules) depth 24
 
 pub device_type_inside : LocalInside device_type
 unfolding device_type
-device_type_inside = search (inside-rules, token-rules, two_keywords_name_local, device_version_local) depth 20
+device_type_inside = search (inside_rules, token_rules, two_keywords_name_local, device_version_local) depth 20
 
 pub device_type_consumes : Consumes device_type
 unfolding device_type
-device_type_consumes = search (consumes-rules, chain-rules, chain_inside, punct_local, two_keywords_name_consumes, device_version_local) depth 20
+device_type_consumes = search (consumes_rules, chain_rules, chain_inside, punct_local, two_keywords_name_consumes, device_version_local) depth 20
 
 pub value_tries_local : Local value_tries
 unfolding value_tries
-value_tries_local = search (local-rules, keeps-rules, mapped_local, mapped_keeps) depth 16
+value_tries_local = search (local_rules, keeps_rules, mapped_local, mapped_keeps) depth 16
 
 pub default_attribute_value_local : Local default_attribute_value
 unfolding default_attribute_value
-default_attribute_value_local = search (local-rules, keeps-rules, value_tries_local) depth 16
+default_attribute_value_local = search (local_rules, keeps_rules, value_tries_local) depth 16
 
 pub attribute_handling_type_local : Local attribute_handling_type
 unfolding attribute_handling_type
-attribute_handling_type_local = search (local-rules, keeps-rules) depth 12
+attribute_handling_type_local = search (local_rules, keeps_rules) depth 12
 
 pub attribute_handling_type_consumes : Consumes attribute_handling_type
 unfolding attribute_handling_type
-attribute_handling_type_consumes = search (consumes-rules, chain-rules, punct_local) depth 12
+attribute_handling_type_consumes = search (consumes_rules, chain_rules, punct_local) depth 12
 
 pub attribute_instantiation_inside : LocalInside attribute_instantiation
 unfolding attribute_instantiation
-attribute_instantiation_inside = search (inside-rules, token-rules, attribute_handling_type_local, default_attribute_value_local) depth 24
+attribute_instantiation_inside = search (inside_rules, token_rules, attribute_handling_type_local, default_attribute_value_local) depth 24
 
 pub attribute_instantiation_consumes : Consumes attribute_instantiation
 unfolding attribute_instantiation
-attribute_instantiation_consumes = search (consumes-rules, chain-rules, chain_inside, punct_local, attribute_handling_type_consumes, default_attribute_value_local) depth 24
+attribute_instantiation_consumes = search (consumes_rules, chain_rules, chain_inside, punct_local, attribute_handling_type_consumes, default_attribute_value_local) depth 24
 
 pub named_after_local : (k j : List ℕ) → Local (named_after k j)
 unfolding named_after
-named_after_local k j = search (local-rules, keeps-rules, two_keywords_name_local, two_keywords_name_keeps) depth 12
+named_after_local k j = search (local_rules, keeps_rules, two_keywords_name_local, two_keywords_name_keeps) depth 12
 
 pub named_after_consumes : (k j : List ℕ) → Consumes (named_after k j)
 unfolding named_after
-named_after_consumes k j = search (consumes-rules, chain-rules, punct_local, two_keywords_name_consumes) depth 12
+named_after_consumes k j = search (consumes_rules, chain_rules, punct_local, two_keywords_name_consumes) depth 12
 
 pub instance_tries_inside : (q : ℕ) → LocalInside (instance_tries q)
 unfolding instance_tries
@@ -637,22 +637,22 @@ instance_tries_consumes q = search (intercept_consumes, mapped_consumes, attribu
 
 pub instantiation_head_local : Local instantiation_head
 unfolding instantiation_head
-instantiation_head_local = search (local-rules, keeps-rules, two_keywords_name_local, two_keywords_name_keeps) depth 12
+instantiation_head_local = search (local_rules, keeps_rules, two_keywords_name_local, two_keywords_name_keeps) depth 12
 
 pub instantiation_head_consumes : Consumes instantiation_head
 unfolding instantiation_head
-instantiation_head_consumes = search (consumes-rules, chain-rules, two_keywords_name_consumes) depth 12
+instantiation_head_consumes = search (consumes_rules, chain_rules, two_keywords_name_consumes) depth 12
 
 pub instances_local : Local (deep_braces instance_tries)
 instances_local = deep_braces_local instance_tries_inside instance_tries_consumes
 
 pub cluster_instantiation_inside : LocalInside cluster_instantiation
 unfolding cluster_instantiation
-cluster_instantiation_inside = search (inside-rules, token-rules, instantiation_head_local, instances_local) depth 12
+cluster_instantiation_inside = search (inside_rules, token_rules, instantiation_head_local, instances_local) depth 12
 
 pub cluster_instantiation_consumes : Consumes cluster_instantiation
 unfolding cluster_instantiation
-cluster_instantiation_consumes = search (consumes-rules, chain-rules, instantiation_head_consumes, instances_local) depth 12
+cluster_instantiation_consumes = search (consumes_rules, chain_rules, instantiation_head_consumes, instances_local) depth 12
 
 pub part_tries_inside : (q : ℕ) → LocalInside (part_tries q)
 unfolding part_tries
@@ -664,36 +664,36 @@ part_tries_consumes q = search (intercept_consumes, mapped_consumes, device_type
 
 pub endpoint_head_keeps : KeepsCut endpoint_head
 unfolding endpoint_head
-endpoint_head_keeps = search (keeps-rules) depth 16
+endpoint_head_keeps = search (keeps_rules) depth 16
 
 pub endpoint_head_local : Local endpoint_head
 unfolding endpoint_head
-endpoint_head_local = search (local-rules, keeps-rules) depth 16
+endpoint_head_local = search (local_rules, keeps_rules) depth 16
 
 pub endpoint_head_consumes : Consumes endpoint_head
 unfolding endpoint_head
-endpoint_head_consumes = search (consumes-rules, chain-rules) depth 16
+endpoint_head_consumes = search (consumes_rules, chain_rules) depth 16
 
 pub parts_local : Local (deep_braces part_tries)
 parts_local = deep_braces_local part_tries_inside part_tries_consumes
 
 pub endpoint_local : Local endpoint
 unfolding endpoint
-endpoint_local = search (local-rules, keeps-rules, endpoint_head_local, endpoint_head_keeps, parts_local, local_last, blind_ret) depth 12
+endpoint_local = search (local_rules, keeps_rules, endpoint_head_local, endpoint_head_keeps, parts_local, local_last, blind_ret) depth 12
 
 pub endpoint_consumes : Consumes endpoint
 unfolding endpoint
-endpoint_consumes = search (consumes-rules, chain-rules, endpoint_head_consumes, parts_local) depth 12
+endpoint_consumes = search (consumes_rules, chain_rules, endpoint_head_consumes, parts_local) depth 12
 
 -- items
 module _ {A : Type 0} {f : Doc → ℕ → Parser A} where
   pub with_doc_maturity_local : ((d : Doc) (m : ℕ) → Local (f d m)) → Local (with_doc_maturity f)
   unfolding with_doc_maturity
-  with_doc_maturity_local t = search (local-rules, keeps-rules, api_maturity_local, api_maturity_keeps, t) depth 12
+  with_doc_maturity_local t = search (local_rules, keeps_rules, api_maturity_local, api_maturity_keeps, t) depth 12
 
   pub with_doc_maturity_consumes : ((d : Doc) (m : ℕ) → Consumes (f d m)) → Consumes (with_doc_maturity f)
   unfolding with_doc_maturity
-  with_doc_maturity_consumes v = search (consumes-rules, chain-rules, api_maturity_local, v) depth 12
+  with_doc_maturity_consumes v = search (consumes_rules, chain_rules, api_maturity_local, v) depth 12
 
 pub item_local : Local item
 unfolding item
@@ -707,7 +707,7 @@ item_consumes = search (consumes_or, mapped_consumes, parse_cluster_consumes, en
 module _ {A : Type 0} {f : ℕ → Parser A} where
   pub after_maturity_local : ((m : ℕ) → Local (f m)) → Local (after_maturity f)
   unfolding after_maturity
-  after_maturity_local t = search (local-rules, keeps-rules, api_maturity_local, api_maturity_keeps, t) depth 12
+  after_maturity_local t = search (local_rules, keeps_rules, api_maturity_local, api_maturity_keeps, t) depth 12
 
 pub declaration_local : (d : Doc) → Local (declaration d)
 unfolding declaration

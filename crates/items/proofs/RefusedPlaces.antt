@@ -21,7 +21,7 @@ use Rattle.items.specs.items.{with_doc_maturity, item}
 use Rattle.items.proofs.Locality.{mapped_inside, api_maturity_local, constant_annotation_local, blank_entry_inside, closed_field_inside, access_list_inside, deep_run_inside, instance_tries_inside, instance_tries_consumes, part_tries_inside, part_tries_consumes}
 use Rattle.lexing.proofs.Truth.{All, Read, Gives, gives_fail, gives_catch, gives_then, gives_bind, gives_iter}
 use Rattle.lexing.proofs.RefusedPlaces.{InPart, Placed, furthest, fails_in, placed_ret, placed_fail, placed_stop, placed_pick, placed_catch, placed_opt, placed_or, placed_many0, placed_iter, placed_bind, placed_then, placed_last, placed_made, placed_position, position_in, placed_word, placed_tag, keyword_in, any_keyword_in, integer_in, signed_in, blank_in, gap_in, quoted_in, default_string_in, two_keywords_name_in, named_after_in, set_in}
-use Rattle.items.proofs.Truth.{onward-rules, gives_mapped, AccessTrue, true_access, accesses_listed}
+use Rattle.items.proofs.Truth.{onward_rules, gives_mapped, AccessTrue, true_access, accesses_listed}
 
 -- a value that a function changes
 pub placed_mapped : {s : ℕ} {t : List ℕ} {A B : Type 0} {m : Parser A} (f : A → B) → Placed s t m → Placed s t (mapped m f)
@@ -43,103 +43,103 @@ module _ (s : ℕ) (t : List ℕ) where
   braces_in w v = enclosed_in where_missing w v (λ a h p i. i)
 
   -- Certificates of the productions, found by search.
-  ruleset placed-rules = (placed_ret, placed_last, placed_then, placed_bind, placed_opt, placed_or, placed_pick, placed_catch, placed_mapped, placed_many0, braces_in, placed_word, placed_tag, keyword_in, any_keyword_in, integer_in, signed_in, blank_in, gap_in, quoted_in, default_string_in, set_in, onward-rules)
+  ruleset placed_rules = (placed_ret, placed_last, placed_then, placed_bind, placed_opt, placed_or, placed_pick, placed_catch, placed_mapped, placed_many0, braces_in, placed_word, placed_tag, keyword_in, any_keyword_in, integer_in, signed_in, blank_in, gap_in, quoted_in, default_string_in, set_in, onward_rules)
 
   -- entries, enums and bitmaps
   maturity_in : Placed s t api_maturity
   unfolding api_maturity
-  maturity_in = search placed-rules depth 20
+  maturity_in = search placed_rules depth 20
 
   annotations_in : Placed s t constant_annotations_list
   unfolding constant_annotations_list annotations_in_brackets blank_annotation constant_annotation
-  annotations_in = search (placed-rules, constant_annotation_local) depth 24
+  annotations_in = search (placed_rules, constant_annotation_local) depth 24
 
   entry_in : Placed s t blank_entry
   unfolding blank_entry constant_entry
-  entry_in = search (placed-rules, maturity_in, annotations_in) depth 30
+  entry_in = search (placed_rules, maturity_in, annotations_in) depth 30
 
   entries_in : Placed s t constant_entries_list
   unfolding constant_entries_list constant_entries
-  entries_in = search (placed-rules, entry_in, blank_entry_inside) depth 8
+  entries_in = search (placed_rules, entry_in, blank_entry_inside) depth 8
 
   choice_head_in : (k : List ℕ) → Placed s t (choice_head k)
   unfolding choice_head shared_before
-  choice_head_in k = search placed-rules depth 30
+  choice_head_in k = search placed_rules depth 30
 
   choice_in : (k : List ℕ) (d : Doc) (m : ℕ) → Placed s t (choice_after_doc_maturity k d m)
   unfolding choice_after_doc_maturity
-  choice_in k d m = search (placed-rules, choice_head_in, entries_in) depth 8
+  choice_in k d m = search (placed_rules, choice_head_in, entries_in) depth 8
 
   -- fields and structs
   field_in : Placed s t parse_struct_field
   unfolding parse_struct_field parse_field max_length list_marker
-  field_in = search (placed-rules, maturity_in) depth 30
+  field_in = search (placed_rules, maturity_in) depth 30
 
   closed_field_in : Placed s t closed_field
   unfolding closed_field
-  closed_field_in = search (placed-rules, field_in) depth 12
+  closed_field_in = search (placed_rules, field_in) depth 12
 
   fields_in : Placed s t struct_fields
   unfolding struct_fields fields_run
-  fields_in = search (placed-rules, closed_field_in, closed_field_inside) depth 8
+  fields_in = search (placed_rules, closed_field_in, closed_field_inside) depth 8
 
   type_in : (k : Option Word) → Placed s t (struct_type_of k)
   unfolding struct_type_of type_by_word response_code
   type_in none = placed_ret _
-  type_in (some w) = search placed-rules depth 12
+  type_in (some w) = search placed_rules depth 12
 
   struct_head_in : Placed s t struct_head
   unfolding struct_head
-  struct_head_in = search (placed-rules, type_in) depth 24
+  struct_head_in = search (placed_rules, type_in) depth 24
 
   struct_in : (d : Doc) (m : ℕ) → Placed s t (parse_struct_after_doc_maturity d m)
   unfolding parse_struct_after_doc_maturity
-  struct_in d m = search (placed-rules, struct_head_in, fields_in) depth 8
+  struct_in d m = search (placed_rules, struct_head_in, fields_in) depth 8
 
   -- events, commands and attributes
   privilege_in : Placed s t access_privilege
   unfolding access_privilege
-  privilege_in = search placed-rules depth 12
+  privilege_in = search placed_rules depth 12
 
   access_in : (k : List ℕ) → Placed s t (access_to k)
   unfolding access_to
-  access_in k = search (placed-rules, privilege_in) depth 24
+  access_in k = search (placed_rules, privilege_in) depth 24
 
   qualities_in : Placed s t event_qualities
   unfolding event_qualities event_priority
-  qualities_in = search (placed-rules, access_in) depth 24
+  qualities_in = search (placed_rules, access_in) depth 24
 
   event_head_in : Placed s t event_head
   unfolding event_head
-  event_head_in = search (placed-rules, qualities_in) depth 24
+  event_head_in = search (placed_rules, qualities_in) depth 24
 
   event_in : (d : Doc) (m : ℕ) → Placed s t (parse_event_after_doc_maturity d m)
   unfolding parse_event_after_doc_maturity
-  event_in d m = search (placed-rules, event_head_in, fields_in) depth 8
+  event_in d m = search (placed_rules, event_head_in, fields_in) depth 8
 
   command_head_in : Placed s t command_head
   unfolding command_head
-  command_head_in = search (placed-rules, access_in) depth 24
+  command_head_in = search (placed_rules, access_in) depth 24
 
   command_types_in : Placed s t command_types
   unfolding command_types
-  command_types_in = search placed-rules depth 24
+  command_types_in = search placed_rules depth 24
 
   command_in : (d : Doc) (m : ℕ) → Placed s t (parse_command_after_doc_maturity d m)
   unfolding parse_command_after_doc_maturity
-  command_in d m = search (placed-rules, command_head_in, command_types_in) depth 16
+  command_in d m = search (placed_rules, command_head_in, command_types_in) depth 16
 
   access_entry_in : Placed s t access_entry
   unfolding access_entry
-  access_entry_in = search (placed-rules, privilege_in) depth 24
+  access_entry_in = search (placed_rules, privilege_in) depth 24
 
   comma_in : Placed s t comma
   unfolding comma
-  comma_in = search placed-rules depth 8
+  comma_in = search placed_rules depth 8
 
   access_list_in : Placed s t access_list
   unfolding access_list separated_list0
-  access_list_in = search (placed-rules, access_entry_in, comma_in) depth 24
+  access_list_in = search (placed_rules, access_entry_in, comma_in) depth 24
 
   granted_in : (p : Privileges) (l : List Access) → All (AccessTrue s t end) l → Placed s t (granted_by p l)
   unfolding granted_by
@@ -155,20 +155,20 @@ module _ (s : ℕ) (t : List ℕ) where
 
   attribute_in : (d : Doc) (m : ℕ) → Placed s t (parse_attribute_after_doc_maturity d m)
   unfolding parse_attribute_after_doc_maturity
-  attribute_in d m = search (placed-rules, attribute_access_in, field_in) depth 16
+  attribute_in d m = search (placed_rules, attribute_access_in, field_in) depth 16
 
   -- clusters
   member_in : Placed s t parse_cluster_member
   unfolding parse_cluster_member member_tries parse_revision parse_enum_after_doc_maturity parse_bitmap_after_doc_maturity
-  member_in = search (placed-rules, maturity_in, choice_in, struct_in, attribute_in, command_in, event_in) depth 24
+  member_in = search (placed_rules, maturity_in, choice_in, struct_in, attribute_in, command_in, event_in) depth 24
 
   cluster_head_in : Placed s t cluster_head
   unfolding cluster_head side
-  cluster_head_in = search placed-rules depth 24
+  cluster_head_in = search placed_rules depth 24
 
   cluster_in : Placed s t parse_cluster
   unfolding parse_cluster cluster_after_doc_maturity cluster_members
-  cluster_in = search (placed-rules, maturity_in, cluster_head_in, member_in) depth 16
+  cluster_in = search (placed_rules, maturity_in, cluster_head_in, member_in) depth 16
 
   -- endpoints: tries that keep the furthest place
   record TriesIn {A : Type 0} (m : Parser (Tried A)) : Type 0 where
@@ -219,15 +219,15 @@ module _ (s : ℕ) (t : List ℕ) where
 
   device_in : Placed s t device_type
   unfolding device_type device_version
-  device_in = search (placed-rules, two_keywords_name_in) depth 16
+  device_in = search (placed_rules, two_keywords_name_in) depth 16
 
   default_in : Placed s t default_attribute_value
   unfolding default_attribute_value value_tries
-  default_in = search placed-rules depth 16
+  default_in = search placed_rules depth 16
 
   attribute_instance_in : Placed s t attribute_instantiation
   unfolding attribute_instantiation attribute_handling_type
-  attribute_instance_in = search (placed-rules, default_in) depth 16
+  attribute_instance_in = search (placed_rules, default_in) depth 16
 
   instance_in : (q : ℕ) → InPart s t q → TriesIn (instance_tries q)
   unfolding instance_tries
@@ -242,7 +242,7 @@ module _ (s : ℕ) (t : List ℕ) where
 
   instantiation_in : Placed s t cluster_instantiation
   unfolding cluster_instantiation instantiation_head
-  instantiation_in = search (placed-rules, two_keywords_name_in, instances_in) depth 16
+  instantiation_in = search (placed_rules, two_keywords_name_in, instances_in) depth 16
 
   part_in : (q : ℕ) → InPart s t q → TriesIn (part_tries q)
   unfolding part_tries
@@ -257,7 +257,7 @@ module _ (s : ℕ) (t : List ℕ) where
 
   endpoint_in : Placed s t endpoint
   unfolding endpoint endpoint_head
-  endpoint_in = search (placed-rules, parts_in) depth 16
+  endpoint_in = search (placed_rules, parts_in) depth 16
 
   -- items
   after_doc : {A : Type 0} {f : Doc → ℕ → Parser A} → ((d : Doc) (m : ℕ) → Placed s t (f d m)) → Placed s t (with_doc_maturity f)
@@ -266,4 +266,4 @@ module _ (s : ℕ) (t : List ℕ) where
 
   pub item_in : Placed s t item
   unfolding item parse_enum_after_doc_maturity parse_bitmap_after_doc_maturity
-  item_in = search (placed-rules, after_doc, cluster_in, endpoint_in, choice_in, struct_in) depth 16
+  item_in = search (placed_rules, after_doc, cluster_in, endpoint_in, choice_in, struct_in) depth 16

@@ -22,12 +22,12 @@ use Rattle.items.specs.clusters.{Member, revision, bitmap, enum, struct, attribu
 use Rattle.items.specs.endpoints.{Tried, Deep, intercept, deep_step, deeper, deep_run, deep_place, deep_braces, DeviceType, device_version, device_type, Default, number, signed_number, truth, text, value_tries, default_attribute_value, attribute_handling_type, AttributeInstance, attribute_instantiation, Instance, attribute_instance, command_instance, event_instance, instance_tries, Instantiation, instantiation_head, cluster_instantiation, Part, device, binding, instantiation, part_tries, Endpoint, endpoint_head, endpoint}
 use Rattle.items.specs.items.{Item, cluster_item, endpoint_item, enum_item, bitmap_item, struct_item, blank_item, with_doc_maturity, item}
 use Rattle.items.specs.records.{response_of}
-use Rattle.lexing.proofs.Truth.{All, Maybe, token-onward, InRange, Read, Gives, WordTrue, SpanTrue, DocTrue, gives_ret, gives_fail, gives_stop, gives_pick, gives_catch, gives_or, gives_opt, gives_bind, gives_then, gives_many0, gives_iter, gives_made, gives_last, given, from, word_true, doc_true, integer_true, signed_true, default_string_true, quoted_string_true, gives_word, gives_any_keyword, two_keywords_name_true, named_after_true, field_flags, struct_flags, event_flags, command_flags, attribute_flags}
+use Rattle.lexing.proofs.Truth.{All, Maybe, token_onward, InRange, Read, Gives, WordTrue, SpanTrue, DocTrue, gives_ret, gives_fail, gives_stop, gives_pick, gives_catch, gives_or, gives_opt, gives_bind, gives_then, gives_many0, gives_iter, gives_made, gives_last, given, from, word_true, doc_true, integer_true, signed_true, default_string_true, quoted_string_true, gives_word, gives_any_keyword, two_keywords_name_true, named_after_true, field_flags, struct_flags, event_flags, command_flags, attribute_flags}
 use Rattle.lexing.proofs.Composed.{onward_ret, onward_fail, onward_stop, onward_pick, onward_catch, onward_bind, onward_then}
 use Rattle.items.proofs.Locality.{braces_chain, mapped_inside, api_maturity_local, optional_comma_chain, blank_annotation_chain, constant_annotations_list_inside, blank_entry_inside, constant_entries_list_local, shared_before_local, choice_head_local, choice_after_doc_maturity_local, max_length_local, list_marker_local, parse_field_inside, parse_struct_field_inside, closed_field_inside, struct_fields_local, struct_type_of_local, struct_head_local, parse_struct_local, access_privilege_local, event_priority_local, access_to_inside, event_qualities_inside, event_head_inside, command_head_inside, command_types_inside, access_entry_inside, access_entry_consumes, comma_local, separated_list0_inside, access_list_inside, attribute_access_inside, member_tries_inside, parse_cluster_member_inside, side_local, cluster_head_local, deep_run_inside, two_keywords_name_local, device_version_local, value_tries_local, default_attribute_value_local, attribute_handling_type_local, instance_tries_inside, instance_tries_consumes, instantiation_head_local, instances_local, part_tries_inside, part_tries_consumes, endpoint_head_local, parts_local}
 
 -- where a step ends: the rules of tokens and combinators, and the certificates of the productions
-pub ruleset onward-rules = (token-onward, braces_chain, member_tries_inside, value_tries_local, api_maturity_local, constant_annotations_list_inside, constant_entries_list_local, shared_before_local, choice_head_local, max_length_local, list_marker_local, parse_field_inside, parse_struct_field_inside, struct_fields_local, struct_type_of_local, struct_head_local, access_privilege_local, event_priority_local, access_to_inside, event_qualities_inside, event_head_inside, command_head_inside, command_types_inside, comma_local, access_entry_inside, access_entry_consumes, separated_list0_inside, access_list_inside, attribute_access_inside, member_tries_inside, parse_cluster_member_inside, side_local, cluster_head_local, two_keywords_name_local, device_version_local, default_attribute_value_local, attribute_handling_type_local, instantiation_head_local, instances_local, endpoint_head_local, parts_local)
+pub ruleset onward_rules = (token_onward, braces_chain, member_tries_inside, value_tries_local, api_maturity_local, constant_annotations_list_inside, constant_entries_list_local, shared_before_local, choice_head_local, max_length_local, list_marker_local, parse_field_inside, parse_struct_field_inside, struct_fields_local, struct_type_of_local, struct_head_local, access_privilege_local, event_priority_local, access_to_inside, event_qualities_inside, event_head_inside, command_head_inside, command_types_inside, comma_local, access_entry_inside, access_entry_consumes, separated_list0_inside, access_list_inside, attribute_access_inside, member_tries_inside, parse_cluster_member_inside, side_local, cluster_head_local, two_keywords_name_local, device_version_local, default_attribute_value_local, attribute_handling_type_local, instantiation_head_local, instances_local, endpoint_head_local, parts_local)
 
 -- a value that a function changes
 pub gives_mapped : {s : ℕ} {t : List ℕ} {end : ℕ} {A B : Type 0} {R : B → Type 0} {m : Parser A} (f : A → B) → ((a : A) → Read s t end m a → R (f a)) → Gives s t end R (mapped m f)
@@ -45,23 +45,23 @@ module _ (s : ℕ) (t : List ℕ) (end : ℕ) where
   list_true w v = enclosed_true where_missing (walks (chain_many0 w)) (from (gives_many0 (walks w) (given v)))
 
   -- Certificates are found by search: the rules of the combinators, what is known of a token's value, what a step leaves after it.
-  ruleset gives-rules = (gives_ret, gives_last, gives_bind, gives_then, gives_or, gives_catch, gives_pick, gives_fail, gives_stop, gives_mapped, gives_word, lit<)
+  ruleset gives_rules = (gives_ret, gives_last, gives_bind, gives_then, gives_or, gives_catch, gives_pick, gives_fail, gives_stop, gives_mapped, gives_word, lit<)
 
-  ruleset token-rules = (word_true, doc_true, integer_true, signed_true)
+  ruleset token_rules = (word_true, doc_true, integer_true, signed_true)
 
   -- entries, enums and bitmaps
   maturity_true : (m : ℕ) → Read s t end api_maturity m → m < 2 ^ 2
   unfolding api_maturity
-  maturity_true = from (search (gives-rules, onward-rules) depth 20)
+  maturity_true = from (search (gives_rules, onward_rules) depth 20)
 
-  ruleset value-rules = (gives-rules, onward-rules, token-rules, maturity_true)
+  ruleset value_rules = (gives_rules, onward_rules, token_rules, maturity_true)
 
   pub data AnnotationTrue (a : Annotation) : Type 0 where
     true_annotation : WordTrue s t end a.key → SpanTrue s t end a.value → AnnotationTrue a
 
   annotation_true : (a : Annotation) → Read s t end blank_annotation a → AnnotationTrue a
   unfolding blank_annotation constant_annotation
-  annotation_true = from (search (value-rules, true_annotation, quoted_string_true, optional_comma_chain) depth 24)
+  annotation_true = from (search (value_rules, true_annotation, quoted_string_true, optional_comma_chain) depth 24)
 
   annotations_run : (l : List Annotation) → Read s t end (many0 blank_annotation) l → All AnnotationTrue l
   annotations_run = from (gives_many0 (walks blank_annotation_chain) (given annotation_true))
@@ -82,11 +82,11 @@ module _ (s : ℕ) (t : List ℕ) (end : ℕ) where
 
   entry_true : (e : Entry) → Read s t end constant_entry e → EntryTrue e
   unfolding constant_entry
-  entry_true = from (search (value-rules, true_entry, annotations_true) depth 30 fits 5000)
+  entry_true = from (search (value_rules, true_entry, annotations_true) depth 30 fits 5000)
 
   entries_true : (l : List Entry) → Read s t end constant_entries_list l → All EntryTrue l
   unfolding constant_entries_list constant_entries blank_entry
-  entries_true = list_true (chain_inside blank_entry_inside) (from (search (value-rules, given entry_true) depth 5))
+  entries_true = list_true (chain_inside blank_entry_inside) (from (search (value_rules, given entry_true) depth 5))
 
   pub data ChoiceTrue (c : Choice) : Type 0 where
     true_choice : DocTrue s t end c.doc → c.maturity < 2 ^ 2 → WordTrue s t end c.name → WordTrue s t end c.base → All EntryTrue c.entries → ChoiceTrue c
@@ -96,7 +96,7 @@ module _ (s : ℕ) (t : List ℕ) (end : ℕ) where
 
   choice_head_true : (k : List ℕ) (h : ChoiceHead) → Read s t end (choice_head k) h → ChoiceHeadTrue h
   unfolding choice_head
-  choice_head_true k = from (search (value-rules, true_choice_head) depth 30)
+  choice_head_true k = from (search (value_rules, true_choice_head) depth 30)
 
   -- fields and structs
   abbrev pub NumberTrue : ℕ → Type 0
@@ -107,22 +107,22 @@ module _ (s : ℕ) (t : List ℕ) (end : ℕ) where
 
   maximum_true : (o : Option ℕ) → Read s t end (opt max_length) o → Maybe NumberTrue o
   unfolding max_length
-  maximum_true = from (gives_opt (search value-rules depth 12))
+  maximum_true = from (gives_opt (search value_rules depth 12))
 
   field_true : (f : Field) → Read s t end parse_field f → FieldTrue f
   unfolding parse_field
-  field_true = from (search (value-rules, true_field, maximum_true) depth 24)
+  field_true = from (search (value_rules, true_field, maximum_true) depth 24)
 
   pub data StructFieldTrue (f : StructField) : Type 0 where
     true_struct_field : f.maturity < 2 ^ 2 → f.flags < 2 ^ 3 → FieldTrue f.field → StructFieldTrue f
 
   struct_field_true : (f : StructField) → Read s t end parse_struct_field f → StructFieldTrue f
   unfolding parse_struct_field
-  struct_field_true = from (search (value-rules, true_struct_field, field_flags, field_true) depth 16)
+  struct_field_true = from (search (value_rules, true_struct_field, field_flags, field_true) depth 16)
 
   fields_true : (l : List StructField) → Read s t end struct_fields l → All StructFieldTrue l
   unfolding struct_fields fields_run closed_field
-  fields_true = list_true (chain_inside closed_field_inside) (from (search (value-rules, struct_field_true) depth 12))
+  fields_true = list_true (chain_inside closed_field_inside) (from (search (value_rules, struct_field_true) depth 12))
 
   pub data StructTrue (x : Struct) : Type 0 where
     true_struct : DocTrue s t end x.doc → x.maturity < 2 ^ 2 → response_of x.struct_type < 2 ^ 64 → x.fabric_scoped < 2 ^ 1 → WordTrue s t end x.name → All StructFieldTrue x.fields → StructTrue x
@@ -132,28 +132,28 @@ module _ (s : ℕ) (t : List ℕ) (end : ℕ) where
 
   type_true : (k : Option Word) (y : StructType) → Read s t end (struct_type_of k) y → response_of y < 2 ^ 64
   unfolding struct_type_of type_by_word response_code response_of
-  type_true none = from (search gives-rules depth 4)
-  type_true (some w) = from (search value-rules depth 12)
+  type_true none = from (search gives_rules depth 4)
+  type_true (some w) = from (search value_rules depth 12)
 
   struct_head_true : (h : StructHead) → Read s t end struct_head h → StructHeadTrue h
   unfolding struct_head
-  struct_head_true = from (search (value-rules, true_struct_head, struct_flags, type_true) depth 24)
+  struct_head_true = from (search (value_rules, true_struct_head, struct_flags, type_true) depth 24)
 
   -- events, commands and attributes
   privilege_true : (p : ℕ) → Read s t end access_privilege p → p < 2 ^ 2
   unfolding access_privilege
-  privilege_true = from (search (gives-rules, onward-rules) depth 12)
+  privilege_true = from (search (gives_rules, onward_rules) depth 12)
 
   priority_true : (p : ℕ) → Read s t end event_priority p → p < 2 ^ 2
   unfolding event_priority
-  priority_true = from (search (gives-rules, onward-rules) depth 12)
+  priority_true = from (search (gives_rules, onward_rules) depth 12)
 
   abbrev PrivilegeTrue : ℕ → Type 0
   PrivilegeTrue p = p < 2 ^ 2
 
   gives_access : (k : List ℕ) → Gives s t end PrivilegeTrue (access_to k)
   unfolding access_to
-  gives_access k = search (value-rules, privilege_true) depth 24
+  gives_access k = search (value_rules, privilege_true) depth 24
 
   or_else_true : (z : ℕ) → z < 2 ^ 2 → (o : Option ℕ) → Maybe PrivilegeTrue o → or_else z o < 2 ^ 2
   unfolding or_else
@@ -171,7 +171,7 @@ module _ (s : ℕ) (t : List ℕ) (end : ℕ) where
 
   event_qualities_true : (q : EventQualities) → Read s t end event_qualities q → EventQualitiesTrue q
   unfolding event_qualities
-  event_qualities_true = from (search (value-rules, true_event_qualities, event_flags, priority_true, read_access_true) depth 24)
+  event_qualities_true = from (search (value_rules, true_event_qualities, event_flags, priority_true, read_access_true) depth 24)
 
   data EventHeadTrue (h : EventHead) : Type 0 where
     true_event_head : h.sensitive < 2 ^ 1 → h.rank < 2 ^ 2 → h.privilege < 2 ^ 2 → WordTrue s t end h.id → h.number < 2 ^ 64 → EventHeadTrue h
@@ -181,7 +181,7 @@ module _ (s : ℕ) (t : List ℕ) (end : ℕ) where
 
   event_head_true : (h : EventHead) → Read s t end event_head h → EventHeadTrue h
   unfolding event_head
-  event_head_true = from (search (value-rules, event_head_of, event_qualities_true) depth 24)
+  event_head_true = from (search (value_rules, event_head_of, event_qualities_true) depth 24)
 
   pub data EventTrue (e : Event) : Type 0 where
     true_event : DocTrue s t end e.doc → e.maturity < 2 ^ 2 → e.fabric_sensitive < 2 ^ 1 → e.priority < 2 ^ 2 → e.access < 2 ^ 2 → WordTrue s t end e.name → e.code < 2 ^ 64 → All StructFieldTrue e.fields → EventTrue e
@@ -194,7 +194,7 @@ module _ (s : ℕ) (t : List ℕ) (end : ℕ) where
 
   command_head_true : (h : CommandHead) → Read s t end command_head h → CommandHeadTrue h
   unfolding command_head
-  command_head_true = from (search (value-rules, true_command_head, command_flags, invoke_access_true) depth 24)
+  command_head_true = from (search (value_rules, true_command_head, command_flags, invoke_access_true) depth 24)
 
   data CommandTypesTrue (h : CommandTypes) : Type 0 where
     true_command_types : Maybe (WordTrue s t end) h.from → WordTrue s t end h.to → CommandTypesTrue h
@@ -204,7 +204,7 @@ module _ (s : ℕ) (t : List ℕ) (end : ℕ) where
 
   command_types_true : (h : CommandTypes) → Read s t end command_types h → CommandTypesTrue h
   unfolding command_types
-  command_types_true = from (search (value-rules, true_command_types, input_true) depth 24)
+  command_types_true = from (search (value_rules, true_command_types, input_true) depth 24)
 
   -- an attribute's privileges
   pub data AccessTrue (a : Access) : Type 0 where
@@ -218,7 +218,7 @@ module _ (s : ℕ) (t : List ℕ) (end : ℕ) where
 
   gives_access_entry : Gives s t end AccessTrue access_entry
   unfolding access_entry
-  gives_access_entry = search (value-rules, true_access, operation_true, privilege_true) depth 24
+  gives_access_entry = search (value_rules, true_access, operation_true, privilege_true) depth 24
 
   separated_true : {A : Type 0} {R : A → Type 0} {p : Parser (Unit {0})} {m : Parser A} → OnChain p → OnChain m → Gives s t end R m → (l : List A) → Read s t end (separated_list0 p m) l → All R l
   unfolding separated_list0
@@ -230,7 +230,7 @@ module _ (s : ℕ) (t : List ℕ) (end : ℕ) where
 
   gives_access_list : Gives s t end (All AccessTrue) access_list
   unfolding access_list
-  gives_access_list = search (value-rules, accesses_true) depth 24
+  gives_access_list = search (value_rules, accesses_true) depth 24
 
   listed_true : (o : Option (List Access)) → Maybe (All AccessTrue) o → All AccessTrue (listed o)
   unfolding listed
@@ -279,14 +279,14 @@ module _ (s : ℕ) (t : List ℕ) (end : ℕ) where
 
   gives_revision : Gives s t end MemberTrue parse_revision
   unfolding parse_revision
-  gives_revision = search value-rules depth 12
+  gives_revision = search value_rules depth 12
 
   data ClusterHeadTrue (h : ClusterHead) : Type 0 where
     true_cluster_head : WordTrue s t end h.id → h.number < 2 ^ 64 → ClusterHeadTrue h
 
   cluster_head_true : (h : ClusterHead) → Read s t end cluster_head h → ClusterHeadTrue h
   unfolding cluster_head
-  cluster_head_true = from (search (value-rules, true_cluster_head) depth 24)
+  cluster_head_true = from (search (value_rules, true_cluster_head) depth 24)
 
   -- declarations after a doc comment and a maturity
   module _ (d : Doc) (m : ℕ) (doc : DocTrue s t end d) (mature : m < 2 ^ 2) where
@@ -295,14 +295,14 @@ module _ (s : ℕ) (t : List ℕ) (end : ℕ) where
 
     choice_true : (k : List ℕ) (c : Choice) → Read s t end (choice_after_doc_maturity k d m) c → ChoiceTrue c
     unfolding choice_after_doc_maturity
-    choice_true k = from (search (value-rules, choice_of, choice_head_true k, entries_true) depth 12)
+    choice_true k = from (search (value_rules, choice_of, choice_head_true k, entries_true) depth 12)
 
     struct_of : (h : StructHead) (l : List StructField) → StructHeadTrue h → All StructFieldTrue l → StructTrue (record { doc = d; maturity = m; struct_type = h.head_type; fabric_scoped = h.head_scoped; name = h.head_name; fields = l })
     struct_of h l (true_struct_head x y n) f = true_struct doc mature x y n f
 
     struct_true : (x : Struct) → Read s t end (parse_struct_after_doc_maturity d m) x → StructTrue x
     unfolding parse_struct_after_doc_maturity
-    struct_true = from (search (value-rules, struct_of, struct_head_true, fields_true) depth 12)
+    struct_true = from (search (value_rules, struct_of, struct_head_true, fields_true) depth 12)
 
     event_of : (h : EventHead) (l : List StructField) → EventHeadTrue h → All StructFieldTrue l
         → EventTrue (record { doc = d; maturity = m; fabric_sensitive = h.sensitive; priority = h.rank; access = h.privilege; name = h.id; code = h.number; fields = l })
@@ -310,7 +310,7 @@ module _ (s : ℕ) (t : List ℕ) (end : ℕ) where
 
     event_true : (e : Event) → Read s t end (parse_event_after_doc_maturity d m) e → EventTrue e
     unfolding parse_event_after_doc_maturity
-    event_true = from (search (value-rules, event_of, event_head_true, fields_true) depth 12)
+    event_true = from (search (value_rules, event_of, event_head_true, fields_true) depth 12)
 
     command_of : (h : CommandHead) (k : CommandTypes) (c : ℕ) → CommandHeadTrue h → CommandTypesTrue k → c < 2 ^ 64
         → CommandTrue (record { doc = d; maturity = m; flags = h.qualities; access = h.privilege; name = h.id; input = k.from; output = k.to; code = c })
@@ -318,19 +318,19 @@ module _ (s : ℕ) (t : List ℕ) (end : ℕ) where
 
     command_true : (c : Command) → Read s t end (parse_command_after_doc_maturity d m) c → CommandTrue c
     unfolding parse_command_after_doc_maturity
-    command_true = from (search (value-rules, command_of, command_head_true, command_types_true) depth 16)
+    command_true = from (search (value_rules, command_of, command_head_true, command_types_true) depth 16)
 
     attribute_true : (a : Attribute) → Read s t end (parse_attribute_after_doc_maturity d m) a → AttributeTrue a
     unfolding parse_attribute_after_doc_maturity
-    attribute_true = from (search (value-rules, true_attribute, attribute_flags, privileges_true, struct_field_true) depth 16)
+    attribute_true = from (search (value_rules, true_attribute, attribute_flags, privileges_true, struct_field_true) depth 16)
 
     gives_member : Gives s t end MemberTrue (member_tries d m)
     unfolding member_tries parse_bitmap_after_doc_maturity parse_enum_after_doc_maturity
-    gives_member = search (gives-rules, gives_revision, choice_true (ascii "bitmap"), choice_true (ascii "enum"), struct_true, attribute_true, command_true, event_true) depth 20
+    gives_member = search (gives_rules, gives_revision, choice_true (ascii "bitmap"), choice_true (ascii "enum"), struct_true, attribute_true, command_true, event_true) depth 20
 
   member_true : (x : Member) → Read s t end parse_cluster_member x → MemberTrue x
   unfolding parse_cluster_member
-  member_true = from (search (value-rules, gives_member) depth 12)
+  member_true = from (search (value_rules, gives_member) depth 12)
 
   members_true : (l : List Member) → Read s t end (braces cluster_members) l → All MemberTrue l
   unfolding cluster_members
@@ -341,7 +341,7 @@ module _ (s : ℕ) (t : List ℕ) (end : ℕ) where
 
   cluster_true : (c : Cluster) → Read s t end parse_cluster c → ClusterTrue c
   unfolding parse_cluster cluster_after_doc_maturity cluster_members
-  cluster_true = from (search (value-rules, cluster_of, cluster_head_true, members_true) depth 16)
+  cluster_true = from (search (value_rules, cluster_of, cluster_head_true, members_true) depth 16)
 
   -- endpoints
   pub data DeviceTrue (x : DeviceType) : Type 0 where
@@ -349,11 +349,11 @@ module _ (s : ℕ) (t : List ℕ) (end : ℕ) where
 
   version_true : (n : ℕ) → Read s t end device_version n → n < 2 ^ 64
   unfolding device_version
-  version_true = from (search value-rules depth 12)
+  version_true = from (search value_rules depth 12)
 
   device_true : (x : DeviceType) → Read s t end device_type x → DeviceTrue x
   unfolding device_type
-  device_true = from (search (value-rules, true_device, two_keywords_name_true, version_true) depth 12)
+  device_true = from (search (value_rules, true_device, two_keywords_name_true, version_true) depth 12)
 
   abbrev pub DefaultTrue : Default → Type 0
   DefaultTrue (number n) = NumberTrue n
@@ -368,18 +368,18 @@ module _ (s : ℕ) (t : List ℕ) (end : ℕ) where
 
   default_true : (o : Option Default) → Read s t end (opt (whitespace1 >> default_attribute_value)) o → Maybe DefaultTrue o
   unfolding default_attribute_value
-  default_true = from (gives_opt (search (value-rules, gives_value) depth 12))
+  default_true = from (gives_opt (search (value_rules, gives_value) depth 12))
 
   pub data AttributeInstanceTrue (a : AttributeInstance) : Type 0 where
     true_attribute_instance : a.handling < 2 ^ 2 → WordTrue s t end a.name → Maybe DefaultTrue a.default → AttributeInstanceTrue a
 
   handling_true : (n : ℕ) → Read s t end attribute_handling_type n → n < 2 ^ 2
   unfolding attribute_handling_type
-  handling_true = from (search (gives-rules, onward-rules) depth 12)
+  handling_true = from (search (gives_rules, onward_rules) depth 12)
 
   attribute_instance_true : (a : AttributeInstance) → Read s t end attribute_instantiation a → AttributeInstanceTrue a
   unfolding attribute_instantiation
-  attribute_instance_true = from (search (value-rules, true_attribute_instance, handling_true, default_true) depth 16)
+  attribute_instance_true = from (search (value_rules, true_attribute_instance, handling_true, default_true) depth 16)
 
   abbrev pub InstanceTrue : Instance → Type 0
   InstanceTrue (attribute_instance a) = AttributeInstanceTrue a
@@ -424,11 +424,11 @@ module _ (s : ℕ) (t : List ℕ) (end : ℕ) where
 
   instantiation_head_true : (w : Word) → Read s t end instantiation_head w → WordTrue s t end w
   unfolding instantiation_head
-  instantiation_head_true = from (search (value-rules, two_keywords_name_true) depth 8)
+  instantiation_head_true = from (search (value_rules, two_keywords_name_true) depth 8)
 
   instantiation_true : (i : Instantiation) → Read s t end cluster_instantiation i → InstantiationTrue i
   unfolding cluster_instantiation
-  instantiation_true = from (search (value-rules, true_instantiation, instantiation_head_true, instances_true) depth 8)
+  instantiation_true = from (search (value_rules, true_instantiation, instantiation_head_true, instances_true) depth 8)
 
   abbrev pub PartTrue : Part → Type 0
   PartTrue (device x) = DeviceTrue x
@@ -451,11 +451,11 @@ module _ (s : ℕ) (t : List ℕ) (end : ℕ) where
 
   endpoint_head_true : (n : ℕ) → Read s t end endpoint_head n → n < 2 ^ 64
   unfolding endpoint_head
-  endpoint_head_true = from (search value-rules depth 8)
+  endpoint_head_true = from (search value_rules depth 8)
 
   endpoint_true : (e : Endpoint) → Read s t end endpoint e → EndpointTrue e
   unfolding endpoint
-  endpoint_true = from (search (value-rules, true_endpoint, endpoint_head_true, parts_true) depth 8)
+  endpoint_true = from (search (value_rules, true_endpoint, endpoint_head_true, parts_true) depth 8)
 
   -- items
   abbrev pub ItemTrue : Item → Type 0

@@ -43,7 +43,7 @@ use Rattle.items.proofs.events.Laws.{event_headed}
 use Rattle.items.proofs.commands.Laws.{command_words}
 use Rattle.items.proofs.attributes.Laws.{attribute_words}
 use Rattle.items.proofs.clusters.Whole.{cluster_headed}
-use Rattle.items.proofs.instances.Laws.{attribute_words as attribute-instance-words, command_words as command-instance-words, event_words as event-instance-words, instantiation_headed}
+use Rattle.items.proofs.instances.Laws.{attribute_words as attribute_instance_words, command_words as command_instance_words, event_words as event_instance_words, instantiation_headed}
 use Rattle.items.proofs.endpoints.Laws.{device_words, binding_words, endpoint_headed}
 
 abbrev Weight : {A : Type 0} → ℕ → (A → ℕ) → List ℕ → Reply A → Type 0
@@ -263,63 +263,63 @@ ruleset tokens = (parse_id_consumes, keyword_consumes, any_keyword_consumes, tag
 
 ruleset parts = (blank, maturity, quoted, optional, word_set, struct_type, access, version, chain_local, chain_inside, chain_then, any_keyword_chain, parse_id_chain, whitespace0_chain, whitespace1_chain, shared_before_local, max_length_local, list_marker_local, side_local, access_to_inside, default_attribute_value_local)
 
-ruleset takes-rules = (some_bind, some_then, none_bind, none_then, tokens, parts, weighs_ret, lit≤)
+ruleset takes_rules = (some_bind, some_then, none_bind, none_then, tokens, parts, weighs_ret, lit≤)
 
 blank_annotation_takes : Takes 2 blank_annotation
 unfolding blank_annotation constant_annotation
-blank_annotation_takes = search (takes-rules, punct_local) depth 24
+blank_annotation_takes = search (takes_rules, punct_local) depth 24
 
 choice_head_takes : (k : List ℕ) → Takes 3 (choice_head k)
 unfolding choice_head
-choice_head_takes k = search takes-rules depth 30
+choice_head_takes k = search takes_rules depth 30
 
 parse_field_takes : Takes 5 parse_field
 unfolding parse_field
-parse_field_takes = search takes-rules depth 30
+parse_field_takes = search takes_rules depth 30
 
 parse_struct_field_takes : Takes 5 parse_struct_field
 unfolding parse_struct_field
-parse_struct_field_takes = search (takes-rules, weighs_bind, parse_field_takes) depth 20
+parse_struct_field_takes = search (takes_rules, weighs_bind, parse_field_takes) depth 20
 
 closed_field_takes : Takes 4 closed_field
 unfolding closed_field
-closed_field_takes = search (takes-rules, weighs_bind, parse_struct_field_takes) depth 20
+closed_field_takes = search (takes_rules, weighs_bind, parse_struct_field_takes) depth 20
 
 struct_head_takes : Takes 3 struct_head
 unfolding struct_head
-struct_head_takes = search takes-rules depth 30
+struct_head_takes = search takes_rules depth 30
 
 event_head_takes : Takes 3 event_head
 unfolding event_head
-event_head_takes = search (takes-rules, event_qualities_consumes) depth 20
+event_head_takes = search (takes_rules, event_qualities_consumes) depth 20
 
 command_types_takes : Takes 4 command_types
 unfolding command_types
-command_types_takes = search takes-rules depth 20
+command_types_takes = search takes_rules depth 20
 
 command_takes : (d : Doc) (m : ℕ) → Takes 5 (parse_command_after_doc_maturity d m)
 unfolding parse_command_after_doc_maturity
-command_takes d m = search (takes-rules, command_head_consumes, weighs_bind, command_types_takes) depth 20
+command_takes d m = search (takes_rules, command_head_consumes, weighs_bind, command_types_takes) depth 20
 
 attribute_takes : (d : Doc) (m : ℕ) → Takes 6 (parse_attribute_after_doc_maturity d m)
 unfolding parse_attribute_after_doc_maturity
-attribute_takes d m = search (takes-rules, weighs_bind, parse_struct_field_takes) depth 20
+attribute_takes d m = search (takes_rules, weighs_bind, parse_struct_field_takes) depth 20
 
 cluster_head_takes : Takes 4 cluster_head
 unfolding cluster_head
-cluster_head_takes = search takes-rules depth 30
+cluster_head_takes = search takes_rules depth 30
 
 device_type_takes : Takes 3 device_type
 unfolding device_type
-device_type_takes = search (takes-rules, two_keywords_name_consumes) depth 20
+device_type_takes = search (takes_rules, two_keywords_name_consumes) depth 20
 
 attribute_instantiation_takes : Takes 2 attribute_instantiation
 unfolding attribute_instantiation
-attribute_instantiation_takes = search (takes-rules, attribute_handling_type_consumes) depth 20
+attribute_instantiation_takes = search (takes_rules, attribute_handling_type_consumes) depth 20
 
 endpoint_head_takes : Takes 2 endpoint_head
 unfolding endpoint_head
-endpoint_head_takes = search takes-rules depth 12
+endpoint_head_takes = search takes_rules depth 12
 
 -- a head and then a list: the head takes as many bytes as its record has words
 headed_weighs : {I H L A : Type 0} {m : I → Parser A} {records : I → A → List Record} {head : Parser H} {list : Parser L} {rs : L → List Record} {k : ℕ} → Headed m records head list rs k
@@ -376,7 +376,7 @@ member_words x = word_count layout (member_records (λ y. 0) x)
 
 revision_weighs : Weighs 0 member_words parse_revision
 unfolding parse_revision member_records word_count catalogue_words each
-revision_weighs = search takes-rules depth 12
+revision_weighs = search takes_rules depth 12
 
 member_tries_weigh : (d : Doc) (m : ℕ) → Weighs 0 member_words (member_tries d m)
 unfolding member_tries member_records parse_bitmap_after_doc_maturity parse_enum_after_doc_maturity
@@ -429,9 +429,9 @@ module _ {A : Type 0} {records : List A → List Record} {one : A → List Recor
 instance_weighs : (q : ℕ) → Weighs 0 (λ t. word_count layout (instance_record t.value ∷ [])) (instance_tries q)
 unfolding instance_tries
 instance_weighs q =
-    weighs_intercept q (weighs_mapped attribute_instance (weighs_by attribute_instantiation_takes λ a. omega (arith, attribute-instance-words a))) λ q.
-    weighs_intercept q (weighs_mapped command_instance (weighs_by (takes_some (named_after_consumes _ _)) λ n. omega (arith, command-instance-words n))) λ q.
-    weighs_intercept q (weighs_mapped event_instance (weighs_by (takes_some (named_after_consumes _ _)) λ n. omega (arith, event-instance-words n))) λ q.
+    weighs_intercept q (weighs_mapped attribute_instance (weighs_by attribute_instantiation_takes λ a. omega (arith, attribute_instance_words a))) λ q.
+    weighs_intercept q (weighs_mapped command_instance (weighs_by (takes_some (named_after_consumes _ _)) λ n. omega (arith, command_instance_words n))) λ q.
+    weighs_intercept q (weighs_mapped event_instance (weighs_by (takes_some (named_after_consumes _ _)) λ n. omega (arith, event_instance_words n))) λ q.
     weighs_fail q
 
 instantiation_weighs : Weighs 0 (λ i. word_count layout (part_records (instantiation i))) cluster_instantiation

@@ -34,7 +34,7 @@ use Rattle.lexing.proofs.word_sets.Laws.{flags_less}
 use Rattle.lexing.proofs.names.Laws.{two_keywords_name_on}
 
 -- where a step ends: the tokens' rules and the combinators'
-pub ruleset token-onward = (onward_ret, onward_fail, onward_bind, onward_then, onward_pick, walks, advances_onward, parse_id_advances, tag_advances, integer_advances, signed_advances, quoted_advances, default_string_advances, keyword_chain, any_keyword_chain, whitespace0_chain, whitespace1_chain, set_flags_chain, parse_id_chain, chain_position, chain_opt, chain_local, chain_inside, chain_then, chain_many0)
+pub ruleset token_onward = (onward_ret, onward_fail, onward_bind, onward_then, onward_pick, walks, advances_onward, parse_id_advances, tag_advances, integer_advances, signed_advances, quoted_advances, default_string_advances, keyword_chain, any_keyword_chain, whitespace0_chain, whitespace1_chain, set_flags_chain, parse_id_chain, chain_position, chain_opt, chain_local, chain_inside, chain_then, chain_many0)
 
 -- every element, and an optional one
 abbrev pub All : {A : Type 0} → (A → Type 0) → List A → Type 0
@@ -424,11 +424,11 @@ module _ {s : ℕ} {t : List ℕ} {end : ℕ} where
 
   pub two_keywords_name_true : (k j : List ℕ) (w : Word) → Read s t end (two_keywords_name k j) w → WordTrue s t end w
   unfolding two_keywords_name
-  two_keywords_name_true k j = from (search (gives_then, word_true, token-onward) depth 8)
+  two_keywords_name_true k j = from (search (gives_then, word_true, token_onward) depth 8)
 
   pub named_after_true : (k j : List ℕ) (w : Word) → Read s t end (named_after k j) w → WordTrue s t end w
   unfolding named_after
-  named_after_true k j = from (gives_bind (two_keywords_name_on k j) (λ n. search token-onward depth 8) λ n h. gives_then (walks whitespace0_chain) (gives_last _ n (two_keywords_name_true k j n h)))
+  named_after_true k j = from (gives_bind (two_keywords_name_on k j) (λ n. search token_onward depth 8) λ n h. gives_then (walks whitespace0_chain) (gives_last _ n (two_keywords_name_true k j n h)))
 
   pub default_string_true : {x : Span} → Read s t end default_string x → SpanTrue s t end x
   unfolding default_string

@@ -1,6 +1,6 @@
 // Unescaping of a default string's bytes: a first pass counts what comes out, a second writes it.
 ghost use Rattle.std.specs.Prelude.{◌≡◌, ◌<◌, length};
-ghost use Rattle.lexing.specs.unescaping.{escaped, unescape as unescapeOf, outcome, answer};
+ghost use Rattle.lexing.specs.unescaping.{escaped, unescape as unescape_of, outcome, answer};
 ghost use Rattle.lexing.specs.inner.unescaping.{size_of, meant, PieceAt};
 ghost use Rattle.lexing.specs.outcomes.{returned, afterwards};
 
@@ -78,7 +78,7 @@ fn next_piece(part: &[u8], at: usize) -> Piece
 
 // The first pass, which writes nothing.
 fn size_of(part: &[u8]) -> Size
-    ensures { result ≡ size_of (unescapeOf part.now) }
+    ensures { result ≡ size_of (unescape_of part.now) }
 {
     let mut at = 0;
     let mut n = 0;

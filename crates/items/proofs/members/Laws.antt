@@ -31,7 +31,7 @@ use Rattle.items.specs.declared.member_kinds.MemberKind.{MemberKind}
 use Rattle.items.specs.declared.member_kinds.MemberKind.TheVariants.{Revision, Bitmap, Enum, Struct, Attribute, Command, Event, Unknown}
 use Rattle.items.proofs.RecordWords.{word_count_none}
 use Rattle.items.proofs.counts.Laws.{read_counted, count_not, count_mapped, count_no_earlier}
-use Rattle.items.proofs.Locality.{parse_revision_consumes as revision-consumes, member_tries_inside, parse_cluster_member_inside}
+use Rattle.items.proofs.Locality.{parse_revision_consumes as revision_consumes, member_tries_inside, parse_cluster_member_inside}
 use Rattle.items.proofs.member_kinds.Laws.{member_left}
 
 -- a revision takes no words
@@ -40,7 +40,7 @@ unfolding member_records
 no_words p n = word_count_none
 
 pub revision_counted : {a : Number} {b : ℕ} {u : List ℕ} {n c : ℕ} → RevisionTo a b u → a ≡ Value n c → MemberCountTo parse_revision (Words 0 c) b u
-revision_counted {n = n} h e = record { counts = λ p. read_counted (member_records (λ x. p)) revision-consumes h e refl (no_words p n) (omega arith) }
+revision_counted {n = n} h e = record { counts = λ p. read_counted (member_records (λ x. p)) revision_consumes h e refl (no_words p n) (omega arith) }
 
 pub revision_lost : (l : Lost) {b : ℕ} {u : List ℕ} → lost_reply l ≡ parse_revision b u → MemberCountTo parse_revision (NoCount l) b u
 revision_lost l {b} {u} e = record { counts = λ p. count_not (member_records (λ x. p)) parse_revision b u l e }

@@ -56,7 +56,7 @@ abbrev pub access_words : List (List ℕ)
 access_words = ascii "read" ∷ ascii "write" ∷ []
 
 -- the operation that a word names
-abbrev pub operation_if : (is_read is-write : Bool) → Operation
+abbrev pub operation_if : (is_read is_write : Bool) → Operation
 operation_if true w = Read
 operation_if false true = Write
 operation_if false false = Neither

@@ -42,7 +42,7 @@ use Rattle.items.proofs.items.Ends.{item_cases}
 use Rattle.items.proofs.writing.Laws.{Writing, writing_start, writing_start_seen, writing_same, writing_fits, writing_more, writing_more_seen, no_room}
 use Rattle.matter_idl.specs.hoisting.{Tables, place_by, after_items, hoisted}
 use Rattle.matter_idl.specs.reading.{all_items}
-use Rattle.matter_idl.proofs.Places.{hoisted_words, item_words as words-of-places}
+use Rattle.matter_idl.proofs.Places.{hoisted_words, item_words as words_of_places}
 use Rattle.matter_idl.proofs.hoisting.Walk.{record_some}
 use Rattle.matter_idl.proofs.hoisting.Marks.{hoisted_more}
 use Rattle.matter_idl.proofs.AllItems.{no_declaration, accepted_many, all_ended, all_lost}
@@ -216,7 +216,7 @@ none_counted (r ∷ l) e = absurd (omega (arith, e, word_count_append (r ∷ [])
 wordless : (ts : Tables) (seen : List Item) (x : Item) → word_count layout (unhoisted_item x) ≡ 0 → hoisted ts (seen ++ (x ∷ [])) ≡ hoisted ts seen
 wordless ts seen x e =
     let f = place_by (after_items ts seen) in
-    let z : item_records 1 f x ≡ [] = none_counted (item_records 1 f x) (omega (arith, words-of-places 1 1 f (λ m. 0) x, e)) in
+    let z : item_records 1 f x ≡ [] = none_counted (item_records 1 f x) (omega (arith, words_of_places 1 1 f (λ m. 0) x, e)) in
     hoisted_more ts seen x ∙ (ap (λ l. hoisted ts seen ++ l) z ∙ append-nil _)
 
 module _ (ts : Tables) (b : ℕ) (u : List ℕ) (at : ℕ) (old : List ℕ) (room : Room (each unhoisted_item) all_items b u at (length old)) where
