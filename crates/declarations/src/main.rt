@@ -5,9 +5,7 @@
 ghost use Rattle.std.specs.Prelude.{◌≤◌, length};
 ghost use Rattle.items.specs.layout.{text_limit};
 
-use items::counts::Count;
 use lexing::answers::Lost;
-use lexing::unescaping::Unescaping;
 use std::io;
 
 fn print_number(out: &impl Print, label: &[u8], n: usize) -> io::Result<()> {
@@ -17,26 +15,22 @@ fn print_number(out: &impl Print, label: &[u8], n: usize) -> io::Result<()> {
 
 // A failure is document 01's refusal 3; a stop has its number.
 fn print_lost(out: &impl Print, l: Lost) -> io::Result<()> {
-    if l.cause == 0 {
-        return print_number(out, b" refused 3 ", l.place);
+    match l {
+        Lost::Fail(place) => print_number(out, b" refused 3 ", place),
+        Lost::Stop(refusal, place) => {
+            print_number(out, b" refused ", refusal.number())?;
+            print_number(out, b" ", place)
+        }
     }
-    print_number(out, b" refused ", l.cause - 1)?;
-    print_number(out, b" ", l.place)
-}
-
-fn print_byte(out: &impl Print, b: u8) -> io::Result<()> {
-    print!(out; "{b:02x}")
 }
 
 // Eight bytes make a word.
 fn print_words(out: &impl Print, bytes: &[u8]) -> io::Result<()> {
-    let mut i = 0;
-    while i < bytes.len() {
-        if i % 8 == 0 {
-            out.write_all(b" ")?;
+    for word in bytes.chunks(8) {
+        out.write_all(b" ")?;
+        for byte in word {
+            print!(out; "{byte:02x}")?;
         }
-        print_byte(out, bytes[i])?;
-        i += 1;
     }
     Ok(())
 }
@@ -49,8 +43,7 @@ fn print_records(out: &impl Print, text: &[u8]) -> io::Result<()>
     let base = w.next;
     let doc = w.doc;
     let part = lexing::parts::rest_at(text, 0, base);
-    let r = items::items::count_declaration(part, base);
-    let Count::Words(n, _) = r else {
+    let Ok((n, _)) = items::items::count_declaration(part, base) else {
         return Ok(());
     };
     let mut records = [0u8; 512];
@@ -64,13 +57,12 @@ fn print_records(out: &impl Print, text: &[u8]) -> io::Result<()>
 fn print_item(out: &impl Print, text: &[u8]) -> io::Result<()>
     requires { length text.now ≤ text_limit }
 {
-    let r = items::items::count_item(text, 0);
-    match r {
-        Count::Words(_, c) => {
+    match items::items::count_item(text, 0) {
+        Ok((_, c)) => {
             print_records(out, text)?;
             print_number(out, b" next ", c)
         }
-        Count::NoCount(l) => print_lost(out, l),
+        Err(l) => print_lost(out, l),
     }
 }
 
@@ -79,8 +71,7 @@ fn print_line(out: &impl Print, line: &[u8]) -> io::Result<()> {
     let mut text = [0u8; 256];
     out.write_all(line)?;
     out.write_all(b" ->")?;
-    let r = lexing::unescaping::unescape(line, &mut text);
-    let Unescaping::Written(n) = r else {
+    let Ok(n) = lexing::unescaping::unescape(line, &mut text) else {
         return out.write_all(b" no text\n");
     };
     print_item(out, lines::front(&text, n))?;
@@ -88,16 +79,8 @@ fn print_line(out: &impl Print, line: &[u8]) -> io::Result<()> {
 }
 
 fn print_lines(out: &impl Print, input: &[u8]) -> io::Result<()> {
-    let mut at = 0;
-    while at < input.len() {
-        let rest = lexing::parts::rest_at(input, 0, at);
-        let n = lines::line_length(rest);
-        print_line(out, &rest[..n])?;
-        at += n;
-        if at == input.len() {
-            return Ok(());
-        }
-        at += 1;
+    for line in input.split_inclusive(|byte| *byte == b'\n') {
+        print_line(out, line.strip_suffix(b"\n").unwrap_or(line))?;
     }
     Ok(())
 }

@@ -4,8 +4,7 @@ use mathlib.Core.List.{List}
 use Prim.Native.Nat.{ℕ}
 use Rattle.lexing.specs.reply.{Reply, ok, fail, stop, Parser, ◌>>=◌, ◌>>◌}
 use Rattle.lexing.specs.blanks.{Doc, whitespace0}
-use Rattle.lexing.specs.answers.{Answer, ReadTo, Skips, after_blanks}
-use Rattle.lexing.specs.declared.answers.Step.{Step}
+use Rattle.lexing.specs.answers.{ReadTo, Skips, after_blanks, Step, Read}
 use Rattle.lexing.proofs.FirstWord.{blank_clear}
 
 module _ {A : Type 0} (m : Parser A) (b : ℕ) (u : List ℕ) where
@@ -19,7 +18,7 @@ module _ {A : Type 0} (m : Parser A) (b : ℕ) (u : List ℕ) where
       go (stop n p) e = rw (e, ◌>>◌, ◌>>=◌)
 
   -- so what such a parser answers is also the answer after blanks
-  pub read_after : {T : Type 0} {f : ℕ → List ℕ → T → Answer A} {W : ℕ → T → Type 0} {t : T} → ReadTo f W (after_blanks m) t b u → ReadTo f W (after_blanks (after_blanks m)) t b u
+  pub read_after : {P : Type 0} {f : ℕ → List ℕ → P → A} {W : ℕ → P → ℕ → Type 0} {t : Read P} → ReadTo f W (after_blanks m) t b u → ReadTo f W (after_blanks (after_blanks m)) t b u
   read_after h = record { reads = h.reads ∙ once; within = h.within }
 
   pub skips_after_blanks : {a : Step} → Skips (after_blanks m) a b u → Skips (after_blanks (after_blanks m)) a b u

@@ -1,4 +1,6 @@
 -- What is between braces: one law for each way through.
+use Rattle.lexing.specs.declared.answers.Lost.TheVariants.{Fail, Stop}
+use Rattle.std.specs.Prelude.{Ok, Err, Result}
 use mathlib.Core.Path.{◌≡◌, refl, sym, ap, ◌∙◌}
 use mathlib.Core.List.{List}
 use Prim.Native.Nat.{ℕ, ◌-◌}
@@ -7,10 +9,8 @@ use lib.ListN.{length, drop}
 use Rattle.lexing.specs.reply.{Reply, ok, fail, stop, Parser, ret, ◌>>=◌, ◌>>◌, catch, fail_at}
 use Rattle.lexing.specs.words.{tag}
 use Rattle.lexing.specs.blanks.{Doc, whitespace0}
-use Rattle.lexing.specs.answers.{Rest, lost_reply, SkipsAt, Fail, Stop, on_lost}
+use Rattle.lexing.specs.answers.{Rest, lost_reply, SkipsAt, on_lost, Read}
 use Rattle.lexing.specs.declared.answers.Lost.{Lost}
-use Rattle.lexing.specs.declared.answers.Step.{Step as Answered}
-use Rattle.lexing.specs.declared.answers.Step.TheVariants.{Next, Not}
 use Rattle.lexing.proofs.Losses.{by_lost}
 use Rattle.lexing.proofs.Runs.{suf_length}
 use Rattle.lexing.proofs.Chain.{MovesTo, to_suf}
@@ -20,12 +20,10 @@ use Rattle.items.specs.entries.{enclosed, where_missing, braces}
 use Rattle.items.specs.records.{Record}
 use Rattle.items.specs.answers.{CountTo, Room, Written}
 use Rattle.items.specs.inner.counts.{EndsIn, closed_count, ClosedTo}
-use Rattle.items.specs.declared.counts.Count.{Count}
-use Rattle.items.specs.declared.counts.Count.TheVariants.{Words, NoCount}
 use Rattle.items.specs.declared.writing.Wrote.{Wrote}
 use Rattle.items.proofs.Locality.{close_moves}
 use Rattle.lexing.proofs.steps.Laws.{tag_after_took, skips_lost}
-use Rattle.items.proofs.counts.Laws.{Counted, count_took, count_lost_lem, count_is, count_not}
+use Rattle.items.proofs.counts.Laws.{Counted, count_took, count_lost, count_is, count_not}
 use Rattle.items.proofs.writing.Laws.{no_room, written_took}
 
 -- what is lost, where a failure is caught
@@ -39,6 +37,10 @@ lost_not {m = m} h =
     (λ l. lost_reply l ≡ m → ⊥)
     (λ p e. let z = h ∙ sym e in let y : ◌≡◌ {A = ℕ} 0 1 = cc in omega arith)
     (λ n p e. let z = h ∙ sym e in let y : ◌≡◌ {A = ℕ} 0 1 = cc in omega arith)
+
+-- and none that ends all reading
+pub ok_no_stop : {A : Type 0} {a : A} {c n p : ℕ} {r : List ℕ} {m : Reply A} → ok a c r ≡ m → stop n p ≡ m → ⊥
+ok_no_stop h e = let z = h ∙ sym e in let y : ◌≡◌ {A = ℕ} 0 1 = cc in omega arith
 
 -- the closing brace after blanks
 closing_took : (h : ℕ → Parser (Unit {0})) {b n : ℕ} {u : List ℕ} {v : Unit {0}} {e : ℕ} → Took (whitespace0 >> tag 125) b u n v e → Took (catch (whitespace0 >> tag 125) h) b u n v e
@@ -189,17 +191,17 @@ module _ {A : Type 0} {records : A → List Record} (m : Parser A) {b : ℕ} {u 
 
 -- The first pass: what was counted between them.
 module _ {A : Type 0} {f : A → List Record} {m : Parser A} (w : Onward m) {b : ℕ} {u : List ℕ} {c : ℕ} (t : Took (tag 123) b u b tt c) {r : List ℕ} (q : Rest b u c r) where
-  pub run_inside : (a : Count) → CountTo f m a c r → EndsIn a b u
-  run_inside (Words n e) h = let k = count_took w q refl h in omega (arith, t.up, k.step.up, k.step.inside)
-  run_inside (NoCount l) h = tt
+  pub run_inside : (a : Read ℕ) → CountTo f m a c r → EndsIn a b u
+  run_inside (Ok (n, e)) h = let k = count_took w q h in omega (arith, t.up, k.step.up, k.step.inside)
+  run_inside (Err l) h = tt
 
-  pub braces_counted : (a x : Count) → CountTo f m a c r → ClosedTo a x b u → CountTo f (braces m) x b u
-  braces_counted (NoCount l) x h e = rw e (count_not f (braces m) b u l (braces_lost m b u t l q (count_lost_lem l refl c r h)))
-  braces_counted (Words n e) x h g = rw g.is (go g.close g.skips)
+  pub braces_counted : (a x : Read ℕ) → CountTo f m a c r → ClosedTo a x b u → CountTo f (braces m) x b u
+  braces_counted (Err l) x h e = rw e (count_not f (braces m) b u l (braces_lost m b u t l q (count_lost c r h)))
+  braces_counted (Ok (n, e)) x h g = rw g.is (go g.close g.skips)
     where
       k : Counted f m b u c n e
-      k = count_took w q refl h
+      k = count_took w q h
 
-      go : (y : Answered) → SkipsAt (whitespace0 >> tag 125) y b u e → CountTo f (braces m) (closed_count n y) b u
-      go (Next d) s = let z = tag_after_took 125 refl s in count_is f (braces m) b u k.value n d k.words (omega (arith, k.few, k.step.up, t.up, z.up)) (braces_read m b u t k.step z)
-      go (Not l) s = count_not f (braces m) b u l (braces_unclosed m b u t k.step l (skips_lost refl refl s))
+      go : (y : Result ℕ Lost) → SkipsAt (whitespace0 >> tag 125) y b u e → CountTo f (braces m) (closed_count n y) b u
+      go (Ok d) s = let z = tag_after_took 125 s in count_is f (braces m) b u k.value n d k.words (omega (arith, k.few, k.step.up, t.up, z.up)) (braces_read m b u t k.step z)
+      go (Err l) s = count_not f (braces m) b u l (braces_unclosed m b u t k.step l (skips_lost s))

@@ -6,9 +6,6 @@ use mathlib.Core.List.{List, [], ◌∷◌}
 use Prim.Native.Nat.{ℕ, ◌+◌, ◌≤◌, max}
 use native.Mathlib.Omega.{arith}
 use Rattle.lexing.specs.reply.{Reply, ok, fail, stop, Parser, ◌or◌, no_nearer}
-use Rattle.lexing.specs.answers.{lost_reply}
-use Rattle.lexing.specs.declared.answers.Lost.{Lost}
-use Rattle.lexing.proofs.Losses.{at_stop}
 use Rattle.lexing.proofs.Shift.{shift_reply, Shifts}
 
 -- a try that fails leaves the next, whose place is then no nearer
@@ -19,9 +16,6 @@ or_fail m k e = rw (e, ◌or◌)
 pub or_stop : {A : Type 0} (m k : Parser A) (b : ℕ) (u : List ℕ) (n p : ℕ) → stop n p ≡ m b u → stop n p ≡ (m or k) b u
 unfolding ◌or◌
 or_stop m k b u n p e = rw (sym e, ◌or◌)
-
-pub or_stopped : {A : Type 0} (m k : Parser A) (b : ℕ) (u : List ℕ) (l : Lost) → (l.cause ≡ 0 → ⊥) → lost_reply l ≡ m b u → lost_reply l ≡ (m or k) b u
-or_stopped m k b u = at_stop (λ l. lost_reply l ≡ m b u → lost_reply l ≡ (m or k) b u) (λ n p. or_stop m k b u n p)
 
 pub or_lost : {A : Type 0} (m k : Parser A) {b p q : ℕ} {u : List ℕ} → m b u ≡ fail p → k b u ≡ fail q → (m or k) b u ≡ fail (max p q)
 unfolding no_nearer

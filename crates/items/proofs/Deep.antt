@@ -1,4 +1,6 @@
 -- Tries between braces, and the first pass over a loop of them. They hold for any tries and records.
+use Rattle.lexing.specs.declared.answers.Lost.TheVariants.{Fail, Stop}
+use Rattle.std.specs.Prelude.{Ok, Err}
 use mathlib.Core.Path.{◌≡◌, refl, sym, ap, ◌∙◌, subst}
 use mathlib.Core.Logic.{◌⊎◌, inl, inr}
 use mathlib.Core.Bool.{Bool, true, false}
@@ -10,9 +12,8 @@ use lib.ListN.{drop}
 use Rattle.lexing.specs.reply.{Reply, ok, fail, stop, Parser, ret, ◌>>=◌, ◌>>◌, catch, position, fail_at}
 use Rattle.lexing.specs.words.{tag}
 use Rattle.lexing.specs.blanks.{Doc, whitespace0}
-use Rattle.lexing.specs.answers.{Answer, got, lost, Rest, lost_reply, reply, Fail, Stop}
+use Rattle.lexing.specs.answers.{Rest, lost_reply, number_of, reply, Read, read_answer}
 use Rattle.lexing.specs.declared.answers.Lost.{Lost}
-use Rattle.lexing.proofs.Losses.{by_lost}
 use Rattle.lexing.proofs.Onward.{Onward, advances_onward, tag_advances}
 use Rattle.lexing.proofs.Locality.{Consumes, LocalInside, chain_ret}
 use Rattle.lexing.proofs.Slicing.{Took, took, walks, begin, go, on, lose, fall, done, rest_self, rest_from}
@@ -23,17 +24,16 @@ use Rattle.items.specs.endpoints.{Tried as TriedOf, Deep, intercept, deep_step, 
 use Rattle.items.specs.records.{Record}
 use Rattle.items.specs.layout.{layout, word_count}
 use Rattle.items.specs.answers.{CountTo}
-use Rattle.items.specs.inner.instances.{tried_answer, weighed, TriedTo, deep_close, deep_tail, deep_rest}
-use Rattle.items.specs.declared.counts.Count.{Count}
-use Rattle.items.specs.declared.counts.Count.TheVariants.{Words, NoCount}
+use Rattle.items.specs.inner.instances.{weighed, TriedTo, tried_at, deep_close, deep_tail, deep_rest}
 use Rattle.lexing.proofs.Composed.{onward_bind}
 use Rattle.items.proofs.Choice.{Past}
 use Rattle.items.proofs.Mapped.{mapped_ok, mapped_not, mapped_same, value_as, lost_as}
 use Rattle.items.proofs.Locality.{close_moves, deep_step_consumes, deep_run_inside}
-use Rattle.items.proofs.RecordWords.{Elementwise, word_count_none, word_count_more}
+use Rattle.items.proofs.RecordWords.{word_count_none, word_count_more}
+use Rattle.items.specs.inner.runs.{Elementwise}
 use Rattle.lexing.proofs.TextEnd.{brace_first}
 use Rattle.items.proofs.Braces.{lost_not, leaves, close_took, close_caught}
-use Rattle.items.proofs.counts.Laws.{count_is, count_not, count_pass, count_value, count_lost_lem, count_after}
+use Rattle.items.proofs.counts.Laws.{count_is, count_not, count_value, count_lost, count_after}
 
 -- a try: found, failed, and stopped
 module _ {A : Type 0} (q : ℕ) (m : Parser A) (k : ℕ → Parser (TriedOf A)) (b : ℕ) (u : List ℕ) where
@@ -49,8 +49,8 @@ module _ {A : Type 0} (q : ℕ) (m : Parser A) (k : ℕ → Parser (TriedOf A)) 
   next_at p e h = rw (sym (mapped_not with_place m b u (Fail p) e), intercept, catch) h
 
   pub stop_at_lem : (n p : ℕ) → stop n p ≡ m b u → stop n p ≡ intercept q m k b u
-  unfolding intercept catch
-  stop_at_lem n p e = rw (sym (mapped_not with_place m b u (Stop n p) e), intercept, catch) refl
+  unfolding intercept catch mapped ◌>>=◌
+  stop_at_lem n p e = rw (sym e, intercept, catch, mapped, ◌>>=◌) refl
 
 abbrev pub three_tries : {A : Type 0} (m₁ m₂ m₃ : Parser A) → ℕ → Parser (TriedOf A)
 three_tries m₁ m₂ m₃ q = intercept q m₁ λ q. intercept q m₂ λ q. intercept q m₃ λ q. fail_at q
@@ -65,35 +65,21 @@ module _ {A : Type 0} (m₁ m₂ m₃ : Parser A) {b : ℕ} {u : List ℕ} where
   past_start m k {X} e h = let z : b ≡ max b b = omega arith in next_at b m k b u b e (subst (λ (q : ℕ). X ≡ k q b u) z h)
 
   -- where two of three tries do, the answer of the third is that of all
-  pub first_alone : fail b ≡ m₂ b u → fail b ≡ m₃ b u → Past b (m₁ b u) → (x : Answer A) → reply x b u ≡ m₁ b u → reply (tried_answer b x) b u ≡ three_tries m₁ m₂ m₃ b b u
-  first_alone h h' p (got a c) e = intercept_found b m₁ _ b u a c (drop (c - b) u) e
-  first_alone h h' p (lost l) e =
-      by_lost
-      (λ l. lost_reply l ≡ m₁ b u → reply (tried_answer b (lost l)) b u ≡ three_tries m₁ m₂ m₃ b b u)
-      (λ q e. let i : b ≤ q = rw (← e) at p in let z : q ≡ max (max (max b q) b) b = omega (arith, i) in ap fail z ∙ none_found e h h' b)
-      (λ n q e. stop_at_lem b m₁ _ b u n q e)
-      l
-      e
+  module _ {P : Type 0} (g : P → A) where
+    pub first_alone : fail b ≡ m₂ b u → fail b ≡ m₃ b u → Past b (m₁ b u) → (r : Read P) → reply (read_answer g r) b u ≡ m₁ b u → reply (read_answer (λ x. tried_at b (g x)) r) b u ≡ three_tries m₁ m₂ m₃ b b u
+    first_alone h h' p (Ok (x, c)) e = intercept_found b m₁ _ b u (g x) c (drop (c - b) u) e
+    first_alone h h' p (Err (Fail q)) e = let i : b ≤ q = rw (← e) at p in let z : q ≡ max (max (max b q) b) b = omega (arith, i) in ap fail z ∙ none_found e h h' b
+    first_alone h h' p (Err (Stop n q)) e = stop_at_lem b m₁ _ b u (number_of n) q e
 
-  pub second_alone : fail b ≡ m₁ b u → fail b ≡ m₃ b u → Past b (m₂ b u) → (x : Answer A) → reply x b u ≡ m₂ b u → reply (tried_answer b x) b u ≡ three_tries m₁ m₂ m₃ b b u
-  second_alone h h' p (got a c) e = past_start m₁ _ h (intercept_found b m₂ _ b u a c (drop (c - b) u) e)
-  second_alone h h' p (lost l) e =
-      by_lost
-      (λ l. lost_reply l ≡ m₂ b u → reply (tried_answer b (lost l)) b u ≡ three_tries m₁ m₂ m₃ b b u)
-      (λ q e. let i : b ≤ q = rw (← e) at p in let z : q ≡ max (max (max b b) q) b = omega (arith, i) in ap fail z ∙ none_found h e h' b)
-      (λ n q e. past_start m₁ _ h (stop_at_lem b m₂ _ b u n q e))
-      l
-      e
+    pub second_alone : fail b ≡ m₁ b u → fail b ≡ m₃ b u → Past b (m₂ b u) → (r : Read P) → reply (read_answer g r) b u ≡ m₂ b u → reply (read_answer (λ x. tried_at b (g x)) r) b u ≡ three_tries m₁ m₂ m₃ b b u
+    second_alone h h' p (Ok (x, c)) e = past_start m₁ _ h (intercept_found b m₂ _ b u (g x) c (drop (c - b) u) e)
+    second_alone h h' p (Err (Fail q)) e = let i : b ≤ q = rw (← e) at p in let z : q ≡ max (max (max b b) q) b = omega (arith, i) in ap fail z ∙ none_found h e h' b
+    second_alone h h' p (Err (Stop n q)) e = past_start m₁ _ h (stop_at_lem b m₂ _ b u (number_of n) q e)
 
-  pub third_alone : fail b ≡ m₁ b u → fail b ≡ m₂ b u → Past b (m₃ b u) → (x : Answer A) → reply x b u ≡ m₃ b u → reply (tried_answer b x) b u ≡ three_tries m₁ m₂ m₃ b b u
-  third_alone h h' p (got a c) e = past_start m₁ _ h (past_start m₂ _ h' (intercept_found b m₃ _ b u a c (drop (c - b) u) e))
-  third_alone h h' p (lost l) e =
-      by_lost
-      (λ l. lost_reply l ≡ m₃ b u → reply (tried_answer b (lost l)) b u ≡ three_tries m₁ m₂ m₃ b b u)
-      (λ q e. let i : b ≤ q = rw (← e) at p in let z : q ≡ max (max (max b b) b) q = omega (arith, i) in ap fail z ∙ none_found h h' e b)
-      (λ n q e. past_start m₁ _ h (past_start m₂ _ h' (stop_at_lem b m₃ _ b u n q e)))
-      l
-      e
+    pub third_alone : fail b ≡ m₁ b u → fail b ≡ m₂ b u → Past b (m₃ b u) → (r : Read P) → reply (read_answer g r) b u ≡ m₃ b u → reply (read_answer (λ x. tried_at b (g x)) r) b u ≡ three_tries m₁ m₂ m₃ b b u
+    third_alone h h' p (Ok (x, c)) e = past_start m₁ _ h (past_start m₂ _ h' (intercept_found b m₃ _ b u (g x) c (drop (c - b) u) e))
+    third_alone h h' p (Err (Fail q)) e = let i : b ≤ q = rw (← e) at p in let z : q ≡ max (max (max b b) b) q = omega (arith, i) in ap fail z ∙ none_found h h' e b
+    third_alone h h' p (Err (Stop n q)) e = past_start m₁ _ h (past_start m₂ _ h' (stop_at_lem b m₃ _ b u (number_of n) q e))
 
 -- What tries answer after a furthest place q, by what they answer after q': they find the same, and where they fail only these two places make a difference.
 abbrev pub Near : {A : Type 0} → (q q' : ℕ) → Reply (TriedOf A) → Reply (TriedOf A) → Type 0
@@ -133,20 +119,20 @@ near_found {A} f n q b u e = subst (λ (X : Reply (TriedOf A)). Near q b X (f q 
 
 -- a try that counts
 module _ {A : Type 0} (one : A → List Record) (f : ℕ → Parser (TriedOf A)) {b : ℕ} {u : List ℕ} where
-  pub tried_is : (a : A) (k c : ℕ) → word_count layout (one a) ≡ k → k ≤ 8 * (c - b) → ok (record { furthest = b; value = a }) c (drop (c - b) u) ≡ f b b u → TriedTo one f (Words k c) b u
+  pub tried_is : (a : A) (k c : ℕ) → word_count layout (one a) ≡ k → k ≤ 8 * (c - b) → ok (record { furthest = b; value = a }) c (drop (c - b) u) ≡ f b b u → TriedTo one f (Ok (k, c)) b u
   unfolding weighed
   tried_is a k c s i e = record { reads = rw (← s) (mapped_ok _ (f b) b u (record { furthest = b; value = a }) c (drop (c - b) u) refl e); few = i }
 
-  pub tried_not : (l : Lost) → lost_reply l ≡ f b b u → TriedTo one f (NoCount l) b u
+  pub tried_not : (l : Lost) → lost_reply l ≡ f b b u → TriedTo one f (Err l) b u
   unfolding weighed
   tried_not l e = record { reads = mapped_not _ (f b) b u l e; few = tt }
 
   -- by the one reader that is left
-  pub tried_by : {B : Type 0} (g : B → A) (m : Parser B) (r : Count) → ((x : Answer A) → reply x b u ≡ mapped m g b u → reply (tried_answer b x) b u ≡ f b b u) → CountTo (λ x. one (g x)) m r b u → TriedTo one f r b u
-  tried_by g m (Words k c) s h =
+  pub tried_by : {B : Type 0} (g : B → A) (m : Parser B) (r : Read ℕ) → ((x : Read A) → reply (read_answer (λ a. a) x) b u ≡ mapped m g b u → reply (read_answer (tried_at b) x) b u ≡ f b b u) → CountTo (λ x. one (g x)) m r b u → TriedTo one f r b u
+  tried_by g m (Ok (k, c)) s h =
       let v = count_value (λ x. one (g x)) m b u k c h in
-      tried_is (g v.value) k c v.words h.few (s (got (g v.value) c) (mapped_ok g m b u v.value c (drop (c - b) u) refl v.is))
-  tried_by g m (NoCount l) s h = tried_not l (s (lost l) (mapped_not g m b u l (count_lost_lem l refl b u h)))
+      tried_is (g v.value) k c v.words h.few (s (Ok (g v.value, c)) (mapped_ok g m b u v.value c (drop (c - b) u) refl v.is))
+  tried_by g m (Err l) s h = tried_not l (s (Err l) (mapped_not g m b u l (count_lost b u h)))
 
 -- where a closing brace is, every try fails
 abbrev pub Unclosing : {A : Type 0} → (ℕ → Parser (TriedOf A)) → Type 0
@@ -210,8 +196,10 @@ module _ {A : Type 0} {f : ℕ → Parser (TriedOf A)} (t : (q : ℕ) → LocalI
     run_ends p e = iter_ends (deep_step_consumes t v) i p (sym (step_lost (Fail p) e))
 
     pub run_stops : (n p : ℕ) → stop n p ≡ f far c₁ r → stop n p ≡ deep_run f b u
-    unfolding deep_run position ◌>>=◌
-    run_stops n p e = sym (iter_stop (deep_step f) deeper (deep_step_consumes t v) state c (drop (c - b) u) n p (sym (step_lost (Stop n p) e))) ∙ i.left
+    unfolding deep_run position deep_step mapped ◌>>=◌
+    run_stops n p e =
+        let k : mapped (f far) (λ x. record { deepest = x.furthest; read = seen ++ (x.value ∷ []) }) c₁ (drop (c₁ - b) u) ≡ stop n p = rw (sym (e ∙ ap (f far c₁) q.same), mapped, ◌>>=◌) refl in
+        sym (iter_stop (deep_step f) deeper (deep_step_consumes t v) state c (drop (c - b) u) n p (sym (on _ s (sym k)))) ∙ i.left
 
     pub run_took : (p : ℕ) → fail p ≡ f far c₁ r → Took (deep_run f) b u b (record { deepest = max p far; read = seen }) c
     unfolding deeper
@@ -234,20 +222,17 @@ module _ {A : Type 0} {f : ℕ → Parser (TriedOf A)} (t : (q : ℕ) → LocalI
     -- without it, a try that is lost
     run_lost : Nearer f → far ≤ c → fail c₁ ≡ tag 125 c₁ r → (l : Lost) → lost_reply l ≡ f c₁ c₁ r → lost_reply l ≡ deep_rest f b u
     unfolding deep_rest
-    run_lost n w o =
-        by_lost
-        (λ l. lost_reply l ≡ f c₁ c₁ r → lost_reply l ≡ deep_rest f b u)
-        (λ p e.
+    run_lost n w o (Fail p) e =
         let y : Near far c₁ (fail p) (f far c₁ r) = subst (λ (X : Reply (TriedOf A)). Near far c₁ X (f far c₁ r)) (sym e) (n far c₁ c₁ r) in
         let p' = y.0 in
         let h = y.1.0 in
         let z : max c₁ (max p' far) ≡ p = omega (arith, w, s.up, h.0.0, h.0.1, h.1) in
         let k = unclosed o (max p' far) in
         let x = fall _ (ret _) (Fail (max c₁ (max p' far))) (rest_from b c u i.from i.inside) k in
-        rw (← z) (mapped_not (λ s. s.read) (deep_tail f) b u (Fail (max c₁ (max p' far))) (begin (deep_tail f) b u (go _ (run_took p' y.1.1) x))))
-        (λ j p e.
-        let y : stop j p ≡ f far c₁ r = subst (λ (X : Reply (TriedOf A)). Near far c₁ X (f far c₁ r)) (sym e) (n far c₁ c₁ r) in
-        mapped_not (λ s. s.read) (deep_tail f) b u (Stop j p) (begin (deep_tail f) b u (lose (deep_run f) _ (Stop j p) (rest_self b u) (run_stops j p y))))
+        rw (← z) (mapped_not (λ s. s.read) (deep_tail f) b u (Fail (max c₁ (max p' far))) (begin (deep_tail f) b u (go _ (run_took p' y.1.1) x)))
+    run_lost n w o (Stop j p) e =
+        let y : stop (number_of j) p ≡ f far c₁ r = subst (λ (X : Reply (TriedOf A)). Near far c₁ X (f far c₁ r)) (sym e) (n far c₁ c₁ r) in
+        mapped_not (λ s. s.read) (deep_tail f) b u (Stop j p) (begin (deep_tail f) b u (lose (deep_run f) _ (Stop j p) (rest_self b u) (run_stops (number_of j) p y)))
 
 -- a loop of tries that counts
 pub record Seeking {A : Type 0} (records : List A → List Record) (f : ℕ → Parser (TriedOf A)) (b : ℕ) (u : List ℕ) (c n : ℕ) : Type 0 where
@@ -264,11 +249,10 @@ module _ {A : Type 0} {records : List A → List Record} {one : A → List Recor
 
   module _ {b c c₁ n : ℕ} {u r : List ℕ} {d : Doc} (i : Seeking records f b u c n) (s : Took whitespace0 b u c d c₁) (q : Rest b u c₁ r) where
     -- a turn that finds k words
-    pub seeking_more : Nearer f → {a : Count} {k e : ℕ} → a ≡ Words k e → TriedTo one f a c₁ r → Seeking records f b u e (n + k) × (c < e)
+    pub seeking_more : Nearer f → {k e : ℕ} → TriedTo one f (Ok (k, e)) c₁ r → Seeking records f b u e (n + k) × (c < e)
     unfolding weighed
-    seeking_more m {a} {k} {e} z h =
-        let g = subst (λ (x : Count). TriedTo one f x c₁ r) z h in
-        let x = value_as _ (f c₁) c₁ r (record { furthest = c₁; value = k }) e (drop (e - c₁) r) g.reads in
+    seeking_more m {k} {e} h =
+        let x = value_as _ (f c₁) c₁ r (record { furthest = c₁; value = k }) e (drop (e - c₁) r) h.reads in
         let o : x.0.furthest ≡ c₁ = ap (λ (y : TriedOf ℕ). y.furthest) x.1.0 in
         let l : word_count layout (one x.0.value) ≡ k = ap (λ (y : TriedOf ℕ). y.value) x.1.0 in
         let j = turn_near t v i.run s q m x.1.1 in (
@@ -278,21 +262,19 @@ module _ {A : Type 0} {records : List A → List Record} {one : A → List Recor
             near = omega (arith, j.1.0, o, i.near, s.up, j.1.1.1.1);
             run = j.1.1.0;
             words = omega (arith, word_count_more w i.seen x.0.value, i.words, l);
-            few = omega (arith, i.few, g.few, s.up, j.1.1.1.1, i.run.from);
+            few = omega (arith, i.few, h.few, s.up, j.1.1.1.1, i.run.from);
           },
           j.1.1.1.0,
         )
 
     -- the closing brace
-    pub seeking_closed : Unclosing f → {e : ℕ} → Took (tag 125) b u c₁ tt e → CountTo records (deep_rest f) (Words n e) b u
+    pub seeking_closed : Unclosing f → {e : ℕ} → Took (tag 125) b u c₁ tt e → CountTo records (deep_rest f) (Ok (n, e)) b u
     seeking_closed x {e} k = count_is records (deep_rest f) b u i.seen n e i.words (omega (arith, i.few, s.up, k.up)) (run_closed t v i.run s q x k)
 
     -- a try that is lost without it
-    pub seeking_lost : Nearer f → (l' : Lost) → lost_reply l' ≡ tag 125 c₁ r → {a : Count} {l : Lost} → a ≡ NoCount l → TriedTo one f a c₁ r → CountTo records (deep_rest f) a b u
+    pub seeking_lost : Nearer f → (l' : Lost) → lost_reply l' ≡ tag 125 c₁ r → {l : Lost} → TriedTo one f (Err l) c₁ r → CountTo records (deep_rest f) (Err l) b u
     unfolding weighed
-    seeking_lost m l' o {a} {l} z h =
-        let g = subst (λ (x : Count). TriedTo one f x c₁ r) z h in
-        count_pass records (deep_rest f) b u a l z (run_lost t v i.run s q m i.near (tag_missing 125 c₁ r l' o) l (lost_as _ (f c₁) c₁ r l g.reads))
+    seeking_lost m l' o {l} h = count_not records (deep_rest f) b u l (run_lost t v i.run s q m i.near (tag_missing 125 c₁ r l' o) l (lost_as _ (f c₁) c₁ r l h.reads))
 
 -- The braces around them: after the opening one is the rest.
 
@@ -318,8 +300,8 @@ module _ {A : Type 0} (f : ℕ → Parser (TriedOf A)) (b : ℕ) (u : List ℕ) 
   unfolding deep_braces enclosed deep_rest deep_close deep_place
   deep_opened t = mapped_same (deep_tail f) (enclosed (deep_run f) deep_place) (λ s. s.read) (begin (enclosed (deep_run f) deep_place) b u (on (deep_tail f) t refl))
 
-  pub deep_uncounted : {records : List A → List Record} (l : Lost) → lost_reply l ≡ tag 123 b u → CountTo records (deep_braces f) (NoCount l) b u
+  pub deep_uncounted : {records : List A → List Record} (l : Lost) → lost_reply l ≡ tag 123 b u → CountTo records (deep_braces f) (Err l) b u
   deep_uncounted {records} l e = count_not records (deep_braces f) b u l (deep_unopened l e)
 
-  pub deep_counted : {records : List A → List Record} → Onward (deep_run f) → {c : ℕ} → Took (tag 123) b u b tt c → {r : List ℕ} → Rest b u c r → (a : Count) → CountTo records (deep_rest f) a c r → CountTo records (deep_braces f) a b u
+  pub deep_counted : {records : List A → List Record} → Onward (deep_run f) → {c : ℕ} → Took (tag 123) b u b tt c → {r : List ℕ} → Rest b u c r → (a : Read ℕ) → CountTo records (deep_rest f) a c r → CountTo records (deep_braces f) a b u
   deep_counted {records} w t q a h = count_after records (deep_braces f) (deep_rest f) (deep_rest_on f w) a q (deep_opened t) h

@@ -1,4 +1,5 @@
 -- A declaration that is a head and then a list: its first record, and after it those of the list. Both passes over it.
+use Rattle.std.specs.Prelude.{Ok, Err}
 use mathlib.Core.Path.{◌≡◌, sym, ap, ◌∙◌, subst}
 use mathlib.Core.List.{List, [], ◌∷◌}
 use Prim.Native.Nat.{ℕ, ◌+◌, ◌-◌, ◌*◌, ◌≤◌, ◌<◌}
@@ -15,12 +16,10 @@ use Rattle.items.specs.layout.{layout, catalogue_bytes, word_count}
 use Rattle.lexing.specs.buffers.{put}
 use Rattle.items.specs.answers.{CountsTo, Room, Written}
 use Rattle.items.specs.declared.writing.Wrote.{Wrote}
-use Rattle.items.specs.declared.counts.Count.{Count}
-use Rattle.items.specs.declared.counts.Count.TheVariants.{Words, NoCount}
 use Rattle.items.proofs.RecordWords.{word_count_append, catalogue_bytes_append, catalogue_bytes_length}
 use Rattle.items.proofs.Braces.{Step, taken, follows_with}
 use Rattle.items.proofs.writing.Laws.{put_before, no_room, written_took}
-use Rattle.items.proofs.counts.Laws.{Counted, count_is, count_not, count_pass}
+use Rattle.items.proofs.counts.Laws.{Counted, count_is, count_not}
 
 pub record Headed {I H L A : Type 0} (m : I → Parser A) (records : I → A → List Record) (head : Parser H) (list : Parser L) (rs : L → List Record) (k : ℕ) : Type 0 where
   pub make : I → H → L → A
@@ -47,14 +46,14 @@ module _ {I H L A : Type 0} {m : I → Parser A} {records : I → A → List Rec
     whole : {X : Reply A} (i : I) → X ≡ steps i b u → X ≡ m i b u
     whole i e = rw (d.reads i) e
 
-    pub headed_lost : (l : Lost) → lost_reply l ≡ head b u → CountsTo records m (NoCount l) b u
+    pub headed_lost : (l : Lost) → lost_reply l ≡ head b u → CountsTo records m (Err l) b u
     headed_lost l e = record { counts = λ i. count_not (records i) (m i) b u l (whole i (begin (steps i) b u (lose head _ l (rest_self b u) e))) }
 
     module _ {h : H} {c : ℕ} (t : Took head b u b h c) where
-      pub headed_pass : (a : Count) (l : Lost) {r : List ℕ} → a ≡ NoCount l → Rest b u c r → lost_reply l ≡ list c r → CountsTo records m a b u
-      headed_pass a l e q z = record { counts = λ i. count_pass (records i) (m i) b u a l e (whole i (begin (steps i) b u (go _ t (lose list _ l q z)))) }
+      pub headed_pass : (l : Lost) {r : List ℕ} → Rest b u c r → lost_reply l ≡ list c r → CountsTo records m (Err l) b u
+      headed_pass l q z = record { counts = λ i. count_not (records i) (m i) b u l (whole i (begin (steps i) b u (go _ t (lose list _ l q z)))) }
 
-      pub headed_counted : Consumes head → k ≤ 8 → {n e : ℕ} → Counted rs list b u c n e → CountsTo records m (Words (n + k) e) b u
+      pub headed_counted : Consumes head → k ≤ 8 → {n e : ℕ} → Counted rs list b u c n e → CountsTo records m (Ok (n + k, e)) b u
       headed_counted w s {n} {e} f =
           let b≤b : b ≤ b = omega arith in
           record {

@@ -243,7 +243,7 @@ blank_entry_inside = search (inside_rules, token_rules, constant_entry_inside) d
 
 pub blank_entry_consumes : Consumes blank_entry
 unfolding blank_entry
-blank_entry_consumes = search (consumes_rules, chain_rules, chain_inside, punct_local, constant_entry_consumes) depth 10
+blank_entry_consumes = search (consumes_rules, chain_rules, constant_entry_consumes) depth 10
 
 pub constant_entries_list_local : Local constant_entries_list
 unfolding constant_entries_list constant_entries
@@ -320,7 +320,7 @@ parse_struct_field_inside = search (inside_rules, token_rules, api_maturity_loca
 
 pub parse_struct_field_consumes : Consumes parse_struct_field
 unfolding parse_struct_field
-parse_struct_field_consumes = search (consumes_rules, chain_rules, chain_inside, punct_local, api_maturity_local, parse_field_consumes) depth 16
+parse_struct_field_consumes = search (consumes_rules, chain_rules, chain_inside, api_maturity_local, parse_field_consumes) depth 16
 
 pub closed_field_inside : LocalInside closed_field
 unfolding closed_field
@@ -383,7 +383,7 @@ event_priority_local = search (local_rules, keeps_rules) depth 12
 
 pub event_priority_consumes : Consumes event_priority
 unfolding event_priority
-event_priority_consumes = search (consumes_rules, chain_rules, punct_local) depth 12
+event_priority_consumes = search (consumes_rules, chain_rules) depth 12
 
 pub access_to_inside : (k : List ℕ) → LocalInside (access_to k)
 unfolding access_to
@@ -419,7 +419,7 @@ command_head_inside = search (inside_rules, token_rules, access_to_inside) depth
 
 pub command_head_consumes : Consumes command_head
 unfolding command_head
-command_head_consumes = search (consumes_rules, chain_rules, chain_inside, punct_local, access_to_inside) depth 24
+command_head_consumes = search (consumes_rules, chain_rules, chain_inside, access_to_inside) depth 24
 
 pub command_types_inside : LocalInside command_types
 unfolding command_types
@@ -506,7 +506,7 @@ parse_cluster_member_inside = search (inside_rules, token_rules, api_maturity_lo
 
 pub parse_cluster_member_consumes : Consumes parse_cluster_member
 unfolding parse_cluster_member
-parse_cluster_member_consumes = search (consumes_rules, chain_rules, chain_inside, punct_local, api_maturity_local, member_tries_consumes) depth 16
+parse_cluster_member_consumes = search (consumes_rules, chain_rules, chain_inside, api_maturity_local, member_tries_consumes) depth 16
 
 pub side_keeps : KeepsCut side
 unfolding side
@@ -581,7 +581,7 @@ two_keywords_name_local k j = search (local_rules, keeps_rules) depth 16
 
 pub two_keywords_name_consumes : (k j : List ℕ) → Consumes (two_keywords_name k j)
 unfolding two_keywords_name
-two_keywords_name_consumes k j = search (consumes_rules, chain_rules, punct_local) depth 16
+two_keywords_name_consumes k j = search (consumes_rules, chain_rules) depth 16
 
 pub device_version_local : Local device_version
 unfolding device_version
@@ -597,7 +597,7 @@ device_type_consumes = search (consumes_rules, chain_rules, chain_inside, punct_
 
 pub value_tries_local : Local value_tries
 unfolding value_tries
-value_tries_local = search (local_rules, keeps_rules, mapped_local, mapped_keeps) depth 16
+value_tries_local = search (local_rules, keeps_rules, mapped_local) depth 16
 
 pub default_attribute_value_local : Local default_attribute_value
 unfolding default_attribute_value
@@ -609,7 +609,7 @@ attribute_handling_type_local = search (local_rules, keeps_rules) depth 12
 
 pub attribute_handling_type_consumes : Consumes attribute_handling_type
 unfolding attribute_handling_type
-attribute_handling_type_consumes = search (consumes_rules, chain_rules, punct_local) depth 12
+attribute_handling_type_consumes = search (consumes_rules, chain_rules) depth 12
 
 pub attribute_instantiation_inside : LocalInside attribute_instantiation
 unfolding attribute_instantiation

@@ -5,13 +5,13 @@ use Prim.Native.Nat.{ℕ, ◌-◌}
 use native.Mathlib.Omega.{arith}
 use lib.ListN.{drop}
 use Rattle.lexing.specs.reply.{Reply, ok, fail, stop, Parser, ret, ◌>>=◌}
-use Rattle.lexing.specs.answers.{Answer, got, Rest, lost_reply, reply, ReadTo}
+use Rattle.std.specs.Prelude.{Ok}
+use Rattle.lexing.specs.answers.{Rest, lost_reply, number_of, ReadTo}
 use Rattle.lexing.specs.declared.answers.Lost.{Lost}
 use Rattle.lexing.proofs.Losses.{by_lost}
 use Rattle.lexing.proofs.Onward.{Onward}
 use Rattle.lexing.proofs.Slicing.{Took, took}
 use Rattle.items.specs.clusters.{mapped}
-use Rattle.lexing.proofs.AnswerLaws.{reads_as}
 
 abbrev through : {A B : Type 0} → (A → B) → Reply A → Reply B
 through f (ok a c r) = ok (f a) c r
@@ -37,7 +37,7 @@ value_of f (fail p) k c v e = absurd (let z : ◌≡◌ {A = ℕ} 0 1 = cc in om
 value_of f (stop n p) k c v e = absurd (let z : ◌≡◌ {A = ℕ} 0 1 = cc in omega arith)
 
 lost_of_lem : {A B : Type 0} (f : A → B) (l : Lost) (x : Reply A) → lost_reply {A = B} l ≡ through f x → lost_reply l ≡ x
-lost_of_lem {A} {B} f l x = by_lost (λ l. lost_reply {A = B} l ≡ through f x → lost_reply l ≡ x) (λ p. failed p x) (λ i p. stopped i p x) l
+lost_of_lem {A} {B} f l x = by_lost (λ l. lost_reply {A = B} l ≡ through f x → lost_reply l ≡ x) (λ p. failed p x) (λ i p. stopped (number_of i) p x) l
   where
     failed : (p : ℕ) (x : Reply A) → fail p ≡ through f x → fail p ≡ x
     failed p (ok a c r) e = absurd (let z : ◌≡◌ {A = ℕ} 0 1 = cc in omega arith)
@@ -75,10 +75,9 @@ module _ {A B : Type 0} (f : A → B) (m : Parser A) (b : ℕ) (u : List ℕ) wh
   pub mapped_not : (l : Lost) → lost_reply l ≡ m b u → lost_reply l ≡ mapped m f b u
   mapped_not = by_lost (λ l. lost_reply l ≡ m b u → lost_reply l ≡ mapped m f b u) (λ p e. rw (mapped_is f m b u, ← e) refl) (λ n p e. rw (mapped_is f m b u, ← e) refl)
 
--- an answer taken apart, once its variant x is known
-pub read_as : {T A B : Type 0} {f : ℕ → List ℕ → T → Answer B} {W : ℕ → T → Type 0} {g : A → B} {m : Parser A} {a x : T} {n : ℕ} {r : List ℕ} → ReadTo f W (mapped m g) a n r → a ≡ x
-    → Onward m → {b : ℕ} {u : List ℕ} {v : B} {c : ℕ} → Rest b u n r → f n r x ≡ got v c → TookAs g m b u n v c
-read_as {B = B} {n = n} {r = r} h d w q z = took_as w q (sym (ap (λ (y : Answer B). reply y n r) z) ∙ reads_as h d)
+-- an answer that is a value, taken apart
+pub read_as : {P A B : Type 0} {f : ℕ → List ℕ → P → B} {W : ℕ → P → ℕ → Type 0} {g : A → B} {m : Parser A} {p : P} {n c : ℕ} {r : List ℕ} → ReadTo f W (mapped m g) (Ok (p, c)) n r → Onward m → {b : ℕ} {u : List ℕ} → Rest b u n r → TookAs g m b u n (f n r p) c
+read_as h w q = took_as w q h.reads
 
 -- two changes are one
 through_twice : {A B C : Type 0} (f : A → B) (g : B → C) (x : Reply A) → through g (through f x) ≡ through (λ a. g (f a)) x

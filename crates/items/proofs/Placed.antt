@@ -1,4 +1,5 @@
 -- The second pass over a list of tries between braces: a turn of the loop, and its end at the closing brace. They hold for any tries and records.
+use Rattle.lexing.specs.declared.answers.Lost.TheVariants.{Fail}
 use mathlib.Core.Path.{◌≡◌, refl, sym, ap, ◌∙◌, subst}
 use mathlib.Core.Logic.{◌⊎◌, inl, inr}
 use mathlib.Core.List.{List, [], ◌∷◌, ◌++◌}
@@ -8,7 +9,7 @@ use lib.ListN.{length, drop}
 use Rattle.lexing.specs.reply.{Reply, ok, fail, stop, Parser, ret, ◌>>=◌, ◌>>◌, iter_within, iter, position, fail_at}
 use Rattle.lexing.specs.words.{tag}
 use Rattle.lexing.specs.blanks.{Doc, whitespace0}
-use Rattle.lexing.specs.answers.{Rest, lost_reply, Fail, Stop}
+use Rattle.lexing.specs.answers.{Rest, lost_reply, number_of}
 use Rattle.lexing.specs.declared.answers.Lost.{Lost}
 use Rattle.lexing.proofs.Losses.{by_lost}
 use Rattle.lexing.proofs.Onward.{Onward}
@@ -25,8 +26,9 @@ use Rattle.items.specs.inner.instances.{deep_close, deep_tail, deep_rest}
 use Rattle.items.specs.declared.writing.Wrote.{Wrote}
 use Rattle.items.proofs.Mapped.{mapped_ok, value_as}
 use Rattle.items.proofs.Locality.{deep_run_inside}
-use Rattle.items.proofs.RecordWords.{Elementwise, word_count_none, word_count_more, catalogue_bytes_none, catalogue_bytes_length, catalogue_bytes_more}
-use Rattle.items.proofs.Braces.{lost_not, Step, rest_is, taken, then_value}
+use Rattle.items.proofs.RecordWords.{word_count_none, word_count_more, catalogue_bytes_none, catalogue_bytes_length, catalogue_bytes_more}
+use Rattle.items.specs.inner.runs.{Elementwise}
+use Rattle.items.proofs.Braces.{lost_not, ok_no_stop, Step, rest_is, taken, then_value}
 use Rattle.items.proofs.Deep.{intercept_found, next_at, stop_at_lem, three_tries, Near, Nearer, Unclosing, tag_cases, tag_missing, RunAt, turn_near, run_stops, run_took, unclosed, run_closed, deep_rest_on, deep_unopened, deep_opened}
 use Rattle.lexing.proofs.buffers.Laws.{put_length, put_nothing, put_on}
 use Rattle.items.proofs.writing.Laws.{no_room}
@@ -46,7 +48,7 @@ module _ {A : Type 0} {records : List A → List Record} {one : A → List Recor
           let m : word_count layout (records (s.read ++ (v.0.value ∷ []))) ≡ word_count layout (records t.read) = ap (λ x. word_count layout (records x)) q in
           omega (arith, m, word_count_more w s.read v.0.value)
       go (fail p) z = absurd (lost_not e (Fail p) (rw (z, deep_step, ◌>>◌, ◌>>=◌) refl))
-      go (stop n p) z = absurd (lost_not e (Stop n p) (rw (z, deep_step, ◌>>◌, ◌>>=◌) refl))
+      go (stop n p) z = absurd (ok_no_stop {n = n} {p = p} e (rw (z, deep_step, ◌>>◌, ◌>>=◌) refl))
 
   grows : (n : ℕ) (s t : Deep A) (b c : ℕ) (u r : List ℕ) → ok t c r ≡ iter_within n (deep_step f) deeper s b u → word_count layout (records s.read) ≤ word_count layout (records t.read)
   unfolding iter_within deeper
@@ -135,7 +137,7 @@ module _ {A : Type 0} {records : List A → List Record} {one : A → List Recor
               absurd (lost_not whole.then g (subst (λ (o : ℕ). lost_reply g ≡ close whole.value o (drop (o - b) u)) (sym n) a))
           find (stop n p) z =
               let y : stop n p ≡ f i.far c₁ r = subst (λ (X : Reply (TriedOf A)). Near i.far c₁ X (f i.far c₁ r)) z (m i.far c₁ c₁ r) in
-              absurd (lost_not whole.is (Stop n p) (run_stops t v i.run s q n p y))
+              absurd (ok_no_stop whole.is (run_stops t v i.run s q n p y))
 
       -- a turn
       pub placing_more : Nearer f → {o : Wrote} {new' : List ℕ} → Written (λ x. one x.value) (f c₁) c₁ r to o new new' → Placing records f b u o.next at old new' o.to × (c < o.next)
@@ -204,7 +206,7 @@ module _ {A : Type 0} (m₁ m₂ m₃ : Parser A) {b : ℕ} {u : List ℕ} where
   -- a try that is lost in an accepted text has failed
   missed : (m : Parser A) (q : ℕ) (k : ℕ → Parser (TriedOf A)) {x : TriedOf A} {c : ℕ} {r : List ℕ} → ok x c r ≡ intercept q m k b u → (l : Lost) → lost_reply l ≡ m b u → (p : ℕ) × (fail p ≡ m b u)
   missed m q k h =
-      by_lost (λ l. lost_reply l ≡ m b u → (p : ℕ) × (fail p ≡ m b u)) (λ p e. (p, e)) (λ n p e. absurd (lost_not h (Stop n p) (stop_at_lem q m k b u n p e)))
+      by_lost (λ l. lost_reply l ≡ m b u → (p : ℕ) × (fail p ≡ m b u)) (λ p e. (p, e)) (λ n p e. absurd (ok_no_stop h (stop_at_lem q m k b u (number_of n) p e)))
 
   following : (m : Parser A) (q : ℕ) (k : ℕ → Parser (TriedOf A)) {x : TriedOf A} {c : ℕ} {r : List ℕ} → ok x c r ≡ intercept q m k b u → {p : ℕ} → fail p ≡ m b u → ok x c r ≡ k (max q p) b u
   following m q k h {p} e = h ∙ sym (next_at q m k b u p e refl)
@@ -221,7 +223,7 @@ module _ {A : Type 0} (m₁ m₂ m₃ : Parser A) {b : ℕ} {u : List ℕ} where
           let e₃ : r ≡ r' = cc in
           rw (e₂, e₃, z) (ap (λ (t : TriedOf A). ok t.value c' r') e₁)
       find (fail p) z = absurd (lost_not h (Fail _) (next_at q m₃ (λ q. fail_at q) b u p (sym z) refl))
-      find (stop n p) z = absurd (lost_not h (Stop n p) (stop_at_lem q m₃ (λ q. fail_at q) b u n p (sym z)))
+      find (stop n p) z = absurd (ok_no_stop h (stop_at_lem q m₃ (λ q. fail_at q) b u n p (sym z)))
 
   module _ (one : A → List Record) (q : ℕ) {at n : ℕ} (room : Room (λ t. one t.value) (three_tries m₁ m₂ m₃ q) b u at n) where
     pub first_missed : (l : Lost) → lost_reply l ≡ m₁ b u → (p : ℕ) × (fail p ≡ m₁ b u)

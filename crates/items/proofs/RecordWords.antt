@@ -4,11 +4,10 @@ use mathlib.Core.List.{List, [], ◌∷◌, ◌++◌, map, append_assoc, append-
 use Prim.Native.Nat.{ℕ, ◌+◌, ◌*◌, ◌≤◌}
 use native.Mathlib.Omega.{arith}
 use lib.ListN.{length, length-append}
-use Rattle.lexing.specs.reply.{Parser}
-use Rattle.lexing.proofs.Locality.{Consumes}
 use Rattle.lexing.proofs.buffers.Laws.{put_length, each_append, each_one, words_bytes_append, words_bytes_length}
 use Rattle.items.specs.records.{Record}
 use Rattle.lexing.specs.buffers.{each, words_bytes, put}
+use Rattle.items.specs.inner.runs.{Elementwise}
 use Rattle.items.specs.layout.{Layout, layout, record_words, catalogue_words, catalogue_bytes, word_count}
 
 -- records as bytes
@@ -36,11 +35,6 @@ pub catalogue_bytes_none : (L : Layout) → catalogue_bytes L [] ≡ []
 unfolding catalogue_bytes catalogue_words words_bytes each
 catalogue_bytes_none L = refl
 
--- the records of a list are those of its elements, one after the other
-pub record Elementwise {A : Type 0} (records : List A → List Record) (one : A → List Record) : Type 0 where
-  pub nothing : records [] ≡ []
-  pub more : (l : List A) (a : A) → records (l ++ (a ∷ [])) ≡ records l ++ one a
-
 pub each_elementwise : {A : Type 0} (f : A → List Record) → Elementwise (each f) f
 unfolding each
 each_elementwise f = record { nothing = refl; more = λ l a. each_append f l (a ∷ []) ∙ ap (λ x. each f l ++ x) (each_one f a) }
@@ -51,12 +45,6 @@ map_more f (x ∷ l) a = ap (λ k. f x ∷ k) (map_more f l a)
 
 pub map_elementwise : {A : Type 0} (f : A → Record) → Elementwise (map f) (λ a. f a ∷ [])
 map_elementwise f = record { nothing = refl; more = map_more f }
-
--- the elements of a repetition: m reads one, and its record `one` takes k words
-pub record Elements {A : Type 0} (one : A → Record) (m : Parser A) (k : ℕ) : Type 0 where
-  pub takes : Consumes m
-  pub words : (a : A) → word_count layout (one a ∷ []) ≡ k
-  pub few : k ≤ 8
 
 module _ {A : Type 0} {records : List A → List Record} {one : A → List Record} (w : Elementwise records one) where
   pub word_count_more : (l : List A) (a : A) → word_count layout (records (l ++ (a ∷ []))) ≡ word_count layout (records l) + word_count layout (one a)

@@ -1,4 +1,5 @@
 -- A try that hands on what another reader reads: both passes over it are that reader's.
+use Rattle.lexing.specs.answers.{Read}
 use mathlib.Core.Path.{◌≡◌, refl, sym, ap, ◌∙◌, subst}
 use mathlib.Core.List.{List}
 use Prim.Native.Nat.{ℕ, ◌+◌, ◌-◌, ◌*◌}
@@ -9,7 +10,6 @@ use Rattle.items.specs.records.{Record}
 use Rattle.items.specs.layout.{layout, word_count, catalogue_bytes}
 use Rattle.lexing.specs.buffers.{put}
 use Rattle.items.specs.answers.{CountTo, Room, Written}
-use Rattle.items.specs.declared.counts.Count.{Count}
 use Rattle.items.specs.declared.writing.Wrote.{Wrote}
 use Rattle.items.proofs.Mapped.{mapped_ok}
 use Rattle.items.proofs.counts.Laws.{count_mapped}
@@ -26,7 +26,7 @@ abbrev pub recorded_at : {A B : Type 0} {one : A → List Record} {m m' : Parser
 recorded_at e i = record { make = i.make; reads = e ∙ i.reads; hands = i.hands }
 
 module _ {A B : Type 0} {one : A → List Record} {m : Parser A} {f : B → List Record} {p : Parser B} (i : Recorded one m f p) {b : ℕ} {u : List ℕ} where
-  pub recorded_counts : {r : Count} → CountTo f p r b u → CountTo one m r b u
+  pub recorded_counts : {r : Read ℕ} → CountTo f p r b u → CountTo one m r b u
   recorded_counts {r} h = rw i.reads (count_mapped one i.make (subst (λ (g : B → List Record). CountTo g p r b u) (sym i.hands) h))
 
   module _ {at : ℕ} where

@@ -1,25 +1,27 @@
 -- The flags of each set of words, by the set's size.
 use mathlib.Core.List.{List}
-use Prim.Native.Nat.{ℕ, zero, suc, ◌<◌}
-use Rattle.lexing.specs.word_sets.{field_set, struct_set, event_set, command_set}
+use Prim.Native.Nat.{ℕ, ◌<◌}
+use Rattle.lexing.specs.word_sets.{field_set, struct_set, event_set, command_set, attribute_set}
 use Rattle.lexing.specs.answers.{WordSetTo}
+use Rattle.lexing.specs.declared.word_sets.KeywordSet.{KeywordSet}
+use Rattle.lexing.specs.declared.word_sets.KeywordSet.TheVariants.{Field, Struct, Event, Command, Attribute}
 use Rattle.lexing.specs.declared.word_sets.WordSet.{WordSet}
 use Rattle.lexing.proofs.word_sets.Laws.{set_fits}
 
-abbrev pub combinations : ℕ → ℕ
-combinations zero = 8
-combinations (suc zero) = 2
-combinations (suc (suc zero)) = 2
-combinations (suc (suc (suc zero))) = 4
-combinations (suc (suc (suc (suc n)))) = 16
+abbrev pub combinations : KeywordSet → ℕ
+combinations Field = 8
+combinations Struct = 2
+combinations Event = 2
+combinations Command = 4
+combinations Attribute = 16
 
-fits_of : (n : ℕ) {r : WordSet} {b : ℕ} {u : List ℕ} → WordSetTo r n b u → r.flags < combinations n
-unfolding field_set struct_set event_set command_set
-fits_of zero h = set_fits h
-fits_of (suc zero) h = set_fits h
-fits_of (suc (suc zero)) h = set_fits h
-fits_of (suc (suc (suc zero))) h = set_fits h
-fits_of (suc (suc (suc (suc n)))) h = h.small
+fits_of : (n : KeywordSet) {r : WordSet} {b : ℕ} {u : List ℕ} → WordSetTo r n b u → r.flags < combinations n
+unfolding field_set struct_set event_set command_set attribute_set
+fits_of Field h = set_fits h
+fits_of Struct h = set_fits h
+fits_of Event h = set_fits h
+fits_of Command h = set_fits h
+fits_of Attribute h = set_fits h
 
-pub fits : {n : ℕ} {r : WordSet} {b : ℕ} {u : List ℕ} → WordSetTo r n b u → r.flags < combinations n
+pub fits : {n : KeywordSet} {r : WordSet} {b : ℕ} {u : List ℕ} → WordSetTo r n b u → r.flags < combinations n
 fits {n} h = fits_of n h

@@ -32,7 +32,8 @@ use Rattle.items.specs.layout.{layout, record_words, catalogue_words, word_count
 use Rattle.items.specs.answers.items.{unhoisted_item}
 use Rattle.lexing.proofs.Composed.{onward_then, onward_catch, onward_fail}
 use Rattle.items.proofs.Locality.{api_maturity_local, punct_local, shared_before_local, max_length_local, list_marker_local, struct_type_of_local, access_to_inside, attribute_access_inside, side_local, device_version_local, default_attribute_value_local, attribute_handling_type_consumes, event_qualities_consumes, command_head_consumes, two_keywords_name_consumes, named_after_consumes, instantiation_head_consumes}
-use Rattle.items.proofs.RecordWords.{word_count_none, Elementwise, each_elementwise, map_elementwise, word_count_more}
+use Rattle.items.proofs.RecordWords.{word_count_none, each_elementwise, map_elementwise, word_count_more}
+use Rattle.items.specs.inner.runs.{Elementwise}
 use Rattle.items.proofs.Headed.{Headed, headed_words}
 use Rattle.items.proofs.entries.Laws.{entry_words}
 use Rattle.items.proofs.annotations.Laws.{annotation_words}

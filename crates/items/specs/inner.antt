@@ -18,3 +18,4 @@ pub mod defaults
 pub mod instances
 pub mod endpoints
 pub mod items
+pub mod runs

@@ -4,19 +4,22 @@ ghost use Rattle.lexing.specs.reply.{opt, many0};
 ghost use Rattle.lexing.specs.words.{tag};
 ghost use Rattle.lexing.specs.buffers.{put};
 ghost use Rattle.lexing.specs.answers.{Skips};
-ghost use Rattle.items.specs.entries.{constant_annotation, blank_annotation, annotations_in_brackets, constant_annotations_list};
+ghost use Rattle.items.specs.entries.{Annotation, constant_annotation, blank_annotation, annotations_in_brackets, constant_annotations_list};
 ghost use Rattle.items.specs.records.{annotation_record, annotation_kind};
 ghost use Rattle.items.specs.layout.{layout, catalogue_bytes, word_count, text_limit};
 ghost use Rattle.items.specs.answers.{CountTo, Room, Written};
-ghost use Rattle.items.specs.inner.annotations.{AnnotationTo, annotation_lost, AnnotationBetween, optional_records, annotations_at, annotation_parts};
+ghost use Rattle.items.specs.inner.annotations.{annotation_at, AnnotationTo, AnnotationBetween, optional_records, annotations_at, annotation_parts};
 ghost use Rattle.items.specs.inner.writing.{room_for};
 
-use crate::counts::{Count, count_end, count_lost};
-use crate::layout::{ANNOTATION, ANNOTATION_BYTES, ANNOTATION_WORDS};
+use crate::counts::count_end;
+use crate::layout::{ANNOTATION_WORDS, Kind};
+use crate::levels::Privilege;
+use crate::maturity::Maturity;
+use crate::runs::{Element, count_run, write_run};
 use crate::writing::{First, Wrote, first_word, span_word};
-use lexing::answers::{Lost, Step, optional, step_lost};
-use lexing::buffers::put_two;
-use lexing::names::{Named, blank_word, named_lost};
+use lexing::answers::{Read, Step, optional};
+use lexing::buffers::put_words;
+use lexing::names::blank_word;
 use lexing::parts::rest_at;
 use lexing::steps::{blank_at, tag_after};
 use lexing::strings::quoted_string;
@@ -31,12 +34,6 @@ pub struct AnnotationParts {
     pub after: usize,
 }
 
-#[derive(Clone, Copy)]
-pub enum AnnotationRead {
-    Read(AnnotationParts, usize),
-    NoAnnotation(Lost),
-}
-
 fn optional_comma(part: &[u8], base: usize) -> Step
     requires { base + length part.now ≤ text_limit }
     ensures { Skips (opt (tag 44)) result base part.now }
@@ -44,92 +41,67 @@ fn optional_comma(part: &[u8], base: usize) -> Step
     optional(tag(part, base, b','), base)
 }
 
-pub fn constant_annotation(part: &[u8], base: usize) -> AnnotationRead
-    requires { base + length part.now ≤ text_limit }
-    ensures { AnnotationTo constant_annotation result base part.now }
-{
-    let named = blank_word(part, base, base);
-    let Named::Name(key, end, c1) = named else {
-        return AnnotationRead::NoAnnotation(named_lost(named));
-    };
-    let equals = tag_after(part, base, c1, b'=');
-    let Step::Next(c2) = equals else {
-        return AnnotationRead::NoAnnotation(step_lost(equals));
-    };
-    let quote = blank_at(part, base, c2);
-    let value = quoted_string(rest_at(part, base, quote), quote);
-    let Step::Next(after) = value else {
-        return AnnotationRead::NoAnnotation(step_lost(value));
-    };
-    let c3 = blank_at(part, base, after);
-    let comma = optional_comma(rest_at(part, base, c3), c3);
-    let Step::Next(c4) = comma else {
-        return AnnotationRead::NoAnnotation(step_lost(comma));
-    };
-    let a = AnnotationParts {
-        key,
-        quote,
-        end,
-        after,
-    };
-    AnnotationRead::Read(a, c4)
-}
+// An annotation (`read` is the Rust's `constant_annotation`) reads the blanks before it itself, and takes two words.
+impl Element for AnnotationParts {
+    ghost Value = { Annotation };
 
-fn annotation_lost(r: AnnotationRead) -> Lost
-    ensures { result ≡ annotation_lost r }
-{
-    match r {
-        AnnotationRead::Read(_, c) => Lost { cause: 0, place: c },
-        AnnotationRead::NoAnnotation(l) => l,
-    }
-}
+    ghost stands = { annotation_at };
 
-// The first pass over annotations: two words each. An annotation reads the blanks before it itself.
-fn count_annotations(part: &[u8], base: usize) -> Count
-    requires { base + length part.now ≤ text_limit }
-    ensures { CountTo (map annotation_record) (many0 blank_annotation) result base part.now }
-{
-    let mut c = base;
-    let mut n = 0;
-    loop {
-        let r = constant_annotation(rest_at(part, base, c), c);
-        let AnnotationRead::Read(_, next) = r else {
-            return count_end(annotation_lost(r), n, c);
+    ghost reads = { blank_annotation };
+
+    ghost records = { λ a. annotation_record a ∷ [] };
+
+    ghost all = { map annotation_record };
+
+    ghost Bounds = { λ u. AnnotationBetween };
+
+    ghost size = { λ a. 2 };
+
+    fn read(part: &[u8], base: usize) -> Read<AnnotationParts> {
+        let (key, c1) = blank_word(part, base, base)?;
+        let c2 = tag_after(part, base, c1, b'=')?;
+        let quote = blank_at(part, base, c2);
+        let after = quoted_string(rest_at(part, base, quote), quote)?;
+        let c3 = blank_at(part, base, after);
+        let c4 = optional_comma(rest_at(part, base, c3), c3)?;
+        let a = AnnotationParts {
+            key: key.start,
+            quote,
+            end: key.end,
+            after,
         };
-        c = next;
-        n += ANNOTATION_WORDS;
+        Ok((a, c4))
+    }
+
+    fn words(&self) -> usize {
+        ANNOTATION_WORDS
+    }
+
+    fn write(self, _part: &[u8], _base: usize, out: &mut [u8], at: usize) {
+        put_annotation(out, at, self);
     }
 }
 
-fn count_annotations_in_brackets(part: &[u8], base: usize) -> Count
+fn count_annotations_in_brackets(part: &[u8], base: usize) -> Read<usize>
     requires { base + length part.now ≤ text_limit }
     ensures { CountTo (map annotation_record) annotations_in_brackets result base part.now }
 {
-    let bracket = tag(part, base, b'[');
-    let Step::Next(c1) = bracket else {
-        return Count::NoCount(step_lost(bracket));
-    };
-    let run = count_annotations(rest_at(part, base, c1), c1);
-    let Count::Words(n, c2) = run else {
-        return run;
-    };
-    let close = tag_after(part, base, c2, b']');
-    let Step::Next(c3) = close else {
-        return Count::NoCount(step_lost(close));
-    };
-    Count::Words(n, c3)
+    let c1 = tag(part, base, b'[')?;
+    let (n, c2) = count_run::<AnnotationParts>(rest_at(part, base, c1), c1)?;
+    let c3 = tag_after(part, base, c2, b']')?;
+    Ok((n, c3))
 }
 
 // A list that fails is given up: it counts nothing, and reading goes on before it.
-pub fn count_annotations_list(part: &[u8], base: usize) -> Count
+pub fn count_annotations_list(part: &[u8], base: usize) -> Read<usize>
     requires { base + length part.now ≤ text_limit }
     ensures { CountTo optional_records constant_annotations_list result base part.now }
 {
     let r = count_annotations_in_brackets(part, base);
-    let Count::Words(_, _) = r else {
-        return count_end(count_lost(r), 0, base);
-    };
-    r
+    match r {
+        Ok(_) => r,
+        Err(l) => count_end(l, 0, base),
+    }
 }
 
 // The two words of an annotation's record.
@@ -139,38 +111,19 @@ fn put_annotation(out: &mut [u8], at: usize, a: AnnotationParts)
     ensures { out.new ≡ put at (catalogue_bytes layout (annotation_parts a ∷ [])) out.old }
 {
     let first = First {
-        kind: ANNOTATION,
+        kind: Kind::Annotation,
         place: 0,
-        maturity: 0,
+        maturity: Maturity::Stable,
         doc_present: 0,
         flags: 0,
         name: a.key,
         name_length: a.end - a.key,
-        first_privilege: 0,
-        second_privilege: 0,
+        first_privilege: Privilege::View,
+        second_privilege: Privilege::View,
     };
     let start = a.quote + 1;
     let value = span_word(start, a.after - 1 - start);
-    put_two(out, at, first_word(first), value);
-}
-
-// The second pass over annotations.
-fn write_annotations(part: &[u8], base: usize, out: &mut [u8], at: usize) -> Wrote
-    requires part_bound { base + length part.now ≤ text_limit }
-    requires room { Room (map annotation_record) (many0 blank_annotation) base part.now at (length out.old) }
-    ensures { Written (map annotation_record) (many0 blank_annotation) base part.now at result out.old out.new }
-{
-    let mut c = base;
-    let mut to = at;
-    loop {
-        let r = constant_annotation(rest_at(part, base, c), c);
-        let AnnotationRead::Read(a, next) = r else {
-            return Wrote { next: c, to };
-        };
-        put_annotation(out, to, a);
-        c = next;
-        to += ANNOTATION_BYTES;
-    }
+    put_words(out, at, [first_word(first), value]);
 }
 
 // The second pass over the annotations after the code of an entry, which has some: those between the brackets are written as they are read.
@@ -181,9 +134,8 @@ pub fn write_entry_annotations(part: &[u8], base: usize, out: &mut [u8], at: usi
     ensures { out.new ≡ put at (catalogue_bytes layout (map annotation_record (annotations_at base part.now))) out.old }
 {
     let c1 = blank_at(part, base, base);
-    let bracket = tag(rest_at(part, base, c1), c1, b'[');
-    let Step::Next(c2) = bracket else {
+    let Ok(c2) = tag(rest_at(part, base, c1), c1, b'[') else {
         return;
     };
-    write_annotations(rest_at(part, base, c2), c2, out, at);
+    write_run::<AnnotationParts>(rest_at(part, base, c2), c2, out, at);
 }

@@ -6,17 +6,17 @@ ghost use Rattle.items.specs.entries.{choice_after_doc_maturity};
 ghost use Rattle.items.specs.records.{choice_records, enum_kind};
 ghost use Rattle.items.specs.layout.{text_limit, layout, catalogue_bytes};
 ghost use Rattle.lexing.specs.buffers.{put};
-ghost use Rattle.items.specs.answers.{FrontFits, Room, Written};
-ghost use Rattle.items.specs.inner.choices.{ChoiceFrom, choice_head_lost, ChoiceHeadBetween, ChoiceHeadTo, ChoiceCountTo, choice_first};
+ghost use Rattle.items.specs.answers.{FrontFits, Room, Written, kind_number, maturity_number};
+ghost use Rattle.items.specs.inner.choices.{ChoiceFrom, ChoiceHeadBetween, ChoiceHeadTo, ChoiceCountTo, choice_first};
 ghost use Rattle.items.specs.inner.writing.{room_for};
 
-use crate::counts::Count;
 use crate::entries::{count_entries_list, write_entries_list};
 use crate::layout::{CHOICE_BYTES, CHOICE_WORDS};
+use crate::levels::Privilege;
 use crate::writing::{First, FrontParts, Wrote, doc_bit, doc_word, first_word, flag, span_word};
-use lexing::answers::{Lost, Step, step_lost};
-use lexing::buffers::put_three;
-use lexing::names::{Named, keyword_name, named_lost};
+use lexing::answers::Read;
+use lexing::buffers::put_words;
+use lexing::names::keyword_name;
 use lexing::parts::rest_at;
 use lexing::steps::{blank_at, tag_after};
 use lexing::words::id_at;
@@ -31,14 +31,8 @@ pub struct ChoiceHeadParts {
     pub base_end: usize,
 }
 
-#[derive(Clone, Copy)]
-pub enum ChoiceHeadRead {
-    ChoiceHead(ChoiceHeadParts, usize),
-    NoChoiceHead(Lost),
-}
-
 // From after `shared` on, whose blanks the caller has read.
-pub fn choice_head(part: &[u8], base: usize, from: usize, key: &[u8]) -> ChoiceHeadRead
+pub fn choice_head(part: &[u8], base: usize, from: usize, key: &[u8]) -> Read<ChoiceHeadParts>
     requires part_bound { base + length part.now ≤ text_limit }
     requires choice_from { ChoiceFrom from base part.now }
     requires key_value { is_key key.now ≡ true }
@@ -46,44 +40,26 @@ pub fn choice_head(part: &[u8], base: usize, from: usize, key: &[u8]) -> ChoiceH
 {
     let part = &part[..];
     let key = &key[..];
-    let named = keyword_name(rest_at(part, base, from), from, key);
-    let Named::Name(name, end, c1) = named else {
-        return ChoiceHeadRead::NoChoiceHead(named_lost(named));
-    };
+    let (named, c1) = keyword_name(rest_at(part, base, from), from, key)?;
     // Read in place.
-    let colon = tag_after(part, base, c1, b':');
-    let Step::Next(c2) = colon else {
-        return ChoiceHeadRead::NoChoiceHead(step_lost(colon));
-    };
+    let c2 = tag_after(part, base, c1, b':')?;
     let base_at = blank_at(part, base, c2);
-    let kind = id_at(part, base, base_at);
-    let Step::Next(base_end) = kind else {
-        return ChoiceHeadRead::NoChoiceHead(step_lost(kind));
-    };
+    let base_end = id_at(part, base, base_at)?;
     let c3 = blank_at(part, base, base_end);
-    ChoiceHeadRead::ChoiceHead(
+    Ok((
         ChoiceHeadParts {
             shared: base < from,
-            name,
-            end,
+            name: named.start,
+            end: named.end,
             base_at,
             base_end,
         },
         c3,
-    )
-}
-
-pub fn choice_head_lost(r: ChoiceHeadRead) -> Lost
-    ensures { result ≡ choice_head_lost r }
-{
-    match r {
-        ChoiceHeadRead::ChoiceHead(_, c) => Lost { cause: 0, place: c },
-        ChoiceHeadRead::NoChoiceHead(l) => l,
-    }
+    ))
 }
 
 // The first pass over an enum or a bitmap: three words, and those of its entries.
-pub fn count_choice(part: &[u8], base: usize, from: usize, key: &[u8]) -> Count
+pub fn count_choice(part: &[u8], base: usize, from: usize, key: &[u8]) -> Read<usize>
     requires part_bound { base + length part.now ≤ text_limit }
     requires choice_from { ChoiceFrom from base part.now }
     requires key_value { is_key key.now ≡ true }
@@ -91,15 +67,9 @@ pub fn count_choice(part: &[u8], base: usize, from: usize, key: &[u8]) -> Count
 {
     let part = &part[..];
     let key = &key[..];
-    let head = choice_head(part, base, from, key);
-    let ChoiceHeadRead::ChoiceHead(_, c1) = head else {
-        return Count::NoCount(choice_head_lost(head));
-    };
-    let run = count_entries_list(rest_at(part, base, c1), c1);
-    let Count::Words(n, c2) = run else {
-        return run;
-    };
-    Count::Words(n + CHOICE_WORDS, c2)
+    let (_, c1) = choice_head(part, base, from, key)?;
+    let (n, c2) = count_entries_list(rest_at(part, base, c1), c1)?;
+    Ok((n + CHOICE_WORDS, c2))
 }
 
 // The first record of an enum or a bitmap, by its kind.
@@ -118,11 +88,11 @@ fn put_choice(out: &mut [u8], at: usize, front: FrontParts, head: ChoiceHeadPart
         flags: flag(head.shared) * 64,
         name: head.name,
         name_length: head.end - head.name,
-        first_privilege: 0,
-        second_privilege: 0,
+        first_privilege: Privilege::View,
+        second_privilege: Privilege::View,
     };
     let base = span_word(head.base_at, head.base_end - head.base_at);
-    put_three(out, at, first_word(first), doc_word(doc), base);
+    put_words(out, at, [first_word(first), doc_word(doc), base]);
 }
 
 // The second pass over an enum or a bitmap.
@@ -138,14 +108,13 @@ pub fn write_choice(
     requires part_bound { base + length part.now ≤ text_limit }
     requires choice_from { ChoiceFrom from base part.now }
     requires front_fits { FrontFits front }
-    requires room { Room (choice_records front.kind front.place) (choice_after_doc_maturity key.now (doc_of front.doc) front.maturity) base part.now at (length out.old) }
+    requires room { Room (choice_records (kind_number front.kind) front.place) (choice_after_doc_maturity key.now (doc_of front.doc) (maturity_number front.maturity)) base part.now at (length out.old) }
     requires key_value { is_key key.now ≡ true }
-    ensures { Written (choice_records front.kind front.place) (choice_after_doc_maturity key.now (doc_of front.doc) front.maturity) base part.now at result out.old out.new }
+    ensures { Written (choice_records (kind_number front.kind) front.place) (choice_after_doc_maturity key.now (doc_of front.doc) (maturity_number front.maturity)) base part.now at result out.old out.new }
 {
     let part = &part[..];
     let key = &key[..];
-    let head = choice_head(part, base, from, key);
-    let ChoiceHeadRead::ChoiceHead(h, c) = head else {
+    let Ok((h, c)) = choice_head(part, base, from, key) else {
         return Wrote { next: base, to: at };
     };
     let w = write_entries_list(rest_at(part, base, c), c, out, at + CHOICE_BYTES);

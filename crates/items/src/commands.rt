@@ -5,21 +5,19 @@ ghost use Rattle.items.specs.layout.{text_limit, layout, further_word, catalogue
 ghost use Rattle.lexing.specs.buffers.{put};
 ghost use Rattle.items.specs.records.{spanned, command_kind};
 ghost use Rattle.items.specs.members.{parse_command_after_doc_maturity};
-ghost use Rattle.items.specs.answers.{FrontFits, Room, Written};
-ghost use Rattle.items.specs.inner.commands.{command_head_lost, CommandHeadTo, command_types_lost, CommandTypesTo, CommandBetween, CommandTo, CommandCountTo, command_records, OptionalIdAt, extent_if, command_parts};
+ghost use Rattle.items.specs.answers.{FrontFits, Room, Written, maturity_number};
+ghost use Rattle.items.specs.inner.commands.{CommandHeadTo, CommandTypesTo, CommandBetween, CommandTo, CommandCountTo, command_records, OptionalIdAt, extent_if, command_parts};
 ghost use Rattle.items.specs.inner.writing.{room_for};
 
-use crate::counts::Count;
-use crate::layout::{COMMAND, COMMAND_BYTES, COMMAND_WORDS, DOCUMENTED_BYTES};
-use crate::levels::access_to;
+use crate::layout::{COMMAND_BYTES, COMMAND_WORDS, DOCUMENTED_BYTES, Kind};
+use crate::levels::{Privilege, access_to};
 use crate::writing::{First, FrontParts, Wrote, doc_bit, flag, put_documented, span_word};
-use lexing::answers::{Lost, Step, step_lost};
-use lexing::buffers::put_three;
-use lexing::integers::{Number, number_lost};
-use lexing::names::{Named, blank_equals_code, blank_word, colon_type, named_lost};
+use lexing::answers::Read;
+use lexing::buffers::put_words;
+use lexing::names::{blank_equals_code, blank_word, colon_type};
 use lexing::parts::rest_at;
 use lexing::steps::{blank_at, tag_after};
-use lexing::word_sets::{COMMAND_SET, keywords_set};
+use lexing::word_sets::{KeywordSet, keywords_set};
 use lexing::words::{id_at, keyword};
 
 // Up to a command's name: its flags, the privilege to invoke it, the offsets of its name and after it.
@@ -27,14 +25,8 @@ use lexing::words::{id_at, keyword};
 pub struct CommandHeadParts {
     pub name: usize,
     pub qualities: u8,
-    pub privilege: u8,
+    pub privilege: Privilege,
     pub end: usize,
-}
-
-#[derive(Clone, Copy)]
-pub enum CommandHeadRead {
-    CommandHead(CommandHeadParts, usize),
-    NoCommandHead(Lost),
 }
 
 // A command's input and output, each by the offset of its name and the one after it; they are the same where there is no input.
@@ -47,59 +39,31 @@ pub struct CommandTypesParts {
 }
 
 #[derive(Clone, Copy)]
-pub enum CommandTypesRead {
-    CommandTypes(CommandTypesParts, usize),
-    NoCommandTypes(Lost),
-}
-
-#[derive(Clone, Copy)]
 pub struct CommandParts {
     pub head: CommandHeadParts,
     pub types: CommandTypesParts,
     pub code: u64,
 }
 
-#[derive(Clone, Copy)]
-pub enum CommandRead {
-    Command(CommandParts, usize),
-    NoCommand(Lost),
-}
-
-pub fn command_head(part: &[u8], base: usize) -> CommandHeadRead
+pub fn command_head(part: &[u8], base: usize) -> Read<CommandHeadParts>
     requires { base + length part.now ≤ text_limit }
     ensures { CommandHeadTo result base part.now }
 {
-    let q = keywords_set(part, base, COMMAND_SET);
+    let q = keywords_set(part, base, KeywordSet::Command);
     let c1 = q.next;
     let c2 = blank_at(part, base, c1);
-    let command = keyword(rest_at(part, base, c2), c2, b"command");
-    let Step::Next(c3) = command else {
-        return CommandHeadRead::NoCommandHead(step_lost(command));
-    };
-    let access = access_to(rest_at(part, base, c3), c3, b"invoke", 1);
-    let c4 = access.next;
-    let named = blank_word(part, base, c4);
-    let Named::Name(name, end, c5) = named else {
-        return CommandHeadRead::NoCommandHead(named_lost(named));
-    };
-    CommandHeadRead::CommandHead(
+    let c3 = keyword(rest_at(part, base, c2), c2, b"command")?;
+    let (privilege, c4) = access_to(rest_at(part, base, c3), c3, b"invoke", Privilege::Operate);
+    let (named, c5) = blank_word(part, base, c4)?;
+    Ok((
         CommandHeadParts {
             qualities: q.flags,
-            privilege: access.level,
-            name,
-            end,
+            privilege,
+            name: named.start,
+            end: named.end,
         },
         c5,
-    )
-}
-
-pub fn command_head_lost(r: CommandHeadRead) -> Lost
-    ensures { result ≡ command_head_lost r }
-{
-    match r {
-        CommandHeadRead::CommandHead(_, c) => Lost { cause: 0, place: c },
-        CommandHeadRead::NoCommandHead(l) => l,
-    }
+    ))
 }
 
 // The offset after a name that may be absent, from an offset of a part.
@@ -107,74 +71,43 @@ fn optional_id(part: &[u8], base: usize, c: usize) -> usize
     requires { ((base ≤ c) × (c ≤ base + length part.now)) × (base + length part.now ≤ text_limit) }
     ensures { OptionalIdAt result base part.now c }
 {
-    let id = id_at(part, base, c);
-    let Step::Next(end) = id else {
+    let Ok(end) = id_at(part, base, c) else {
         return c;
     };
     end
 }
 
 // `(input) : output`
-pub fn command_types(part: &[u8], base: usize) -> CommandTypesRead
+pub fn command_types(part: &[u8], base: usize) -> Read<CommandTypesParts>
     requires { base + length part.now ≤ text_limit }
     ensures { CommandTypesTo result base part.now }
 {
-    let opening = tag_after(part, base, base, b'(');
-    let Step::Next(c1) = opening else {
-        return CommandTypesRead::NoCommandTypes(step_lost(opening));
-    };
+    let c1 = tag_after(part, base, base, b'(')?;
     let input = blank_at(part, base, c1);
     let input_end = optional_id(part, base, input);
-    let closing = tag_after(part, base, input_end, b')');
-    let Step::Next(c2) = closing else {
-        return CommandTypesRead::NoCommandTypes(step_lost(closing));
-    };
-    let to = colon_type(rest_at(part, base, c2), c2);
-    let Named::Name(output, output_end, c3) = to else {
-        return CommandTypesRead::NoCommandTypes(named_lost(to));
-    };
-    CommandTypesRead::CommandTypes(
+    let c2 = tag_after(part, base, input_end, b')')?;
+    let (output, c3) = colon_type(rest_at(part, base, c2), c2)?;
+    Ok((
         CommandTypesParts {
             input,
             input_end,
-            output,
-            output_end,
+            output: output.start,
+            output_end: output.end,
         },
         c3,
-    )
+    ))
 }
 
-pub fn command_types_lost(r: CommandTypesRead) -> Lost
-    ensures { result ≡ command_types_lost r }
-{
-    match r {
-        CommandTypesRead::CommandTypes(_, c) => Lost { cause: 0, place: c },
-        CommandTypesRead::NoCommandTypes(l) => l,
-    }
-}
-
-pub fn parse_command_after_doc_maturity(part: &[u8], base: usize) -> CommandRead
+pub fn parse_command_after_doc_maturity(part: &[u8], base: usize) -> Read<CommandParts>
     requires { base + length part.now ≤ text_limit }
     ensures { CommandTo result base part.now }
 {
     let part = &part[..];
-    let r1 = command_head(part, base);
-    let CommandHeadRead::CommandHead(head, c1) = r1 else {
-        return CommandRead::NoCommand(command_head_lost(r1));
-    };
-    let r2 = command_types(rest_at(part, base, c1), c1);
-    let CommandTypesRead::CommandTypes(types, c2) = r2 else {
-        return CommandRead::NoCommand(command_types_lost(r2));
-    };
-    let number = blank_equals_code(part, base, c2);
-    let Number::Value(code, c3) = number else {
-        return CommandRead::NoCommand(number_lost(number));
-    };
-    let semicolon = tag_after(part, base, c3, b';');
-    let Step::Next(c4) = semicolon else {
-        return CommandRead::NoCommand(step_lost(semicolon));
-    };
-    CommandRead::Command(CommandParts { head, types, code }, c4)
+    let (head, c1) = command_head(part, base)?;
+    let (types, c2) = command_types(rest_at(part, base, c1), c1)?;
+    let (code, c3) = blank_equals_code(part, base, c2)?;
+    let c4 = tag_after(part, base, c3, b';')?;
+    Ok((CommandParts { head, types, code }, c4))
 }
 
 // The span between two offsets, or zeros where there is nothing between them.
@@ -200,7 +133,7 @@ fn put_command(out: &mut [u8], at: usize, front: FrontParts, p: CommandParts)
     let h = p.head;
     let t = p.types;
     let first = First {
-        kind: COMMAND,
+        kind: Kind::Command,
         place: 0,
         maturity: front.maturity,
         doc_present: doc_bit(doc),
@@ -208,12 +141,12 @@ fn put_command(out: &mut [u8], at: usize, front: FrontParts, p: CommandParts)
         name: h.name,
         name_length: h.end - h.name,
         first_privilege: h.privilege,
-        second_privilege: 0,
+        second_privilege: Privilege::View,
     };
     put_documented(out, at, first, doc);
     let input = optional_span_word(t.input, t.input_end);
     let output = span_word(t.output, t.output_end - t.output);
-    put_three(out, at + DOCUMENTED_BYTES, input, output, p.code);
+    put_words(out, at + DOCUMENTED_BYTES, [input, output, p.code]);
 }
 
 // The second pass over a command.
@@ -226,11 +159,10 @@ pub fn write_command(
 ) -> Wrote
     requires part_bound { base + length part.now ≤ text_limit }
     requires front_fits { FrontFits front }
-    requires room { Room command_records (parse_command_after_doc_maturity (doc_of front.doc) front.maturity) base part.now at (length out.old) }
-    ensures { Written command_records (parse_command_after_doc_maturity (doc_of front.doc) front.maturity) base part.now at result out.old out.new }
+    requires room { Room command_records (parse_command_after_doc_maturity (doc_of front.doc) (maturity_number front.maturity)) base part.now at (length out.old) }
+    ensures { Written command_records (parse_command_after_doc_maturity (doc_of front.doc) (maturity_number front.maturity)) base part.now at result out.old out.new }
 {
-    let r = parse_command_after_doc_maturity(part, base);
-    let CommandRead::Command(p, c) = r else {
+    let Ok((p, c)) = parse_command_after_doc_maturity(part, base) else {
         return Wrote { next: base, to: at };
     };
     put_command(out, at, front, p);
@@ -241,13 +173,10 @@ pub fn write_command(
 }
 
 // The first pass over a command: five words.
-pub fn count_command(part: &[u8], base: usize) -> Count
+pub fn count_command(part: &[u8], base: usize) -> Read<usize>
     requires { base + length part.now ≤ text_limit }
     ensures { CommandCountTo result base part.now }
 {
-    let r = parse_command_after_doc_maturity(part, base);
-    match r {
-        CommandRead::Command(_, c) => Count::Words(COMMAND_WORDS, c),
-        CommandRead::NoCommand(l) => Count::NoCount(l),
-    }
+    let (_, c) = parse_command_after_doc_maturity(part, base)?;
+    Ok((COMMAND_WORDS, c))
 }

@@ -14,22 +14,18 @@ ghost use Rattle.items.specs.inner.endpoints.{DeviceTypeTo, device_parts, endpoi
 ghost use Rattle.items.specs.inner.instances.{TriedTo, deep_rest};
 ghost use Rattle.items.specs.inner.writing.{room_for};
 
-use crate::counts::Count;
 use crate::instances::{
     count_cluster_instantiation, plain_word, put_named, write_cluster_instantiation,
 };
 use crate::layout::{
-    BINDING, DEVICE_TYPE, DEVICE_TYPE_BYTES, DEVICE_TYPE_WORDS, ENDPOINT, ENDPOINT_BYTES,
-    ENDPOINT_WORDS, NAMED_BYTES, NAMED_WORDS,
+    DEVICE_TYPE_BYTES, DEVICE_TYPE_WORDS, ENDPOINT_BYTES, ENDPOINT_WORDS, Kind, NAMED_BYTES,
+    NAMED_WORDS,
 };
 use crate::writing::Wrote;
-use lexing::answers::{Lost, Step, step_lost};
-use lexing::buffers::{put_three, put_two};
+use lexing::answers::Read;
+use lexing::buffers::put_words;
 use lexing::bytes::lower_of;
-use lexing::integers::{Number, number_lost};
-use lexing::names::{
-    Named, blank_equals_code, keyword_number, named_after, named_lost, two_keywords_name,
-};
+use lexing::names::{Named, blank_equals_code, keyword_number, named_after, two_keywords_name};
 use lexing::parts::{peek, rest_at};
 use lexing::steps::{blank_at, integer_after, keyword_after, tag_after};
 use lexing::words::tag;
@@ -43,88 +39,55 @@ pub struct DeviceTypeParts {
     pub version: u64,
 }
 
-#[derive(Clone, Copy)]
-pub enum DeviceTypeRead {
-    DeviceType(DeviceTypeParts, usize),
-    NoDeviceType(Lost),
-}
-
 // A device type from its comma on.
-fn device_version(part: &[u8], base: usize) -> Number
+fn device_version(part: &[u8], base: usize) -> Read<u64>
     requires { base + length part.now ≤ text_limit }
     ensures { number_reply result base part.now ≡ device_version base part.now }
 {
-    let comma = tag_after(part, base, base, b',');
-    let Step::Next(c1) = comma else {
-        return Number::NoNumber(step_lost(comma));
-    };
-    let key = keyword_after(part, base, c1, b"version");
-    let Step::Next(c2) = key else {
-        return Number::NoNumber(step_lost(key));
-    };
-    let number = integer_after(part, base, c2);
-    let Number::Value(v, c3) = number else {
-        return Number::NoNumber(number_lost(number));
-    };
-    let semicolon = tag_after(part, base, c3, b';');
-    let Step::Next(c4) = semicolon else {
-        return Number::NoNumber(step_lost(semicolon));
-    };
-    Number::Value(v, c4)
+    let c1 = tag_after(part, base, base, b',')?;
+    let c2 = keyword_after(part, base, c1, b"version")?;
+    let (v, c3) = integer_after(part, base, c2)?;
+    let c4 = tag_after(part, base, c3, b';')?;
+    Ok((v, c4))
 }
 
-pub fn device_type(part: &[u8], base: usize) -> DeviceTypeRead
+pub fn device_type(part: &[u8], base: usize) -> Read<DeviceTypeParts>
     requires { base + length part.now ≤ text_limit }
     ensures { DeviceTypeTo result base part.now }
 {
     let part = &part[..];
-    let named = two_keywords_name(part, base, b"device", b"type");
-    let Named::Name(name, end, c1) = named else {
-        return DeviceTypeRead::NoDeviceType(named_lost(named));
-    };
-    let number = blank_equals_code(part, base, c1);
-    let Number::Value(code, c2) = number else {
-        return DeviceTypeRead::NoDeviceType(number_lost(number));
-    };
-    let last = device_version(rest_at(part, base, c2), c2);
-    let Number::Value(version, c3) = last else {
-        return DeviceTypeRead::NoDeviceType(number_lost(last));
-    };
+    let (named, c1) = two_keywords_name(part, base, b"device", b"type")?;
+    let (code, c2) = blank_equals_code(part, base, c1)?;
+    let (version, c3) = device_version(rest_at(part, base, c2), c2)?;
     let t = DeviceTypeParts {
-        name,
-        end,
+        name: named.start,
+        end: named.end,
         code,
         version,
     };
-    DeviceTypeRead::DeviceType(t, c3)
+    Ok((t, c3))
 }
 
 // The first pass over a binding: one word.
-fn count_binding(part: &[u8], base: usize) -> Count
+fn count_binding(part: &[u8], base: usize) -> Read<usize>
     requires { base + length part.now ≤ text_limit }
     ensures { CountTo (λ n. part_records (binding n)) (named_after (ascii "binding") (ascii "cluster")) result base part.now }
 {
-    let r = named_after(part, base, b"binding", b"cluster");
-    match r {
-        Named::Name(_, _, c) => Count::Words(NAMED_WORDS, c),
-        Named::NoName(l) => Count::NoCount(l),
-    }
+    let (_, c) = named_after(part, base, b"binding", b"cluster")?;
+    Ok((NAMED_WORDS, c))
 }
 
 // The first pass over a device type: three words.
-fn count_device_type(part: &[u8], base: usize) -> Count
+fn count_device_type(part: &[u8], base: usize) -> Read<usize>
     requires { base + length part.now ≤ text_limit }
     ensures { CountTo (λ t. part_records (device t)) device_type result base part.now }
 {
-    let r = device_type(part, base);
-    match r {
-        DeviceTypeRead::DeviceType(_, c) => Count::Words(DEVICE_TYPE_WORDS, c),
-        DeviceTypeRead::NoDeviceType(l) => Count::NoCount(l),
-    }
+    let (_, c) = device_type(part, base)?;
+    Ok((DEVICE_TYPE_WORDS, c))
 }
 
 // The first pass over a part of an endpoint, before which no blank is: the one try that its first letter selects; the others fail at their start.
-fn count_part(part: &[u8], base: usize) -> Count
+fn count_part(part: &[u8], base: usize) -> Read<usize>
     requires part_bound { base + length part.now ≤ text_limit }
     requires part_value { whitespace0 base part.now ≡ ok no_doc base part.now }
     ensures { TriedTo part_records part_tries result base part.now }
@@ -138,7 +101,7 @@ fn count_part(part: &[u8], base: usize) -> Count
 }
 
 // The first pass over parts after their opening brace, up to the closing one: where that is not there, there is one more of them.
-fn count_parts(part: &[u8], base: usize) -> Count
+fn count_parts(part: &[u8], base: usize) -> Read<usize>
     requires { base + length part.now ≤ text_limit }
     ensures { CountTo (each part_records) (deep_rest part_tries) result base part.now }
 {
@@ -147,60 +110,44 @@ fn count_parts(part: &[u8], base: usize) -> Count
     loop {
         let start = blank_at(part, base, c);
         let rest = rest_at(part, base, start);
-        let close = tag(rest, start, b'}');
-        if let Step::Next(end) = close {
-            return Count::Words(n, end);
+        if let Ok(end) = tag(rest, start, b'}') {
+            return Ok((n, end));
         }
-        let r = count_part(rest, start);
-        let Count::Words(k, next) = r else {
-            return r;
-        };
+        let (k, next) = count_part(rest, start)?;
         c = next;
         n += k;
     }
 }
 
 // The first pass over the parts between braces.
-fn count_braced_parts(part: &[u8], base: usize) -> Count
+fn count_braced_parts(part: &[u8], base: usize) -> Read<usize>
     requires { base + length part.now ≤ text_limit }
     ensures { CountTo (each part_records) (deep_braces part_tries) result base part.now }
 {
-    let brace = tag(part, base, b'{');
-    let Step::Next(c) = brace else {
-        return Count::NoCount(step_lost(brace));
-    };
+    let c = tag(part, base, b'{')?;
     count_parts(rest_at(part, base, c), c)
 }
 
 // An endpoint up to its parts: its number.
-pub fn endpoint_head(part: &[u8], base: usize) -> Number
+pub fn endpoint_head(part: &[u8], base: usize) -> Read<u64>
     requires { base + length part.now ≤ text_limit }
     ensures { number_reply result base part.now ≡ endpoint_head base part.now }
 {
     let part = &part[..];
     let c1 = blank_at(part, base, base);
-    let number = keyword_number(rest_at(part, base, c1), c1, b"endpoint");
-    let Number::Value(id, c2) = number else {
-        return Number::NoNumber(number_lost(number));
-    };
+    let (id, c2) = keyword_number(rest_at(part, base, c1), c1, b"endpoint")?;
     let c3 = blank_at(part, base, c2);
-    Number::Value(id, c3)
+    Ok((id, c3))
 }
 
 // The first pass over an endpoint: two words, and those of its parts.
-pub fn count_endpoint(part: &[u8], base: usize) -> Count
+pub fn count_endpoint(part: &[u8], base: usize) -> Read<usize>
     requires { base + length part.now ≤ text_limit }
     ensures { CountTo endpoint_records endpoint result base part.now }
 {
-    let head = endpoint_head(part, base);
-    let Number::Value(_, c1) = head else {
-        return Count::NoCount(number_lost(head));
-    };
-    let run = count_braced_parts(rest_at(part, base, c1), c1);
-    let Count::Words(n, c2) = run else {
-        return run;
-    };
-    Count::Words(n + ENDPOINT_WORDS, c2)
+    let (_, c1) = endpoint_head(part, base)?;
+    let (n, c2) = count_braced_parts(rest_at(part, base, c1), c1)?;
+    Ok((n + ENDPOINT_WORDS, c2))
 }
 
 // The record of a device type.
@@ -209,8 +156,12 @@ fn put_device_type(out: &mut [u8], at: usize, t: DeviceTypeParts)
     requires name_in { NameIn 0 t.name t.end text_limit }
     ensures { out.new ≡ put at (catalogue_bytes layout (device_parts t ∷ [])) out.old }
 {
-    let word = plain_word(DEVICE_TYPE, 0, t.name, t.end);
-    put_three(out, at, word, t.code, t.version);
+    let name = Named {
+        start: t.name,
+        end: t.end,
+    };
+    let word = plain_word(Kind::DeviceType, 0, name);
+    put_words(out, at, [word, t.code, t.version]);
 }
 
 // The first record of an endpoint.
@@ -218,7 +169,8 @@ fn put_endpoint(out: &mut [u8], at: usize, id: u64)
     requires { at + room_for endpoint_kind ≤ length out.old }
     ensures { out.new ≡ put at (catalogue_bytes layout (endpoint_first id ∷ [])) out.old }
 {
-    put_two(out, at, plain_word(ENDPOINT, 0, 0, 0), id);
+    let absent = Named { start: 0, end: 0 };
+    put_words(out, at, [plain_word(Kind::Endpoint, 0, absent), id]);
 }
 
 // The second pass over a part of an endpoint, before which no blank is. A try that fails here costs no more than its first word.
@@ -228,17 +180,15 @@ fn write_part(part: &[u8], base: usize, out: &mut [u8], at: usize) -> Wrote
     requires room { Room (λ t. part_records t.value) (part_tries base) base part.now at (length out.old) }
     ensures { Written (λ t. part_records t.value) (part_tries base) base part.now at result out.old out.new }
 {
-    let device = device_type(part, base);
-    if let DeviceTypeRead::DeviceType(t, c) = device {
+    if let Ok((t, c)) = device_type(part, base) {
         put_device_type(out, at, t);
         return Wrote {
             next: c,
             to: at + DEVICE_TYPE_BYTES,
         };
     }
-    let binding = named_after(part, base, b"binding", b"cluster");
-    if let Named::Name(name, end, c) = binding {
-        put_named(out, at, BINDING, name, end);
+    if let Ok((name, c)) = named_after(part, base, b"binding", b"cluster") {
+        put_named(out, at, Kind::Binding, name);
         return Wrote {
             next: c,
             to: at + NAMED_BYTES,
@@ -258,8 +208,7 @@ fn write_parts(part: &[u8], base: usize, out: &mut [u8], at: usize) -> Wrote
     loop {
         let start = blank_at(part, base, c);
         let rest = rest_at(part, base, start);
-        let close = tag(rest, start, b'}');
-        if let Step::Next(end) = close {
+        if let Ok(end) = tag(rest, start, b'}') {
             return Wrote { next: end, to };
         }
         let wrote = write_part(rest, start, out, to);
@@ -274,8 +223,7 @@ pub fn write_endpoint(part: &[u8], base: usize, out: &mut [u8], at: usize) -> Wr
     requires room { Room endpoint_records endpoint base part.now at (length out.old) }
     ensures { Written endpoint_records endpoint base part.now at result out.old out.new }
 {
-    let head = endpoint_head(part, base);
-    let Number::Value(id, c) = head else {
+    let Ok((id, c)) = endpoint_head(part, base) else {
         return Wrote { next: base, to: at };
     };
     let opened = c + 1;

@@ -5,53 +5,39 @@ ghost use Rattle.items.specs.layout.{text_limit, layout, catalogue_bytes};
 ghost use Rattle.lexing.specs.buffers.{put};
 ghost use Rattle.items.specs.records.{event_records, event_kind};
 ghost use Rattle.items.specs.members.{parse_event_after_doc_maturity};
-ghost use Rattle.items.specs.answers.{FrontFits, Room, Written};
-ghost use Rattle.items.specs.inner.events.{event_qualities_lost, EventQualitiesTo, event_head_lost, EventHeadTo, EventCountTo, EventHeadBetween, event_word, event_first};
+ghost use Rattle.items.specs.answers.{FrontFits, Room, Written, maturity_number};
+ghost use Rattle.items.specs.inner.events.{EventQualitiesTo, EventHeadTo, EventCountTo, EventHeadBetween, event_word, event_first};
 ghost use Rattle.items.specs.inner.writing.{room_for};
 
-use crate::counts::Count;
 use crate::fields::{count_struct_fields, write_struct_fields};
-use crate::layout::{EVENT, EVENT_BYTES, EVENT_WORDS};
-use crate::levels::{Level, access_to, event_priority, level_lost};
+use crate::layout::{EVENT_BYTES, EVENT_WORDS, Kind};
+use crate::levels::{Priority, Privilege, access_to, event_priority};
 use crate::writing::{First, FrontParts, Wrote, doc_bit, doc_word, first_word};
-use lexing::answers::{Lost, Step, step_lost};
-use lexing::buffers::put_three;
-use lexing::integers::{Number, number_lost};
-use lexing::names::{Named, blank_equals_code, blank_word, named_lost};
+use lexing::answers::{Read, Step};
+use lexing::buffers::put_words;
+use lexing::names::{blank_equals_code, blank_word};
 use lexing::parts::rest_at;
 use lexing::steps::{blank_at, gap_at};
-use lexing::word_sets::{EVENT_SET, keywords_set};
+use lexing::word_sets::{KeywordSet, keywords_set};
 use lexing::words::keyword;
 
 // Up to an event's name: its flag, its priority and the privilege to read it.
 #[derive(Clone, Copy)]
 pub struct EventQualitiesParts {
     pub sensitive: u8,
-    pub rank: u8,
-    pub privilege: u8,
-}
-
-#[derive(Clone, Copy)]
-pub enum EventQualitiesRead {
-    EventQualities(EventQualitiesParts, usize),
-    NoEventQualities(Lost),
+    pub rank: Priority,
+    pub privilege: Privilege,
 }
 
 // An event up to its fields: the offsets of its name and after it, and its code.
 #[derive(Clone, Copy)]
 pub struct EventHeadParts {
     pub sensitive: u8,
-    pub rank: u8,
-    pub privilege: u8,
+    pub rank: Priority,
+    pub privilege: Privilege,
     pub name: usize,
     pub code: u64,
     pub end: usize,
-}
-
-#[derive(Clone, Copy)]
-pub enum EventHeadRead {
-    EventHead(EventHeadParts, usize),
-    NoEventHead(Lost),
 }
 
 // The word `event`, and blanks before and after it.
@@ -59,106 +45,61 @@ fn event_word(part: &[u8], base: usize, c: usize) -> Step
     requires { ((base ≤ c) × (c ≤ base + length part.now)) × (base + length part.now ≤ text_limit) }
     ensures { SkipsAt event_word result base part.now c }
 {
-    let gap = gap_at(part, base, c);
-    let Step::Next(c1) = gap else {
-        return gap;
-    };
-    let event = keyword(rest_at(part, base, c1), c1, b"event");
-    let Step::Next(c2) = event else {
-        return event;
-    };
+    let c1 = gap_at(part, base, c)?;
+    let c2 = keyword(rest_at(part, base, c1), c1, b"event")?;
     gap_at(part, base, c2)
 }
 
-pub fn event_qualities(part: &[u8], base: usize) -> EventQualitiesRead
+pub fn event_qualities(part: &[u8], base: usize) -> Read<EventQualitiesParts>
     requires { base + length part.now ≤ text_limit }
     ensures { EventQualitiesTo result base part.now }
 {
-    let q = keywords_set(part, base, EVENT_SET);
+    let q = keywords_set(part, base, KeywordSet::Event);
     let c1 = q.next;
     let c2 = blank_at(part, base, c1);
-    let priority = event_priority(rest_at(part, base, c2), c2);
-    let Level::Chosen(rank, c3) = priority else {
-        return EventQualitiesRead::NoEventQualities(level_lost(priority));
-    };
-    let event = event_word(part, base, c3);
-    let Step::Next(c4) = event else {
-        return EventQualitiesRead::NoEventQualities(step_lost(event));
-    };
-    let access = access_to(rest_at(part, base, c4), c4, b"read", 0);
-    EventQualitiesRead::EventQualities(
+    let (rank, c3) = event_priority(rest_at(part, base, c2), c2)?;
+    let c4 = event_word(part, base, c3)?;
+    let (privilege, c5) = access_to(rest_at(part, base, c4), c4, b"read", Privilege::View);
+    Ok((
         EventQualitiesParts {
             sensitive: q.flags,
             rank,
-            privilege: access.level,
+            privilege,
         },
-        access.next,
-    )
+        c5,
+    ))
 }
 
-pub fn event_qualities_lost(r: EventQualitiesRead) -> Lost
-    ensures { result ≡ event_qualities_lost r }
-{
-    match r {
-        EventQualitiesRead::EventQualities(_, c) => Lost { cause: 0, place: c },
-        EventQualitiesRead::NoEventQualities(l) => l,
-    }
-}
-
-pub fn event_head(part: &[u8], base: usize) -> EventHeadRead
+pub fn event_head(part: &[u8], base: usize) -> Read<EventHeadParts>
     requires { base + length part.now ≤ text_limit }
     ensures { EventHeadTo result base part.now }
 {
     let part = &part[..];
-    let qualities = event_qualities(part, base);
-    let EventQualitiesRead::EventQualities(q, c1) = qualities else {
-        return EventHeadRead::NoEventHead(event_qualities_lost(qualities));
-    };
-    let named = blank_word(part, base, c1);
-    let Named::Name(name, end, c2) = named else {
-        return EventHeadRead::NoEventHead(named_lost(named));
-    };
-    let number = blank_equals_code(part, base, c2);
-    let Number::Value(code, c3) = number else {
-        return EventHeadRead::NoEventHead(number_lost(number));
-    };
+    let (q, c1) = event_qualities(part, base)?;
+    let (named, c2) = blank_word(part, base, c1)?;
+    let (code, c3) = blank_equals_code(part, base, c2)?;
     let c4 = blank_at(part, base, c3);
-    EventHeadRead::EventHead(
+    Ok((
         EventHeadParts {
             sensitive: q.sensitive,
             rank: q.rank,
             privilege: q.privilege,
-            name,
-            end,
+            name: named.start,
+            end: named.end,
             code,
         },
         c4,
-    )
-}
-
-pub fn event_head_lost(r: EventHeadRead) -> Lost
-    ensures { result ≡ event_head_lost r }
-{
-    match r {
-        EventHeadRead::EventHead(_, c) => Lost { cause: 0, place: c },
-        EventHeadRead::NoEventHead(l) => l,
-    }
+    ))
 }
 
 // The first pass over an event: three words, and those of its fields.
-pub fn count_event(part: &[u8], base: usize) -> Count
+pub fn count_event(part: &[u8], base: usize) -> Read<usize>
     requires { base + length part.now ≤ text_limit }
     ensures { EventCountTo result base part.now }
 {
-    let head = event_head(part, base);
-    let EventHeadRead::EventHead(_, c1) = head else {
-        return Count::NoCount(event_head_lost(head));
-    };
-    let fields = count_struct_fields(rest_at(part, base, c1), c1);
-    let Count::Words(n, c2) = fields else {
-        return fields;
-    };
-    Count::Words(n + EVENT_WORDS, c2)
+    let (_, c1) = event_head(part, base)?;
+    let (n, c2) = count_struct_fields(rest_at(part, base, c1), c1)?;
+    Ok((n + EVENT_WORDS, c2))
 }
 
 // The first record of an event.
@@ -170,28 +111,27 @@ fn put_event(out: &mut [u8], at: usize, front: FrontParts, head: EventHeadParts)
 {
     let doc = front.doc;
     let first = First {
-        kind: EVENT,
+        kind: Kind::Event,
         place: 0,
         maturity: front.maturity,
         doc_present: doc_bit(doc),
-        flags: head.rank * 32 + head.sensitive * 16,
+        flags: head.rank.number() * 32 + head.sensitive * 16,
         name: head.name,
         name_length: head.end - head.name,
         first_privilege: head.privilege,
-        second_privilege: 0,
+        second_privilege: Privilege::View,
     };
-    put_three(out, at, first_word(first), doc_word(doc), head.code);
+    put_words(out, at, [first_word(first), doc_word(doc), head.code]);
 }
 
 // The second pass over an event.
 pub fn write_event(part: &[u8], base: usize, front: FrontParts, out: &mut [u8], at: usize) -> Wrote
     requires part_bound { base + length part.now ≤ text_limit }
     requires front_fits { FrontFits front }
-    requires room { Room event_records (parse_event_after_doc_maturity (doc_of front.doc) front.maturity) base part.now at (length out.old) }
-    ensures { Written event_records (parse_event_after_doc_maturity (doc_of front.doc) front.maturity) base part.now at result out.old out.new }
+    requires room { Room event_records (parse_event_after_doc_maturity (doc_of front.doc) (maturity_number front.maturity)) base part.now at (length out.old) }
+    ensures { Written event_records (parse_event_after_doc_maturity (doc_of front.doc) (maturity_number front.maturity)) base part.now at result out.old out.new }
 {
-    let head = event_head(part, base);
-    let EventHeadRead::EventHead(h, c) = head else {
+    let Ok((h, c)) = event_head(part, base) else {
         return Wrote { next: base, to: at };
     };
     let w = write_struct_fields(rest_at(part, base, c), c, out, at + EVENT_BYTES);

@@ -7,20 +7,20 @@ ghost use Rattle.lexing.specs.answers.{doc_of};
 ghost use Rattle.items.specs.layout.{text_limit};
 ghost use Rattle.items.specs.answers.items.{declaration, unhoisted_item, DeclarationCountTo};
 ghost use Rattle.items.specs.items.{item};
-ghost use Rattle.items.specs.answers.{CountTo, DocFits, Room, Written};
+ghost use Rattle.items.specs.answers.{CountTo, DocFits, Room, Written, maturity_number};
 ghost use Rattle.items.specs.inner.member_kinds.{is_ok};
 ghost use Rattle.items.specs.inner.items.{cluster_starts, type_kind, declaration_try, DeclarationFrom, KindCountTo, StartTo};
 
 use crate::choices::{count_choice, write_choice};
 use crate::clusters::{count_cluster, write_cluster};
-use crate::counts::{Count, count_end, fail_no_earlier};
+use crate::counts::{count_end, fail_no_earlier};
 use crate::endpoints::{count_endpoint, write_endpoint};
-use crate::layout::{BITMAP, ENUM};
-use crate::maturity::maturity_blank;
+use crate::layout::Kind;
+use crate::maturity::{Maturity, maturity_blank};
 use crate::member_kinds::{MemberKind, member_kind, starts};
 use crate::structs::{count_struct, write_struct};
 use crate::writing::{FrontParts, Wrote};
-use lexing::answers::Lost;
+use lexing::answers::{Lost, Read};
 use lexing::blanks::{DocSpan, whitespace0};
 use lexing::parts::rest_at;
 
@@ -40,7 +40,7 @@ pub enum DeclarationKind {
 pub struct DeclarationStart {
     pub kind: DeclarationKind,
     pub others_fail_at: usize,
-    pub maturity: u8,
+    pub maturity: Maturity,
     pub next: usize,
     pub from: usize,
 }
@@ -85,18 +85,17 @@ fn declaration_start(part: &[u8], base: usize) -> DeclarationStart
         return DeclarationStart {
             kind: DeclarationKind::Endpoint,
             others_fail_at: base,
-            maturity: 0,
+            maturity: Maturity::Stable,
             next: base,
             from: base,
         };
     }
-    let m = maturity_blank(part, base);
-    let c = m.next;
+    let (maturity, c) = maturity_blank(part, base);
     if starts_cluster(rest_at(part, base, c), c) {
         return DeclarationStart {
             kind: DeclarationKind::Cluster,
             others_fail_at: c,
-            maturity: m.level,
+            maturity,
             next: c,
             from: c,
         };
@@ -106,14 +105,14 @@ fn declaration_start(part: &[u8], base: usize) -> DeclarationStart
     DeclarationStart {
         kind: type_kind(kind),
         others_fail_at: k.others_fail_at,
-        maturity: m.level,
+        maturity,
         next: c,
         from: k.from,
     }
 }
 
 // The first pass over a declaration of a kind.
-fn count_declaration_of_kind(part: &[u8], s: DeclarationStart) -> Count
+fn count_declaration_of_kind(part: &[u8], s: DeclarationStart) -> Read<usize>
     requires part_bound { s.next + length part.now ≤ text_limit }
     requires declaration_from { DeclarationFrom s.kind s.from s.next part.now }
     ensures { KindCountTo s.kind result s.next part.now }
@@ -126,15 +125,12 @@ fn count_declaration_of_kind(part: &[u8], s: DeclarationStart) -> Count
         DeclarationKind::Enum => count_choice(part, base, s.from, b"enum"),
         DeclarationKind::Bitmap => count_choice(part, base, s.from, b"bitmap"),
         DeclarationKind::Struct => count_struct(part, base, s.from),
-        DeclarationKind::Unknown => Count::NoCount(Lost {
-            cause: 0,
-            place: base,
-        }),
+        DeclarationKind::Unknown => Err(Lost::Fail(base)),
     }
 }
 
 // The first pass over a declaration, where no blank is before it.
-pub fn count_declaration(part: &[u8], base: usize) -> Count
+pub fn count_declaration(part: &[u8], base: usize) -> Read<usize>
     requires part_bound { base + length part.now ≤ text_limit }
     requires part_value { whitespace0 base part.now ≡ ok no_doc base part.now }
     ensures { DeclarationCountTo result base part.now }
@@ -145,14 +141,14 @@ pub fn count_declaration(part: &[u8], base: usize) -> Count
 }
 
 // The first pass over an item: blanks with no declaration after them are one.
-pub fn count_item(part: &[u8], base: usize) -> Count
+pub fn count_item(part: &[u8], base: usize) -> Read<usize>
     requires { base + length part.now ≤ text_limit }
     ensures { CountTo unhoisted_item item result base part.now }
 {
     let w = whitespace0(part, base);
     let c = w.next;
     let r = count_declaration(rest_at(part, base, c), c);
-    let Count::NoCount(l) = r else {
+    let Err(l) = r else {
         return r;
     };
     if c == base {
@@ -165,23 +161,22 @@ pub fn count_item(part: &[u8], base: usize) -> Count
 fn write_declaration_of_kind(
     part: &[u8],
     s: DeclarationStart,
-    doc: DocSpan,
+    doc: Option<DocSpan>,
     out: &mut [u8],
     at: usize,
 ) -> Wrote
     requires part_bound { s.next + length part.now ≤ text_limit }
     requires declaration_from { DeclarationFrom s.kind s.from s.next part.now }
     requires doc_fits { DocFits doc }
-    requires maturity_bound { s.maturity < 4 }
-    requires room { Room unhoisted_item (declaration_try s.kind (doc_of doc) s.maturity) s.next part.now at (length out.old) }
-    ensures { Written unhoisted_item (declaration_try s.kind (doc_of doc) s.maturity) s.next part.now at result out.old out.new }
+    requires room { Room unhoisted_item (declaration_try s.kind (doc_of doc) (maturity_number s.maturity)) s.next part.now at (length out.old) }
+    ensures { Written unhoisted_item (declaration_try s.kind (doc_of doc) (maturity_number s.maturity)) s.next part.now at result out.old out.new }
 {
     let base = s.next;
     let kind = s.kind;
     let maturity = s.maturity;
     // Only an enum and a bitmap take their record's kind from it, and a cluster has no place.
     let front = FrontParts {
-        kind: ENUM,
+        kind: Kind::Enum,
         place: 1,
         doc,
         maturity,
@@ -192,7 +187,7 @@ fn write_declaration_of_kind(
         DeclarationKind::Enum => write_choice(part, base, s.from, b"enum", front, out, at),
         DeclarationKind::Bitmap => {
             let front = FrontParts {
-                kind: BITMAP,
+                kind: Kind::Bitmap,
                 place: 1,
                 doc,
                 maturity,
@@ -205,7 +200,13 @@ fn write_declaration_of_kind(
 }
 
 // The second pass over a declaration, where no blank is before it.
-pub fn write_declaration(part: &[u8], base: usize, doc: DocSpan, out: &mut [u8], at: usize) -> Wrote
+pub fn write_declaration(
+    part: &[u8],
+    base: usize,
+    doc: Option<DocSpan>,
+    out: &mut [u8],
+    at: usize,
+) -> Wrote
     requires part_bound { base + length part.now ≤ text_limit }
     requires part_value { whitespace0 base part.now ≡ ok no_doc base part.now }
     requires doc_fits { DocFits doc }

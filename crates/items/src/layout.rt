@@ -1,39 +1,63 @@
 // The numbers of documents 01 and 02: the kinds of records, the words that a record of each kind takes, the widths of values in a word, the text limit.
+ghost use Rattle.std.specs.Prelude.{◌≡◌};
+ghost use Rattle.items.specs.answers.{kind_number};
 
-// Kinds.
-pub const CLUSTER: u8 = 1;
+// The kinds of records.
+#[derive(Clone, Copy, PartialEq, Eq)]
+pub enum Kind {
+    Cluster = 1,
+    Enum = 2,
+    Bitmap = 3,
+    Entry = 4,
+    Struct = 5,
+    Field = 6,
+    Attribute = 7,
+    Command = 8,
+    Event = 9,
+    Endpoint = 10,
+    DeviceType = 11,
+    Binding = 12,
+    Instantiation = 13,
+    AttributeInstance = 14,
+    CommandInstance = 15,
+    EventInstance = 16,
+    Annotation = 17,
+}
 
-pub const ENUM: u8 = 2;
+impl Kind {
+    pub fn number(self) -> u8
+        ensures { result ≡ kind_number self }
+    {
+        self as u8
+    }
+}
 
-pub const BITMAP: u8 = 3;
+// The kinds as bytes of a catalogue, which may be of no kind: what reads them back matches on constants.
+pub const CLUSTER: u8 = Kind::Cluster as u8;
 
-pub const ENTRY: u8 = 4;
+pub const ENUM: u8 = Kind::Enum as u8;
 
-pub const STRUCT: u8 = 5;
+pub const BITMAP: u8 = Kind::Bitmap as u8;
 
-pub const FIELD: u8 = 6;
+pub const ENTRY: u8 = Kind::Entry as u8;
 
-pub const ATTRIBUTE: u8 = 7;
+pub const STRUCT: u8 = Kind::Struct as u8;
 
-pub const COMMAND: u8 = 8;
+pub const FIELD: u8 = Kind::Field as u8;
 
-pub const EVENT: u8 = 9;
+pub const ATTRIBUTE: u8 = Kind::Attribute as u8;
 
-pub const ENDPOINT: u8 = 10;
+pub const COMMAND: u8 = Kind::Command as u8;
 
-pub const DEVICE_TYPE: u8 = 11;
+pub const EVENT: u8 = Kind::Event as u8;
 
-pub const BINDING: u8 = 12;
+pub const ENDPOINT: u8 = Kind::Endpoint as u8;
 
-pub const INSTANTIATION: u8 = 13;
+pub const DEVICE_TYPE: u8 = Kind::DeviceType as u8;
 
-pub const ATTRIBUTE_INSTANCE: u8 = 14;
+pub const ATTRIBUTE_INSTANCE: u8 = Kind::AttributeInstance as u8;
 
-pub const COMMAND_INSTANCE: u8 = 15;
-
-pub const EVENT_INSTANCE: u8 = 16;
-
-pub const ANNOTATION: u8 = 17;
+pub const ANNOTATION: u8 = Kind::Annotation as u8;
 
 // The bytes of a word.
 pub const WORD: usize = 8;

@@ -4,7 +4,7 @@
 // What is done for speed beside what lexing names (its lib.rt); no answer changes by it (docs/PERFORMANCE.md):
 //
 // Order of fields: the two offsets of a name are not side by side in the parts of a declaration, since they would be copied as one value, which
-// waits for two stores; two bools are, since one at a multiple of four bytes is loaded as four of them.
+// waits for two stores.
 // Read in place: where a reader is called at two places and is too long to be copied, one of the two takes its steps one by one, and the compiler
 // copies the reader at the other.
 // Told by a letter: most tries are told apart by a first letter, so one is selected and no other is run.
@@ -29,5 +29,6 @@ mod maturity;
 mod member_kinds;
 mod members;
 pub mod records;
+mod runs;
 mod structs;
 pub mod writing;

@@ -4,13 +4,12 @@ ghost use Rattle.lexing.specs.bytes.{ascii};
 ghost use Rattle.lexing.specs.reply.{ok, fail};
 ghost use Rattle.lexing.specs.words.{is_key, keyword, any_keyword};
 ghost use Rattle.lexing.specs.answers.{word_reply};
-ghost use Rattle.lexing.specs.declared.answers.Step.TheVariants.{Next};
+ghost use Rattle.std.specs.Prelude.{Ok};
 ghost use Rattle.lexing.specs.blanks.{no_doc, whitespace0};
 ghost use Rattle.items.specs.layout.{text_limit};
 ghost use Rattle.items.specs.declared.member_kinds.MemberKind.TheVariants.{Command, Event};
 ghost use Rattle.items.specs.inner.member_kinds.{is_ok, third_letter_kind, KindTo};
 
-use lexing::answers::Step;
 use lexing::blanks::whitespace0;
 use lexing::bytes::lower_of;
 use lexing::parts::{peek, rest_at};
@@ -45,8 +44,8 @@ pub fn starts(part: &[u8], base: usize, key: &[u8]) -> bool
 {
     let word = keyword(part, base, key);
     match word {
-        Step::Next(_) => true,
-        Step::Not(_) => false,
+        Ok(_) => true,
+        Err(_) => false,
     }
 }
 
@@ -111,7 +110,7 @@ fn word_kind(part: &[u8], base: usize) -> MemberKind
 fn shared_kind(part: &[u8], base: usize, c1: usize) -> MemberStart
     requires part_bound { base + length part.now ≤ text_limit }
     requires part_value { whitespace0 base part.now ≡ ok no_doc base part.now }
-    requires part_value_2 { word_reply (Next c1) base part.now ≡ keyword (ascii "shared") base part.now }
+    requires part_value_2 { word_reply (Ok c1) base part.now ≡ keyword (ascii "shared") base part.now }
     ensures { KindTo result base part.now }
 {
     let w = whitespace0(rest_at(part, base, c1), c1);
@@ -152,8 +151,7 @@ pub fn member_kind(part: &[u8], base: usize) -> MemberStart
     ensures { KindTo result base part.now }
 {
     let part = &part[..];
-    let word = keyword(part, base, b"shared");
-    let Step::Next(c1) = word else {
+    let Ok(c1) = keyword(part, base, b"shared") else {
         let kind = word_kind(part, base);
         return MemberStart {
             kind,

@@ -7,21 +7,20 @@ ghost use Rattle.items.specs.layout.{text_limit};
 ghost use Rattle.items.specs.inner.member_kinds.{MemberFrom, member_try};
 ghost use Rattle.items.specs.inner.members.{member_after, unhoisted, MemberWritten, revision_wrote, RevisionTo, MemberCountTo};
 ghost use Rattle.items.specs.clusters.{parse_revision, member_tries, parse_cluster_member};
-ghost use Rattle.items.specs.answers.{DocFits, Room};
+ghost use Rattle.items.specs.answers.{DocFits, Room, maturity_number};
 
 use crate::attributes::{count_attribute, write_attribute};
 use crate::choices::{count_choice, write_choice};
 use crate::commands::{count_command, write_command};
-use crate::counts::{Count, fail_no_earlier};
+use crate::counts::fail_no_earlier;
 use crate::events::{count_event, write_event};
-use crate::layout::{BITMAP, ENUM};
-use crate::maturity::maturity_between;
+use crate::layout::Kind;
+use crate::maturity::{Maturity, maturity_between};
 use crate::member_kinds::{MemberKind, MemberStart, member_kind};
 use crate::structs::{count_struct, write_struct};
 use crate::writing::{FrontParts, Wrote};
-use lexing::answers::{Lost, Step, step_lost};
+use lexing::answers::{Lost, Read};
 use lexing::blanks::{DocSpan, whitespace0};
-use lexing::integers::{Number, number_lost};
 use lexing::names::keyword_number;
 use lexing::parts::rest_at;
 use lexing::steps::tag_after;
@@ -34,32 +33,23 @@ pub struct MembersWrote {
     pub revision: u64,
 }
 
-pub fn parse_revision(part: &[u8], base: usize) -> Number
+pub fn parse_revision(part: &[u8], base: usize) -> Read<u64>
     requires { base + length part.now ≤ text_limit }
     ensures { RevisionTo result base part.now }
 {
     let part = &part[..];
-    let number = keyword_number(part, base, b"revision");
-    let Number::Value(n, c1) = number else {
-        return Number::NoNumber(number_lost(number));
-    };
-    let semicolon = tag_after(part, base, c1, b';');
-    let Step::Next(c2) = semicolon else {
-        return Number::NoNumber(step_lost(semicolon));
-    };
-    Number::Value(n, c2)
+    let (n, c1) = keyword_number(part, base, b"revision")?;
+    let c2 = tag_after(part, base, c1, b';')?;
+    Ok((n, c2))
 }
 
 // A revision takes no words of its own.
-fn count_revision(part: &[u8], base: usize) -> Count
+fn count_revision(part: &[u8], base: usize) -> Read<usize>
     requires { base + length part.now ≤ text_limit }
     ensures { MemberCountTo parse_revision result base part.now }
 {
-    let r = parse_revision(part, base);
-    let Number::Value(_, c) = r else {
-        return Count::NoCount(number_lost(r));
-    };
-    Count::Words(0, c)
+    let (_, c) = parse_revision(part, base)?;
+    Ok((0, c))
 }
 
 // The first pass over a member of a kind.
@@ -67,12 +57,12 @@ fn count_member_of_kind(
     part: &[u8],
     base: usize,
     k: MemberStart,
-    doc: DocSpan,
-    maturity: u8,
-) -> Count
+    doc: Option<DocSpan>,
+    maturity: Maturity,
+) -> Read<usize>
     requires part_bound { base + length part.now ≤ text_limit }
     requires member_from { MemberFrom k.kind k.from base part.now }
-    ensures { MemberCountTo (member_try k.kind (doc_of doc) maturity) result base part.now }
+    ensures { MemberCountTo (member_try k.kind (doc_of doc) (maturity_number maturity)) result base part.now }
 {
     let kind = k.kind;
     match kind {
@@ -83,18 +73,20 @@ fn count_member_of_kind(
         MemberKind::Attribute => count_attribute(part, base),
         MemberKind::Command => count_command(part, base),
         MemberKind::Event => count_event(part, base),
-        MemberKind::Unknown => Count::NoCount(Lost {
-            cause: 0,
-            place: base,
-        }),
+        MemberKind::Unknown => Err(Lost::Fail(base)),
     }
 }
 
 // The one try that a member's first word selects.
-fn count_member_tries(part: &[u8], base: usize, doc: DocSpan, maturity: u8) -> Count
+fn count_member_tries(
+    part: &[u8],
+    base: usize,
+    doc: Option<DocSpan>,
+    maturity: Maturity,
+) -> Read<usize>
     requires part_bound { base + length part.now ≤ text_limit }
     requires part_value { whitespace0 base part.now ≡ ok no_doc base part.now }
-    ensures { MemberCountTo (member_tries (doc_of doc) maturity) result base part.now }
+    ensures { MemberCountTo (member_tries (doc_of doc) (maturity_number maturity)) result base part.now }
 {
     let k = member_kind(part, base);
     let r = count_member_of_kind(part, base, k, doc, maturity);
@@ -102,16 +94,15 @@ fn count_member_tries(part: &[u8], base: usize, doc: DocSpan, maturity: u8) -> C
 }
 
 // The first pass over a member: its doc comment and its maturity are read once.
-pub fn count_member(part: &[u8], base: usize) -> Count
+pub fn count_member(part: &[u8], base: usize) -> Read<usize>
     requires { base + length part.now ≤ text_limit }
     ensures { MemberCountTo parse_cluster_member result base part.now }
 {
     let w1 = whitespace0(part, base);
     let c1 = w1.next;
-    let m = maturity_between(rest_at(part, base, c1), c1);
-    let c2 = m.next;
+    let (maturity, c2) = maturity_between(rest_at(part, base, c1), c1);
     let doc = w1.doc;
-    count_member_tries(rest_at(part, base, c2), c2, doc, m.level)
+    count_member_tries(rest_at(part, base, c2), c2, doc, maturity)
 }
 
 // What a member other than a revision leaves: the last revision as it was.
@@ -126,16 +117,16 @@ fn kept(w: Wrote, revision: u64) -> MembersWrote
 }
 
 // What a revision leaves: it has no records, and takes the place of the last one.
-fn revised(r: Number, base: usize, at: usize, last: u64) -> MembersWrote
+fn revised(r: Read<u64>, base: usize, at: usize, last: u64) -> MembersWrote
     ensures { result ≡ revision_wrote r base at last }
 {
     match r {
-        Number::Value(revision, next) => MembersWrote {
+        Ok((revision, next)) => MembersWrote {
             next,
             to: at,
             revision,
         },
-        Number::NoNumber(_) => MembersWrote {
+        Err(_) => MembersWrote {
             next: base,
             to: at,
             revision: last,
@@ -148,8 +139,8 @@ fn write_member_of_kind(
     part: &[u8],
     base: usize,
     k: MemberStart,
-    doc: DocSpan,
-    maturity: u8,
+    doc: Option<DocSpan>,
+    maturity: Maturity,
     last: u64,
     out: &mut [u8],
     at: usize,
@@ -157,13 +148,12 @@ fn write_member_of_kind(
     requires part_bound { base + length part.now ≤ text_limit }
     requires member_from { MemberFrom k.kind k.from base part.now }
     requires doc_fits { DocFits doc }
-    requires maturity_bound { maturity < 4 }
-    requires room { Room unhoisted (member_try k.kind (doc_of doc) maturity) base part.now at (length out.old) }
-    ensures { MemberWritten last (member_try k.kind (doc_of doc) maturity) base part.now at result out.old out.new }
+    requires room { Room unhoisted (member_try k.kind (doc_of doc) (maturity_number maturity)) base part.now at (length out.old) }
+    ensures { MemberWritten last (member_try k.kind (doc_of doc) (maturity_number maturity)) base part.now at result out.old out.new }
 {
     // Only an enum and a bitmap take their record's kind from it.
     let front = FrontParts {
-        kind: ENUM,
+        kind: Kind::Enum,
         place: 0,
         doc,
         maturity,
@@ -173,7 +163,7 @@ fn write_member_of_kind(
         MemberKind::Revision => revised(parse_revision(part, base), base, at, last),
         MemberKind::Bitmap => {
             let front = FrontParts {
-                kind: BITMAP,
+                kind: Kind::Bitmap,
                 place: 0,
                 doc,
                 maturity,
@@ -205,7 +195,7 @@ fn write_member_of_kind(
 pub fn write_member(
     part: &[u8],
     base: usize,
-    doc: DocSpan,
+    doc: Option<DocSpan>,
     last: u64,
     out: &mut [u8],
     at: usize,
@@ -216,9 +206,8 @@ pub fn write_member(
     requires room { Room unhoisted (member_after (doc_of doc)) base part.now at (length out.old) }
     ensures { MemberWritten last (member_after (doc_of doc)) base part.now at result out.old out.new }
 {
-    let m = maturity_between(part, base);
-    let c = m.next;
+    let (maturity, c) = maturity_between(part, base);
     let rest = rest_at(part, base, c);
     let k = member_kind(rest, c);
-    write_member_of_kind(rest, c, k, doc, m.level, last, out, at)
+    write_member_of_kind(rest, c, k, doc, maturity, last, out, at)
 }

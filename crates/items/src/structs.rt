@@ -6,22 +6,21 @@ ghost use Rattle.items.specs.layout.{text_limit, layout, catalogue_bytes};
 ghost use Rattle.lexing.specs.buffers.{put};
 ghost use Rattle.items.specs.records.{struct_records, struct_kind};
 ghost use Rattle.items.specs.structs.{response_code, type_by_word, parse_struct_after_doc_maturity};
-ghost use Rattle.items.specs.answers.{FrontFits, Room, Written};
-ghost use Rattle.items.specs.inner.structs.{StructFrom, HeadBetween, StructHeadTo, head_lost, StructCountTo, kind_by, struct_words, StructWordTo, code_reply, response_reply, type_by, struct_kind_number, response_number, struct_first};
+ghost use Rattle.items.specs.answers.{FrontFits, Room, Written, maturity_number};
+ghost use Rattle.items.specs.inner.structs.{StructFrom, HeadBetween, StructHeadTo, StructCountTo, kind_by, struct_words, StructWordTo, code_reply, response_reply, type_by, struct_kind_number, response_number, struct_first};
 ghost use Rattle.items.specs.inner.writing.{room_for};
 
-use crate::counts::Count;
 use crate::fields::{count_struct_fields, write_struct_fields};
-use crate::layout::{STRUCT, STRUCT_BYTES, STRUCT_WORDS};
+use crate::layout::{Kind, STRUCT_BYTES, STRUCT_WORDS};
+use crate::levels::Privilege;
 use crate::writing::{First, FrontParts, Wrote, doc_bit, doc_word, first_word};
-use lexing::answers::{Lost, Step};
-use lexing::buffers::put_three;
+use lexing::answers::Read;
+use lexing::buffers::put_words;
 use lexing::bytes::lower_of;
-use lexing::integers::{Number, number_lost};
-use lexing::names::{Named, equals_code, keyword_name, named_lost};
+use lexing::names::{equals_code, keyword_name};
 use lexing::parts::{peek, rest_at};
 use lexing::steps::blank_at;
-use lexing::word_sets::{STRUCT_SET, is_lower, keywords_set};
+use lexing::word_sets::{KeywordSet, is_lower, keywords_set};
 use lexing::words::keyword;
 
 // What the word before a struct makes of it; only a response has a code.
@@ -41,12 +40,6 @@ pub struct StructHeadParts {
     pub name: usize,
     pub code: u64,
     pub end: usize,
-}
-
-#[derive(Clone, Copy)]
-pub enum StructHeadRead {
-    Head(StructHeadParts, usize),
-    NoHead(Lost),
 }
 
 // The kind that the word before a struct says, and the offset after it and its blanks.
@@ -75,8 +68,7 @@ fn struct_word_by(part: &[u8], base: usize, key: &[u8], kind: StructKind) -> Str
     ensures { StructWordTo (keyword key.now) result base part.now }
 {
     let part = &part[..];
-    let word = keyword(part, base, key);
-    let Step::Next(c) = word else {
+    let Ok(c) = keyword(part, base, key) else {
         return StructWord {
             kind: StructKind::Regular,
             next: blank_at(part, base, base),
@@ -104,33 +96,30 @@ fn struct_word(part: &[u8], base: usize, from: usize) -> StructWord
     }
 }
 
-fn response_code(part: &[u8], base: usize) -> Number
+fn response_code(part: &[u8], base: usize) -> Read<u64>
     requires { base + length part.now ≤ text_limit }
     ensures { response_reply result base part.now ≡ response_code base part.now }
 {
-    let number = equals_code(part, base, base);
-    let Number::Value(code, c1) = number else {
-        return Number::NoNumber(number_lost(number));
-    };
+    let (code, c1) = equals_code(part, base, base)?;
     let c2 = blank_at(part, base, c1);
-    Number::Value(code, c2)
+    Ok((code, c2))
 }
 
 // The code of a response; other structs have none, and nothing is read.
-fn struct_code(part: &[u8], base: usize, kind: StructKind) -> Number
+fn struct_code(part: &[u8], base: usize, kind: StructKind) -> Read<u64>
     requires { base + length part.now ≤ text_limit }
     ensures { code_reply kind result base part.now ≡ type_by kind base part.now }
 {
     match kind {
-        StructKind::Regular => Number::Value(0, base),
-        StructKind::Request => Number::Value(0, base),
+        StructKind::Regular => Ok((0, base)),
+        StructKind::Request => Ok((0, base)),
         StructKind::Response => response_code(part, base),
-        StructKind::Shared => Number::Value(0, base),
+        StructKind::Shared => Ok((0, base)),
     }
 }
 
 // A struct up to its fields.
-pub fn struct_head(part: &[u8], base: usize, from: usize) -> StructHeadRead
+pub fn struct_head(part: &[u8], base: usize, from: usize) -> Read<StructHeadParts>
     requires part_bound { base + length part.now ≤ text_limit }
     requires struct_from { StructFrom from base part.now }
     ensures { StructHeadTo result base part.now }
@@ -139,53 +128,32 @@ pub fn struct_head(part: &[u8], base: usize, from: usize) -> StructHeadRead
     let word = struct_word(part, base, from);
     let kind = word.kind;
     let start = word.next;
-    let set = keywords_set(rest_at(part, base, start), start, STRUCT_SET);
+    let set = keywords_set(rest_at(part, base, start), start, KeywordSet::Struct);
     let c1 = blank_at(part, base, set.next);
-    let named = keyword_name(rest_at(part, base, c1), c1, b"struct");
-    let Named::Name(name, end, c2) = named else {
-        return StructHeadRead::NoHead(named_lost(named));
-    };
+    let (named, c2) = keyword_name(rest_at(part, base, c1), c1, b"struct")?;
     let c3 = blank_at(part, base, c2);
-    let number = struct_code(rest_at(part, base, c3), c3, kind);
-    let Number::Value(code, c4) = number else {
-        return StructHeadRead::NoHead(number_lost(number));
-    };
-    StructHeadRead::Head(
+    let (code, c4) = struct_code(rest_at(part, base, c3), c3, kind)?;
+    Ok((
         StructHeadParts {
             kind,
             scoped: set.flags,
-            name,
-            end,
+            name: named.start,
+            end: named.end,
             code,
         },
         c4,
-    )
-}
-
-pub fn struct_head_lost(r: StructHeadRead) -> Lost
-    ensures { result ≡ head_lost r }
-{
-    match r {
-        StructHeadRead::Head(_, c) => Lost { cause: 0, place: c },
-        StructHeadRead::NoHead(l) => l,
-    }
+    ))
 }
 
 // The first pass over a struct: three words, and those of its fields.
-pub fn count_struct(part: &[u8], base: usize, from: usize) -> Count
+pub fn count_struct(part: &[u8], base: usize, from: usize) -> Read<usize>
     requires part_bound { base + length part.now ≤ text_limit }
     requires struct_from { StructFrom from base part.now }
     ensures { StructCountTo result base part.now }
 {
-    let head = struct_head(part, base, from);
-    let StructHeadRead::Head(_, c1) = head else {
-        return Count::NoCount(struct_head_lost(head));
-    };
-    let fields = count_struct_fields(rest_at(part, base, c1), c1);
-    let Count::Words(n, c2) = fields else {
-        return fields;
-    };
-    Count::Words(n + STRUCT_WORDS, c2)
+    let (_, c1) = struct_head(part, base, from)?;
+    let (n, c2) = count_struct_fields(rest_at(part, base, c1), c1)?;
+    Ok((n + STRUCT_WORDS, c2))
 }
 
 // The number of a struct's kind.
@@ -222,18 +190,18 @@ fn put_struct(out: &mut [u8], at: usize, front: FrontParts, head: StructHeadPart
     let doc = front.doc;
     let kind = head.kind;
     let first = First {
-        kind: STRUCT,
+        kind: Kind::Struct,
         place: front.place,
         maturity: front.maturity,
         doc_present: doc_bit(doc),
         flags: kind_number(kind) * 32 + head.scoped * 16,
         name: head.name,
         name_length: head.end - head.name,
-        first_privilege: 0,
-        second_privilege: 0,
+        first_privilege: Privilege::View,
+        second_privilege: Privilege::View,
     };
     let code = response_number(kind, head.code);
-    put_three(out, at, first_word(first), doc_word(doc), code);
+    put_words(out, at, [first_word(first), doc_word(doc), code]);
 }
 
 // The second pass over a struct.
@@ -248,12 +216,11 @@ pub fn write_struct(
     requires part_bound { base + length part.now ≤ text_limit }
     requires struct_from { StructFrom from base part.now }
     requires front_fits { FrontFits front }
-    requires room { Room (struct_records front.place) (parse_struct_after_doc_maturity (doc_of front.doc) front.maturity) base part.now at (length out.old) }
-    ensures { Written (struct_records front.place) (parse_struct_after_doc_maturity (doc_of front.doc) front.maturity) base part.now at result out.old out.new }
+    requires room { Room (struct_records front.place) (parse_struct_after_doc_maturity (doc_of front.doc) (maturity_number front.maturity)) base part.now at (length out.old) }
+    ensures { Written (struct_records front.place) (parse_struct_after_doc_maturity (doc_of front.doc) (maturity_number front.maturity)) base part.now at result out.old out.new }
 {
     let part = &part[..];
-    let head = struct_head(part, base, from);
-    let StructHeadRead::Head(h, c) = head else {
+    let Ok((h, c)) = struct_head(part, base, from) else {
         return Wrote { next: base, to: at };
     };
     let w = write_struct_fields(rest_at(part, base, c), c, out, at + STRUCT_BYTES);

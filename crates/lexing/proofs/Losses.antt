@@ -1,20 +1,26 @@
 -- What is lost is a failure or what ends all reading.
-use mathlib.Core.Path.{◌≡◌, refl, sym, ap}
-use Prim.Native.Nat.{ℕ, zero, suc}
-use Rattle.lexing.specs.answers.{Fail, Stop, lost_case, on_lost}
+use mathlib.Core.Path.{◌≡◌, ap, ◌∙◌, subst}
+use Prim.Native.Nat.{ℕ}
+use Rattle.std.specs.Prelude.{Option, None, Result, Ok, Err}
+use Rattle.std.specs.Option.{ok_or}
+use Rattle.std.specs.Result.{IsErr, IsErrAnd}
+use Rattle.std.proofs.lemmas.Result.{err_from_is_err_and}
+use Rattle.lexing.specs.declared.answers.Refusal.{Refusal}
 use Rattle.lexing.specs.declared.answers.Lost.{Lost}
+use Rattle.lexing.specs.declared.answers.Lost.TheVariants.{Fail, Stop}
 
-pub by_lost : (P : Lost → Type 0) → ((p : ℕ) → P (Fail p)) → ((n p : ℕ) → P (Stop n p)) → (l : Lost) → P l
-by_lost P f s l = go l.cause
-  where
-    go : (k : ℕ) → P (record { cause = k; place = l.place })
-    go zero = f l.place
-    go (suc n) = s n l.place
+pub by_lost : (P : Lost → Type 0) → ((p : ℕ) → P (Fail p)) → ((n : Refusal) (p : ℕ) → P (Stop n p)) → (l : Lost) → P l
+by_lost P f s (Fail p) = f p
+by_lost P f s (Stop n p) = s n p
 
--- what has a cause ends all reading
-pub at_stop : (P : Lost → Type 0) → ((n p : ℕ) → P (Stop n p)) → (l : Lost) → (l.cause ≡ 0 → ⊥) → P l
-at_stop P s = by_lost (λ l. (l.cause ≡ 0 → ⊥) → P l) (λ p f. absurd (f refl)) (λ n p f. s n p)
+-- what the exit of a `?` returns
+pub passed_on : {T E : Type 0} {l : E} {r : Result T E} → IsErr r × IsErrAnd r (λ e. e ≡ l) → r ≡ Err l
+passed_on {r = r} h = let p = err_from_is_err_and r h.1 in p.1 ∙ ap Err p.2
 
--- what has none is a failure
-pub at_failure : {T : Type 0} (f : ℕ → T) (s : ℕ → ℕ → T) (l : Lost) → l.cause ≡ 0 → f l.place ≡ on_lost f s l
-at_failure f s l e = ap (λ (k : ℕ). lost_case f s k l.place) (sym e)
+-- what the exit of an `ok_or` with a `?` returns
+abbrev error_or : {T E : Type 0} → E → Result T E → E
+error_or d (Ok x) = d
+error_or d (Err e) = e
+
+pub refused_with : {T E : Type 0} {o : Option T} {l e : E} → o ≡ None → Err l ≡ ok_or o e → l ≡ e
+refused_with {l = l} {e} n v = ap (error_or l) (subst (λ x. Err l ≡ ok_or x e) n v)

@@ -8,7 +8,7 @@ use Rattle.lexing.specs.reply.{Reply, ok, fail, stop, Parser, ret, ◌>>=◌, pr
 use Rattle.lexing.proofs.Losses.{by_lost}
 use Rattle.lexing.proofs.Chain.{Shorter}
 use Rattle.lexing.proofs.Locality.{Consumes}
-use Rattle.lexing.specs.answers.{lost_reply, Rest, on_lost}
+use Rattle.lexing.specs.answers.{number_of, lost_reply, Rest, on_lost}
 use Rattle.lexing.proofs.Slicing.{Took}
 use Rattle.lexing.specs.declared.answers.Lost.{Lost}
 
@@ -139,7 +139,7 @@ ends_at {A} m w x l c r =
     by_lost
     (λ x. lost_reply x ≡ m c r → before l (many0 m c r) ≡ many_end x l c r)
     (λ p e. ap (before l) (many0_fail m w c r p (sym e)) ∙ ap (λ (k : List A). ok k c r) (append-nil l))
-    (λ n p e. ap (before l) (many0_stop m w c r n p (sym e)))
+    (λ n p e. ap (before l) (many0_stop m w c r (number_of n) p (sym e)))
     x
 
 pub many0_ends : {A : Type 0} {m : Parser A} (w : Consumes m) {b c : ℕ} {u r : List ℕ} {l : List A} (x : Lost) → ManyAt m b u c l → Rest b u c r → lost_reply x ≡ m c r → many0 m b u ≡ many_end x l c (drop (c - b) u)

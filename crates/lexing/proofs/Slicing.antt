@@ -1,5 +1,5 @@
 -- What a reader's answer gives its caller: the rest of the part to go on with, and one law for each step of a sequence of parsers.
-use mathlib.Core.Path.{◌≡◌, refl, sym, ap, ◌∙◌, subst}
+use mathlib.Core.Path.{◌≡◌, refl, sym, ap, ◌∙◌}
 use mathlib.Core.List.{List}
 use Prim.Native.Nat.{ℕ, suc, ◌+◌, ◌-◌, ◌≤◌}
 use native.Mathlib.Omega.{arith}
@@ -11,14 +11,12 @@ use Rattle.lexing.specs.integers.{positive_integer}
 use Rattle.lexing.specs.blanks.{whitespace0}
 use Rattle.lexing.specs.strings.{Escape, string_with}
 use Rattle.lexing.specs.word_sets.{set_flags}
-use Rattle.lexing.specs.answers.{lost_reply, reply, step_answer, Rest, doc_of, lost_of, number_lost, word_at, span_to, tag_reply, word_reply, number_reply, string_reply, BlankTo, set_of, WordSetTo}
+use Rattle.lexing.specs.answers.{lost_reply, reply, step_answer, Rest, doc_of, word_at, span_to, tag_reply, word_reply, number_reply, string_reply, BlankTo, set_of, WordSetTo}
 use Rattle.lexing.specs.declared.answers.Lost.{Lost}
 use Rattle.lexing.proofs.Losses.{by_lost}
-use Rattle.lexing.specs.declared.answers.Step.{Step}
-use Rattle.lexing.specs.declared.answers.Step.TheVariants.{Next, Not}
+use Rattle.std.specs.Prelude.{Ok}
 use Rattle.lexing.specs.declared.blanks.Blank.{Blank}
-use Rattle.lexing.specs.declared.integers.Number.{Number}
-use Rattle.lexing.specs.declared.integers.Number.TheVariants.{Value, NoNumber}
+use Rattle.lexing.specs.declared.word_sets.KeywordSet.{KeywordSet}
 use Rattle.lexing.specs.declared.word_sets.WordSet.{WordSet}
 use Rattle.lexing.proofs.Runs.{Suf, same, skip, suf_length}
 use Rattle.lexing.proofs.Onward.{Ends, Onward, advances_onward, parse_id_advances, tag_advances, integer_advances, string_advances}
@@ -79,16 +77,6 @@ took {A} {m} w {b} {n} {u} {r} {a} {c} q e =
 pub reads_in : {A : Type 0} {m : Parser A} (w : Onward m) (b c : ℕ) (u : List ℕ) (a : A) → ok a c (drop (c - b) u) ≡ m b u → (b ≤ c) × (c ≤ b + length u)
 reads_in w b c u a e = let p = reach w b c u (drop (c - b) u) a e in omega (arith, p.0, p.1)
 
--- answers taken apart
-pub told_next : {A : Type 0} (f : ℕ → A) (r : Step) (c : ℕ) (b : ℕ) (u : List ℕ) (X : Reply A) → r ≡ Next c → reply (step_answer f r) b u ≡ X → ok (f c) c (drop (c - b) u) ≡ X
-told_next {A} f r c b u X e h = subst (λ (x : Step). reply (step_answer f x) b u ≡ X) e h
-
-pub told_not : {A : Type 0} (f : ℕ → A) (r : Step) (l : Lost) (b : ℕ) (u : List ℕ) (X : Reply A) → r ≡ Not l → reply (step_answer f r) b u ≡ X → lost_reply l ≡ X
-told_not f r l b u X e h = subst (λ (x : Step). reply (step_answer f x) b u ≡ X) e h
-
-pub told_value : {a : Number} {v c : ℕ} (b : ℕ) (u : List ℕ) (X : Reply ℕ) → a ≡ Value v c → number_reply a b u ≡ X → ok v c (drop (c - b) u) ≡ X
-told_value b u X e h = subst (λ (x : Number). number_reply x b u ≡ X) e h
-
 -- sequences: one law for each step; `_` for what follows
 module _ {A B : Type 0} {m : Parser A} {b : ℕ} {u : List ℕ} {n : ℕ} where
   pub go : (k : A → Parser B) {X : Reply B} {a : A} {c : ℕ} → Took m b u n a c → X ≡ k a c (drop (c - b) u) → X ≡ (m >>= k) n (drop (n - b) u)
@@ -120,39 +108,28 @@ module _ {b n : ℕ} {u r : List ℕ} (q : Rest b u n r) where
   pub blank_took : {t : Blank} → BlankTo t n r → Took whitespace0 b u n (doc_of t.doc) t.next
   blank_took h = took (walks whitespace0_chain) q h.reads
 
-  pub set_took : {k : ℕ} {t : WordSet} → WordSetTo t k n r → Took (set_flags (set_of k)) b u n t.flags t.next
+  pub set_took : {k : KeywordSet} {t : WordSet} → WordSetTo t k n r → Took (set_flags (set_of k)) b u n t.flags t.next
   set_took {k} h = took (walks (set_flags_chain (set_of k))) q h.reads
 
-  module _ {a : Step} {c : ℕ} (e : a ≡ Next c) where
+  module _ {c : ℕ} where
     -- a Step whose value is computed from the offsets
-    step_took : {A : Type 0} {m : Parser A} (f : ℕ → A) → Onward m → reply (step_answer f a) n r ≡ m n r → Took m b u n (f c) c
-    step_took {A} {m} f w h = took w q (told_next f a c n r (m n r) e h)
+    step_took : {A : Type 0} {m : Parser A} (f : ℕ → A) → Onward m → reply (step_answer f (Ok c)) n r ≡ m n r → Took m b u n (f c) c
+    step_took f w h = took w q h
 
-    pub tag_took : (t : ℕ) → tag_reply a n r ≡ tag t n r → Took (tag t) b u n tt c
+    pub tag_took : (t : ℕ) → tag_reply (Ok c) n r ≡ tag t n r → Took (tag t) b u n tt c
     tag_took t h = step_took (λ c. tt) (advances_onward (tag_advances t)) h
 
-    pub word_took : word_reply a n r ≡ parse_id n r → Took parse_id b u n (word_at n (drop (n - b) u) c) c
+    pub word_took : word_reply (Ok c) n r ≡ parse_id n r → Took parse_id b u n (word_at n (drop (n - b) u) c) c
     word_took h = rw (← q.same) (step_took (word_at n r) (advances_onward parse_id_advances) h)
 
-    pub keyword_took : (k : List ℕ) → word_reply a n r ≡ keyword k n r → Took (keyword k) b u n (word_at n (drop (n - b) u) c) c
+    pub keyword_took : (k : List ℕ) → word_reply (Ok c) n r ≡ keyword k n r → Took (keyword k) b u n (word_at n (drop (n - b) u) c) c
     keyword_took k h = rw (← q.same) (step_took (word_at n r) (walks (keyword_chain k)) h)
 
-    pub string_took : (f : ℕ → Escape) → string_reply a n r ≡ string_with f n r → Took (string_with f) b u n (span_to n c) c
+    pub string_took : (f : ℕ → Escape) → string_reply (Ok c) n r ≡ string_with f n r → Took (string_with f) b u n (span_to n c) c
     string_took f h = step_took (span_to n) (advances_onward (string_advances f)) h
 
-  pub integer_took : {a : Number} {v c : ℕ} → a ≡ Value v c → number_reply a n r ≡ positive_integer n r → Took positive_integer b u n v c
-  integer_took e h = took (advances_onward integer_advances) q (told_value n r _ e h)
-
--- and lost: whatever the value would have been
-pub step_lost : {A : Type 0} (f : ℕ → A) {a : Step} {l l' : Lost} → l' ≡ lost_of a → a ≡ Not l → (n : ℕ) (r : List ℕ) (X : Reply A) → reply (step_answer f a) n r ≡ X → lost_reply l' ≡ X
-step_lost f {a} {l} {l'} e d n r X h =
-    let z : l' ≡ l = e ∙ ap lost_of d in
-    ap (λ (x : Lost). lost_reply x) z ∙ told_not f a l n r X d h
-
-pub integer_lost : {a : Number} {l l' : Lost} → l' ≡ number_lost a → a ≡ NoNumber l → (n : ℕ) (r : List ℕ) (X : Reply ℕ) → number_reply a n r ≡ X → lost_reply l' ≡ X
-integer_lost {a} {l} {l'} e d n r X h =
-    let z : l' ≡ l = e ∙ ap number_lost d in
-    ap (λ (x : Lost). lost_reply x) z ∙ subst (λ (x : Number). number_reply x n r ≡ X) d h
+  pub integer_took : {v c : ℕ} → number_reply (Ok (v, c)) n r ≡ positive_integer n r → Took positive_integer b u n v c
+  integer_took h = took (advances_onward integer_advances) q h
 
 -- the end of a sequence
 pub ret_is : {A : Type 0} (a : A) (b : ℕ) (u : List ℕ) → ret a b u ≡ ok a b u

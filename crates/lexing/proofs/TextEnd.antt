@@ -11,7 +11,7 @@ use Rattle.lexing.specs.reply.{ok, fail, ◌>>=◌, ◌>>◌, position, catch, i
 use Rattle.lexing.specs.words.{keyword, tag}
 use Rattle.lexing.specs.blanks.{no_doc, line_comment, block_comment, multispace1, whitespace_group, one_blank, whitespace0, whitespace1}
 use Rattle.lexing.specs.answers.{BlankTo}
-use Rattle.lexing.specs.declared.blanks.DocSpan.TheVariants.{Absent}
+use Rattle.std.specs.Prelude.{None}
 use Rattle.lexing.proofs.Tests.{eq_of}
 use Rattle.lexing.proofs.Repetition.{iter_fail}
 use Rattle.lexing.proofs.TokenLocality.{no_group, one_blank_consumes}
@@ -33,7 +33,7 @@ unfolding whitespace0 iter iter_within one_blank whitespace_group catch line_com
 no_blank b = refl
 
 -- a run of no blanks
-pub clear_blank : {b : ℕ} {u : List ℕ} → whitespace0 b u ≡ ok no_doc b u → BlankTo (record { next = b; doc = Absent }) b u
+pub clear_blank : {b : ℕ} {u : List ℕ} → whitespace0 b u ≡ ok no_doc b u → BlankTo (record { next = b; doc = None }) b u
 clear_blank {b} {u} e = let z : b - b ≡ 0 = omega arith in record { reads = rw z (sym e); up = omega arith; inside = omega arith }
 
 pub no_gap : (b : ℕ) → whitespace1 b [] ≡ fail b

@@ -20,7 +20,7 @@ use Rattle.lexing.specs.word_sets.{set_flags, field_set, struct_set, event_set, 
 use Rattle.lexing.specs.names.{two_keywords_name, named_after}
 use Rattle.lexing.specs.answers.{Rest, doc_of, BlankTo}
 use Rattle.lexing.specs.declared.blanks.DocSpan.{DocSpan}
-use Rattle.lexing.specs.declared.blanks.DocSpan.TheVariants.{Absent, At}
+use Rattle.std.specs.Prelude.{Option as CodeOption, Some, None}
 use Rattle.lexing.proofs.Tests.{le_of}
 use Rattle.lexing.proofs.Scans.{take_run}
 use Rattle.lexing.proofs.TokenRuns.{id_nil, id_yes, id_no}
@@ -147,9 +147,9 @@ string_end f false b (x ∷ u) {i} {c} {r} e = go (eqb x quote) refl (eqb x back
     go false k false l ih = let p = ih false (suc b) (rw (k, l, string_rest) at e) in (omega (arith, p.0), p.1)
 
 -- the doc comment as the code's answer holds it
-abbrev doc_span : Doc → DocSpan
-doc_span no_doc = Absent
-doc_span (doc_at o n) = At o n
+abbrev doc_span : Doc → CodeOption DocSpan
+doc_span no_doc = None
+doc_span (doc_at o n) = Some (record { offset = o; size = n })
 
 doc_same : (d : Doc) → doc_of (doc_span d) ≡ d
 doc_same no_doc = refl

@@ -2,7 +2,7 @@
 use Prim.Native.Nat.{ℕ, suc, ◌+◌, ◌-◌, ◌≤◌}
 use mathlib.Core.Path.{◌≡◌, refl, sym, subst}
 use mathlib.Core.Bool.{Bool, true, false}
-use mathlib.Core.Option.{some}
+use Rattle.std.specs.Prelude.{Some}
 use mathlib.Core.List.{List, [], ◌∷◌}
 use native.Mathlib.Omega.{arith}
 use lib.Dec.{eqb}
@@ -53,20 +53,20 @@ opened x u k b d e (fail p) h = tt
 opened x u k b d e (stop n p) h = tt
 
 -- the byte after it, which stands for z
-escaped_byte : (x z k : ℕ) (l : List ℕ) → escaped x ≡ some z → Faultless (unescape_from (k + 2) l) → Faultless (escape_from k (x ∷ l))
+escaped_byte : (x z k : ℕ) (l : List ℕ) → escaped x ≡ Some z → Faultless (unescape_from (k + 2) l) → Faultless (escape_from k (x ∷ l))
 unfolding escape_from
 escaped_byte x z k l e h = rw (e, escape_from) (first_faultless z (unescape_from (k + 2) l) h)
 
-meant : (x z : ℕ) (u : List ℕ) (k b : ℕ) → escaped x ≡ some z → (y : Reply ℕ) → Clear (k + 2) (suc (suc b)) false u y → Clear k b true (x ∷ u) y
+meant : (x z : ℕ) (u : List ℕ) (k b : ℕ) → escaped x ≡ Some z → (y : Reply ℕ) → Clear (k + 2) (suc (suc b)) false u y → Clear k b true (x ∷ u) y
 meant x z u k b e (ok q c r) h = (omega (arith, h.0), subst (λ (l : List ℕ). Faultless (escape_from k l)) (sym (before x u q (suc b) h.0)) (escaped_byte x z k (take (q - suc (suc b)) u) e h.1))
 meant x z u k b e (fail p) h = tt
 meant x z u k b e (stop n p) h = tt
 
-quote_escaped : (x : ℕ) → eqb x quote ≡ true → escaped x ≡ some quote
+quote_escaped : (x : ℕ) → eqb x quote ≡ true → escaped x ≡ Some quote
 unfolding escaped lookup escapes
 quote_escaped x e = rw (e, lookup) refl
 
-backslash_escaped : (x : ℕ) → eqb x quote ≡ false → eqb x backslash ≡ true → escaped x ≡ some backslash
+backslash_escaped : (x : ℕ) → eqb x quote ≡ false → eqb x backslash ≡ true → escaped x ≡ Some backslash
 unfolding escaped lookup escapes
 backslash_escaped x d e = rw (d, e, lookup) refl
 

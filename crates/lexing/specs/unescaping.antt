@@ -1,10 +1,9 @@
 -- Unescaping, a part that document 01 adds: what comes out of the bytes between a default string's quotes (the escapes are those in the loop of `default_attribute_value`, parser.rs line 1135).
-use Rattle.std.specs.Prelude.{ℕ, ◌+◌, true, false, List, [], ◌∷◌, eqb}
-use Rattle.std.proofs.Math.Option.{Option, none, some}
+use Rattle.std.specs.Prelude.{ℕ, ◌+◌, true, false, Option, Some, None, Result, Ok, Err, List, [], ◌∷◌, eqb}
 use Rattle.lexing.specs.bytes.{quote, backslash, lf, tab}
 use Rattle.lexing.specs.outcomes.{Outcome, refused, fitted}
-use Rattle.lexing.specs.declared.unescaping.Unescaping.{Unescaping}
-use Rattle.lexing.specs.declared.unescaping.Unescaping.TheVariants.{Written, Fault, Short}
+use Rattle.lexing.specs.declared.unescaping.UnescapeError.{UnescapeError}
+use Rattle.lexing.specs.declared.unescaping.UnescapeError.TheVariants.{Fault, Short}
 
 -- the second byte of each escape (0x6e is n, 0x74 is t) and the byte that the escape stands for
 unfoldable pub escapes : List (ℕ × ℕ)
@@ -12,8 +11,8 @@ escapes = (quote, quote) ∷ (backslash, backslash) ∷ (0x6e, lf) ∷ (0x74, ta
 
 -- what is beside y in a table
 unfoldable pub lookup : ℕ → List (ℕ × ℕ) → Option ℕ
-lookup y [] = none
-lookup y (e ∷ l) = elim (eqb y e.0) [ true ↦ some e.1 | false ↦ lookup y l ]
+lookup y [] = None
+lookup y (e ∷ l) = elim (eqb y e.0) [ true ↦ Some e.1 | false ↦ lookup y l ]
 
 -- the byte that a backslash and y stand for, if any
 unfoldable pub escaped : ℕ → Option ℕ
@@ -42,7 +41,7 @@ unfoldable mutual
   -- what comes out from a backslash at offset b on, by the bytes after it
   pub escape_from : ℕ → List ℕ → Unescaped
   escape_from b [] = fault_at b
-  escape_from b (y ∷ u) = elim (escaped y) [ none ↦ fault_at b | some z ↦ first z (unescape_from (b + 2) u) ]
+  escape_from b (y ∷ u) = elim (escaped y) [ None ↦ fault_at b | Some z ↦ first z (unescape_from (b + 2) u) ]
 
 -- what comes out of a part
 unfoldable pub unescape : List ℕ → Unescaped
@@ -58,7 +57,7 @@ unfoldable pub outcome : List ℕ → ℕ → Outcome
 outcome u n = into n (unescape u)
 
 -- the code's answer as a number and a value
-abbrev pub answer : Unescaping → ℕ × ℕ
-answer (Written n) = (0, n)
-answer (Fault k) = (9, k)
-answer (Short n) = (10, n)
+abbrev pub answer : Result ℕ UnescapeError → ℕ × ℕ
+answer (Ok n) = (0, n)
+answer (Err (Fault k)) = (9, k)
+answer (Err (Short n)) = (10, n)

@@ -1,9 +1,6 @@
 -- Well-formed UTF-8: the table of the Unicode Standard, and an automaton that reads bytes by it.
-use Rattle.std.specs.Prelude.{ℕ, suc, Bool, true, false, List, [], ◌∷◌}
-use Rattle.std.proofs.Math.Option.{Option, none, some}
+use Rattle.std.specs.Prelude.{ℕ, suc, Bool, true, false, List, [], ◌∷◌, Option, Some, None}
 use Rattle.lexing.specs.bytes.{within}
-use Rattle.lexing.specs.declared.utf8.Utf8.{Utf8}
-use Rattle.lexing.specs.declared.utf8.Utf8.TheVariants.{WellFormed, IllFormed}
 
 infix 90 ◌to◌
 -- the bytes from one to another, both counted
@@ -34,8 +31,8 @@ table =
 
 -- the ranges of the bytes after a first byte, by the row that has it; none where no row has it
 unfoldable pub following : List Row → ℕ → Option (List Range)
-following [] x = none
-following (row r rs ∷ rows) x = elim (has r x) [ true ↦ some rs | false ↦ following rows x ]
+following [] x = None
+following (row r rs ∷ rows) x = elim (has r x) [ true ↦ Some rs | false ↦ following rows x ]
 
 -- between characters; inside one: the range of the next byte, those of the bytes after it, and the offset of the character's first byte;
 -- or after an ill-formed sequence at an offset
@@ -51,8 +48,8 @@ awaiting (r ∷ rs) a = inside r rs a
 
 -- after the first byte, at an offset, of a character that has these ranges after it
 unfoldable pub begun : Option (List Range) → ℕ → State
-begun none a = ill a
-begun (some rs) a = awaiting rs a
+begun None a = ill a
+begun (Some rs) a = awaiting rs a
 
 -- the state after the byte x at the offset b
 unfoldable pub step : ℕ → State → ℕ → State
@@ -67,15 +64,10 @@ run b t (x ∷ u) = run (suc b) (step b t x) u
 
 -- the offset of the ill-formed sequence in a text that ends in a state; a character that is cut off is one
 unfoldable pub fault : State → Option ℕ
-fault between = none
-fault (inside r rs a) = some a
-fault (ill a) = some a
+fault between = None
+fault (inside r rs a) = Some a
+fault (ill a) = Some a
 
 -- the offset of the first byte of the first ill-formed sequence, of bytes from the offset b on; none where they are well-formed
 unfoldable pub utf8_error : ℕ → List ℕ → Option ℕ
 utf8_error b u = fault (run b between u)
-
--- the code's answer as a place
-abbrev pub error_of : Utf8 → Option ℕ
-error_of WellFormed = none
-error_of (IllFormed p) = some p

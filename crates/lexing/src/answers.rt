@@ -1,52 +1,49 @@
 // What readers answer.
-ghost use Rattle.std.specs.Prelude.{◌≡◌, ◌<◌};
-ghost use Rattle.lexing.specs.integers.{u64_max};
-ghost use Rattle.lexing.specs.answers.{lost_of, optional_step, Stop};
+ghost use Rattle.std.specs.Prelude.{◌≡◌};
+ghost use Rattle.lexing.specs.answers.{number_of, optional_step};
 
-// Why there is no token. A failure, which another try may follow, has cause 0; what ends all reading has one more than the number of its
-// refusal. They are plain numbers.
-#[derive(Clone, Copy)]
-pub struct Lost {
-    pub cause: usize,
-    pub place: usize,
+// Why a text, or a call, is refused, by the numbers of document 01.
+#[derive(Clone, Copy, PartialEq, Eq)]
+pub enum Refusal {
+    TextTooLong = 1,
+    NotUtf8 = 2,
+    NoItem = 3,
+    NumberTooLarge = 4,
+    EscapedReturn = 5,
+    AccessNotLower = 6,
+    CatalogueTooShort = 7,
+    ReportTooShort = 8,
+    BadEscape = 9,
+    OutputTooShort = 10,
 }
 
-// What ends all reading, by the number of its refusal.
-pub fn stop_by(number: usize, place: usize) -> Lost
-    requires { number < u64_max }
-    ensures { result ≡ Stop number place }
-{
-    Lost {
-        cause: number + 1,
-        place,
+impl Refusal {
+    pub fn number(self) -> usize
+        ensures { result ≡ number_of self }
+    {
+        self as usize
     }
 }
+
+// Why there is no token: a failure at a place, which another try may follow, or what ends all reading.
+#[derive(Clone, Copy)]
+pub enum Lost {
+    Fail(usize),
+    Stop(Refusal, usize),
+}
+
+// A value and the offset after it.
+pub type Read<T> = Result<(T, usize), Lost>;
 
 // The offset after a token.
-#[derive(Clone, Copy)]
-pub enum Step {
-    Next(usize),
-    Not(Lost),
-}
-
-pub fn step_lost(r: Step) -> Lost
-    ensures { result ≡ lost_of r }
-{
-    match r {
-        Step::Next(c) => Lost { cause: 0, place: c },
-        Step::Not(l) => l,
-    }
-}
+pub type Step = Result<usize, Lost>;
 
 // The answer of an optional part that is at an offset: where it fails nothing is read, and a stop goes on.
 pub fn optional(r: Step, base: usize) -> Step
     ensures { result ≡ optional_step r base }
 {
-    let Step::Not(l) = r else {
-        return r;
-    };
-    if l.cause == 0 {
-        return Step::Next(base);
+    match r {
+        Err(Lost::Fail(_)) => Ok(base),
+        _ => r,
     }
-    Step::Not(l)
 }

@@ -17,10 +17,7 @@ pub fn rest_at(part: &[u8], base: usize, c: usize) -> &[u8]
 pub fn peek(part: &[u8], i: usize) -> u8
     ensures { result ≡ get_or part.now i 0 }
 {
-    if i < part.len() {
-        return part[i];
-    }
-    0
+    part.get(i).copied().unwrap_or(0)
 }
 
 // Whether eight bytes are at a place, none of them x.
@@ -38,9 +35,5 @@ pub fn eight_without(part: &[u8], i: usize, x: u8) -> bool
 pub fn after(part: &[u8], n: usize) -> &[u8]
     ensures { result.now ≡ drop n part.now }
 {
-    if n < part.len() {
-        return &part[n..];
-    }
-    let m = part.len();
-    &part[m..]
+    part.get(n..).unwrap_or(&[])
 }

@@ -5,9 +5,9 @@ ghost use Rattle.lexing.specs.words.{tag, is_key, keyword};
 ghost use Rattle.lexing.specs.blanks.{whitespace1};
 ghost use Rattle.lexing.specs.answers.{BlankAt, SkipsAt, NumberAt, after_blanks};
 
-use crate::answers::{Lost, Step, step_lost};
+use crate::answers::{Lost, Read, Step};
 use crate::blanks::blank_run;
-use crate::integers::{Number, positive_integer};
+use crate::integers::positive_integer;
 use crate::parts::{peek, rest_at};
 use crate::words::{keyword, tag};
 
@@ -16,8 +16,7 @@ fn blank_end(part: &[u8], base: usize, c: usize) -> usize
     requires { ((base ≤ c) × (c ≤ base + length part.now)) × (base + length part.now ≤ u64_max) }
     ensures { BlankAt result base part.now c }
 {
-    let mut doc = [0; 2];
-    blank_run(part, base, c, &mut doc)
+    blank_run(part, base, c).next
 }
 
 // The offset after blanks: `whitespace0` without the doc comment, as a plain number and in place.
@@ -45,9 +44,9 @@ pub fn gap_at(part: &[u8], base: usize, c: usize) -> Step
 {
     let n = blank_at(part, base, c);
     if n == c {
-        return Step::Not(Lost { cause: 0, place: c });
+        return Err(Lost::Fail(c));
     }
-    Step::Next(n)
+    Ok(n)
 }
 
 // Blanks and a byte.
@@ -67,15 +66,12 @@ pub fn keyword_after(part: &[u8], base: usize, c: usize, key: &[u8]) -> Step
 {
     let part = &part[..];
     let n = blank_at(part, base, c);
-    let word = keyword(rest_at(part, base, n), n, key);
-    let Step::Next(end) = word else {
-        return Step::Not(step_lost(word));
-    };
-    Step::Next(end)
+    let end = keyword(rest_at(part, base, n), n, key)?;
+    Ok(end)
 }
 
 // Blanks and an integer.
-pub fn integer_after(part: &[u8], base: usize, c: usize) -> Number
+pub fn integer_after(part: &[u8], base: usize, c: usize) -> Read<u64>
     requires { ((base ≤ c) × (c ≤ base + length part.now)) × (base + length part.now ≤ u64_max) }
     ensures { NumberAt (after_blanks positive_integer) result base part.now c }
 {

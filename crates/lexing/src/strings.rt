@@ -1,11 +1,11 @@
 // Strings in quotes.
-ghost use Rattle.std.specs.Prelude.{◌≡◌, ◌+◌, ◌≤◌, length};
+ghost use Rattle.std.specs.Prelude.{ℕ, ◌≡◌, ◌+◌, ◌≤◌, length};
 ghost use Rattle.lexing.specs.integers.{u64_max};
-ghost use Rattle.lexing.specs.strings.{annotation_escape, default_escape, string_with, quoted_string, default_string};
-ghost use Rattle.lexing.specs.inner.strings.{escapes_of, escape_of, piece_is, piece_end};
+ghost use Rattle.lexing.specs.strings.{Escape, annotation_escape, default_escape, string_with, quoted_string, default_string};
+ghost use Rattle.lexing.specs.inner.strings.{escape_of, IsEscape, piece_inside, piece_is};
 ghost use Rattle.lexing.specs.answers.{string_reply};
 
-use crate::answers::{Lost, Step, stop_by};
+use crate::answers::{Lost, Refusal, Step};
 use crate::parts::rest_at;
 
 // How a byte after a backslash counts.
@@ -16,126 +16,84 @@ enum Escaped {
     Panics,
 }
 
-// A piece of a string: the offset after it, or the end of the string.
+// A piece of a string, or its end: the offset after it.
 #[derive(Clone, Copy)]
 enum Piece {
     More(usize),
-    Last(Step),
+    Last(usize),
 }
 
 // Annotations allow two escapes.
 fn annotation_escape(x: u8) -> Escaped
     ensures { escape_of result ≡ annotation_escape x }
 {
-    if x == b'"' {
-        return Escaped::Allowed;
+    match x {
+        b'"' => Escaped::Allowed,
+        b'\\' => Escaped::Allowed,
+        _ => Escaped::Forbidden,
     }
-    if x == b'\\' {
-        return Escaped::Allowed;
-    }
-    Escaped::Forbidden
 }
 
 // Defaults allow four.
 fn default_escape(x: u8) -> Escaped
     ensures { escape_of result ≡ default_escape x }
 {
-    if x == b'"' {
-        return Escaped::Allowed;
+    match x {
+        b'"' => Escaped::Allowed,
+        b'\\' => Escaped::Allowed,
+        b'n' => Escaped::Allowed,
+        b't' => Escaped::Allowed,
+        b'r' => Escaped::Panics,
+        _ => Escaped::Forbidden,
     }
-    if x == b'\\' {
-        return Escaped::Allowed;
-    }
-    if x == b'n' {
-        return Escaped::Allowed;
-    }
-    if x == b't' {
-        return Escaped::Allowed;
-    }
-    if x == b'r' {
-        return Escaped::Panics;
-    }
-    Escaped::Forbidden
-}
-
-fn escape_of(default: bool, x: u8) -> Escaped
-    ensures { escape_of result ≡ escapes_of default x }
-{
-    if default {
-        return default_escape(x);
-    }
-    annotation_escape(x)
 }
 
 // One byte of a string, one escape, or its end.
-fn string_piece(part: &[u8], base: usize, default: bool) -> Piece
-    requires { base + length part.now ≤ u64_max }
-    ensures { piece_is (escapes_of default) base part.now result }
+fn string_piece<F: Fn(u8) -> Escaped>(part: &[u8], base: usize, escape: F) -> Result<Piece, Lost>
+    requires part_bound { base + length part.now ≤ u64_max }
+    requires escape_called { F.IsAlwaysCallable escape }
+    ensures inside { piece_inside base part.now result }
+    ensures reads { (f : ℕ → Escape) → IsEscape (F.post escape) f → piece_is f base part.now result }
 {
     if part.len() == 0 {
-        return Piece::Last(Step::Not(Lost {
-            cause: 0,
-            place: base,
-        }));
+        return Err(Lost::Fail(base));
     }
     let x = part[0];
     let next = base + 1;
     if x == b'"' {
-        return Piece::Last(Step::Next(next));
+        return Ok(Piece::Last(next));
     }
     if x != b'\\' {
-        return Piece::More(next);
+        return Ok(Piece::More(next));
     }
     if part.len() == 1 {
-        return Piece::Last(Step::Not(Lost {
-            cause: 0,
-            place: base,
-        }));
+        return Err(Lost::Fail(base));
     }
-    let e = escape_of(default, part[1]);
-    match e {
-        Escaped::Allowed => Piece::More(base + 2),
-        Escaped::Forbidden => Piece::Last(Step::Not(Lost {
-            cause: 0,
-            place: base,
-        })),
-        Escaped::Panics => Piece::Last(Step::Not(stop_by(5, base))),
+    match escape(part[1]) {
+        Escaped::Allowed => Ok(Piece::More(base + 2)),
+        Escaped::Forbidden => Err(Lost::Fail(base)),
+        Escaped::Panics => Err(Lost::Stop(Refusal::EscapedReturn, base)),
     }
 }
 
-fn piece_end(p: Piece) -> Step
-    ensures { result ≡ piece_end p }
-{
-    match p {
-        Piece::More(c) => Step::Next(c),
-        Piece::Last(s) => s,
-    }
-}
-
-// A string in quotes, of a default value or of an annotation.
-fn string_with(part: &[u8], base: usize, default: bool) -> Step
-    requires { base + length part.now ≤ u64_max }
-    ensures { string_reply result base part.now ≡ string_with (escapes_of default) base part.now }
+// A string in quotes, by how a byte after a backslash counts.
+fn string_with<F: Fn(u8) -> Escaped>(part: &[u8], base: usize, escape: F) -> Step
+    requires part_bound { base + length part.now ≤ u64_max }
+    requires escape_called { F.IsAlwaysCallable escape }
+    ensures { (f : ℕ → Escape) → IsEscape (F.post escape) f → string_reply result base part.now ≡ string_with f base part.now }
 {
     if part.len() == 0 {
-        return Step::Not(Lost {
-            cause: 0,
-            place: base,
-        });
+        return Err(Lost::Fail(base));
     }
     if part[0] != b'"' {
-        return Step::Not(Lost {
-            cause: 0,
-            place: base,
-        });
+        return Err(Lost::Fail(base));
     }
     let mut c = base + 1;
     loop {
-        let p = string_piece(rest_at(part, base, c), c, default);
-        let Piece::More(next) = p else {
-            return piece_end(p);
-        };
-        c = next;
+        match string_piece(rest_at(part, base, c), c, &escape)? {
+            Piece::More(next) => c = next,
+            Piece::Last(end) => return Ok(end),
+        }
     }
 }
 
@@ -144,7 +102,7 @@ pub fn quoted_string(part: &[u8], base: usize) -> Step
     requires { base + length part.now ≤ u64_max }
     ensures { string_reply result base part.now ≡ quoted_string base part.now }
 {
-    string_with(part, base, false)
+    string_with(part, base, annotation_escape)
 }
 
 // The string of a default value.
@@ -152,5 +110,5 @@ pub fn default_string(part: &[u8], base: usize) -> Step
     requires { base + length part.now ≤ u64_max }
     ensures { string_reply result base part.now ≡ default_string base part.now }
 {
-    string_with(part, base, true)
+    string_with(part, base, default_escape)
 }

@@ -15,6 +15,7 @@ fn letters(part: &[u8], from: usize) -> usize
     requires { from ≤ length part.now }
     ensures { (result ≤ length part.now) × (word_end part.now from ≡ word_end part.now result) }
 {
+    // A stride of eight: a count of `chunks_exact`'s chunks is no plainer, since the answer is a place and the rest is left to the caller.
     let mut i = from;
     while 8 <= part.len() - i {
         let m = non_letters(eight_at(part, i));
@@ -31,6 +32,7 @@ fn word_tail(part: &[u8], n: usize) -> usize
     requires { n ≤ length part.now }
     ensures { result ≡ word_end part.now n }
 {
+    // A counted `while`: with a `for` over n..part.len() entries are read 5 percent slower (bench/turns).
     let mut i = n;
     while i < part.len() {
         if !is_word(part[i]) {
@@ -57,12 +59,12 @@ fn word_by_end(part: &[u8], base: usize, c: usize, e: usize) -> Step
 {
     let i = c - base;
     if e == i {
-        return Step::Not(Lost { cause: 0, place: c });
+        return Err(Lost::Fail(c));
     }
     if is_digit(part[i]) {
-        return Step::Not(Lost { cause: 0, place: c });
+        return Err(Lost::Fail(c));
     }
-    Step::Next(base + e)
+    Ok(base + e)
 }
 
 // A name at an offset of a part, read in place.
@@ -85,24 +87,14 @@ pub fn parse_id(part: &[u8], base: usize) -> Step
 fn is_key_letter(x: u8) -> bool
     ensures { result ≡ is_key_letter x }
 {
-    if is_between(b'a', b'z', x) {
-        return true;
-    }
-    x == b'_'
+    x.is_ascii_lowercase() || x == b'_'
 }
 
 // Whether bytes are a keyword that `keyword` takes, for a caller that does not know it: only what the measurements call does not.
 pub fn is_key(key: &[u8]) -> bool
     ensures { result ≡ is_key key.now }
 {
-    let mut i = 0;
-    while i < key.len() {
-        if !is_key_letter(key[i]) {
-            return false;
-        }
-        i += 1;
-    }
-    0 < i
+    !key.is_empty() && key.iter().all(|x| is_key_letter(*x))
 }
 
 // Whether a byte is one of a word and, in lower case, the keyword's byte k. The bit 0x20 is all that tells a capital letter from a small one.
@@ -110,10 +102,7 @@ fn is_key_byte(x: u8, k: u8) -> bool
     requires { is_key_letter k ≡ true }
     ensures { result ≡ is_key_byte x k }
 {
-    if x == k {
-        return true;
-    }
-    (x | 0x20) == k
+    x == k || (x | 0x20) == k
 }
 
 // How many of a keyword's bytes are at the front as they are, where eight are compared at once: eight or none.
@@ -139,12 +128,10 @@ fn has_key(part: &[u8], key: &[u8]) -> bool
     if part.len() < key.len() {
         return false;
     }
-    let mut i = eight_alike(part, key);
-    while i < key.len() {
+    for i in eight_alike(part, key)..key.len() {
         if !is_key_byte(part[i], key[i]) {
             return false;
         }
-        i += 1;
     }
     true
 }
@@ -157,19 +144,13 @@ pub fn keyword(part: &[u8], base: usize, key: &[u8]) -> Step
     ensures { word_reply result base part.now ≡ keyword key.now base part.now }
 {
     if !has_key(part, key) {
-        return Step::Not(Lost {
-            cause: 0,
-            place: base,
-        });
+        return Err(Lost::Fail(base));
     }
     let n = key.len();
     if is_word(peek(part, n)) {
-        return Step::Not(Lost {
-            cause: 0,
-            place: base,
-        });
+        return Err(Lost::Fail(base));
     }
-    Step::Next(base + n)
+    Ok(base + n)
 }
 
 // One given byte.
@@ -178,16 +159,10 @@ pub fn tag(part: &[u8], base: usize, t: u8) -> Step
     ensures { tag_reply result base part.now ≡ tag t base part.now }
 {
     if part.len() == 0 {
-        return Step::Not(Lost {
-            cause: 0,
-            place: base,
-        });
+        return Err(Lost::Fail(base));
     }
     if part[0] == t {
-        return Step::Next(base + 1);
+        return Ok(base + 1);
     }
-    Step::Not(Lost {
-        cause: 0,
-        place: base,
-    })
+    Err(Lost::Fail(base))
 }

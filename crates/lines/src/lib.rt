@@ -12,10 +12,7 @@ pub fn front(text: &[u8], n: usize) -> &[u8]
     ensures result_value { result.now ≡ take n text.now }
     ensures result_in_bounds { length result.now ≤ length text.now }
 {
-    if n < text.len() {
-        return &text[..n];
-    }
-    text
+    &text[..n.min(text.len())]
 }
 
 // How many bytes are before the next line feed.
@@ -23,14 +20,9 @@ pub fn line_length(part: &[u8]) -> usize
     ensures value { result ≡ length (line part.now) }
     ensures upper_bound { result ≤ length part.now }
 {
-    let mut i = 0;
-    while i < part.len() {
-        if part[i] == b'\n' {
-            return i;
-        }
-        i += 1;
-    }
-    i
+    part.iter()
+        .position(|byte| *byte == b'\n')
+        .unwrap_or(part.len())
 }
 
 // Reads until the buffer is full, the input ends or a read fails, and answers how many bytes it put at the start of the buffer.

@@ -11,19 +11,13 @@ fn print_refusal(out: &impl Print, number: u64, value: u64) -> io::Result<()> {
     println!(out; "refused {number} {value}")
 }
 
-fn print_byte(out: &impl Print, b: u8) -> io::Result<()> {
-    print!(out; "{b:02x}")
-}
-
-// Eight bytes make a word.
+// Eight bytes make a word; a catalogue is whole words.
 fn print_words(out: &impl Print, bytes: &[u8]) -> io::Result<()> {
-    let mut i = 0;
-    while i < bytes.len() {
-        print_byte(out, bytes[i])?;
-        i += 1;
-        if i % 8 == 0 {
-            out.write_all(b"\n")?;
+    for word in bytes.chunks_exact(8) {
+        for byte in word {
+            print!(out; "{byte:02x}")?;
         }
+        out.write_all(b"\n")?;
     }
     Ok(())
 }

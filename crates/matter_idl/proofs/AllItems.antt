@@ -1,15 +1,16 @@
 -- All items of a text are `many0 item`, after which the text has ended, or else the next item is lost.
+use Rattle.lexing.specs.declared.answers.Lost.TheVariants.{Fail}
 use mathlib.Core.Path.{◌≡◌, refl, sym, ap, ◌∙◌}
 use mathlib.Core.List.{List, [], ◌∷◌}
 use Prim.Native.Nat.{ℕ, zero, suc, ◌-◌, ◌≤◌, ◌<◌}
 use native.Mathlib.Omega.{arith}
 use lib.ListN.{length, drop}
-use Rattle.lexing.specs.reply.{Reply, ok, fail, stop, Parser, ◌>>=◌, prepend, many0}
+use Rattle.lexing.specs.reply.{Reply, ok, fail, stop, Parser, prepend, many0}
 use Rattle.lexing.specs.blanks.{Doc, no_doc}
-use Rattle.lexing.specs.answers.{lost_reply, Rest, Fail, Stop}
+use Rattle.lexing.specs.answers.{lost_reply, Rest}
 use Rattle.lexing.specs.declared.answers.Lost.{Lost}
 use Rattle.lexing.proofs.Losses.{by_lost}
-use Rattle.lexing.proofs.Slicing.{rest_self, begin, lose, ret_is}
+use Rattle.lexing.proofs.Slicing.{ret_is}
 use Rattle.lexing.proofs.TextEnd.{no_keyword, no_keywords, no_blank, no_gap}
 use Rattle.lexing.proofs.Repetition.{ManyAt, prepend_ok, prepend_fail, prepend_stop, prepends, many0_more, many0_fail, many0_stop, many0_ends, many_end}
 use Rattle.items.specs.entries.{parse_enum_after_doc_maturity, parse_bitmap_after_doc_maturity}
@@ -20,7 +21,7 @@ use Rattle.items.specs.items.{Item, item}
 use Rattle.items.specs.answers.items.{after_maturity, declaration}
 use Rattle.items.proofs.Choice.{or_both}
 use Rattle.items.proofs.Locality.{item_consumes}
-use Rattle.lexing.proofs.Sequences.{bind_ok, then_ok, then_fail}
+use Rattle.lexing.proofs.Sequences.{bind_ok, bind_fail, bind_stop, then_ok, then_fail}
 use Rattle.items.proofs.Tries.{maturity_words, mapped_fail, maturity_elsewhere, endpoint_elsewhere, cluster_elsewhere, choice_elsewhere, struct_elsewhere}
 use Rattle.items.proofs.items.Laws.{item_is}
 use Rattle.matter_idl.specs.reading.{unless_ended, items_within, all_items}
@@ -68,9 +69,6 @@ prepend_finished i (ok l c (x ∷ v)) = prepend_unread i (item c (x ∷ v)) ∙ 
 prepend_finished i (fail p) = prepend_fail i p ∙ sym (ap finished (prepend_fail i p))
 prepend_finished i (stop n p) = prepend_stop i n p ∙ sym (ap finished (prepend_stop i n p))
 
-bind_lost : (k : Item → Parser (List Item)) (b : ℕ) (u : List ℕ) (l : Lost) → item b u ≡ lost_reply l → (item >>= k) b u ≡ lost_reply l
-bind_lost k b u l e = sym (begin (item >>= k) b u (lose item k l (rest_self b u) (sym e)))
-
 ended_within : (n b : ℕ) → items_within n b [] ≡ finished (many0 item b [])
 unfolding items_within unless_ended finished
 ended_within zero b = ret_is [] b [] ∙ sym (ap finished (many0_fail item item_consumes b [] b (no_item b)))
@@ -81,9 +79,13 @@ module _ (n b x : ℕ) (v : List ℕ) where
   unfolding items_within unless_ended
   turn i c r e = bind_ok _ _ e ∙ prepends i (items_within n) c r
 
-  lost_within : (l : Lost) → item b (x ∷ v) ≡ lost_reply l → items_within (suc n) b (x ∷ v) ≡ lost_reply l
+  fail_within : (p : ℕ) → item b (x ∷ v) ≡ fail p → items_within (suc n) b (x ∷ v) ≡ fail p
   unfolding items_within unless_ended
-  lost_within l e = bind_lost _ b (x ∷ v) l e
+  fail_within p e = bind_fail _ _ e
+
+  stop_within : (k p : ℕ) → item b (x ∷ v) ≡ stop k p → items_within (suc n) b (x ∷ v) ≡ stop k p
+  unfolding items_within unless_ended
+  stop_within k p e = bind_stop _ _ e
 
 shorter : (b : ℕ) (u : List ℕ) (i : Item) (c : ℕ) (r : List ℕ) → item b u ≡ ok i c r → length r < length u
 shorter b u i c r e = rw e at (item_consumes.consumes b u)
@@ -110,8 +112,8 @@ all_within (suc n) b u h = more u h (all_within n)
       where
         go : (y : Reply Item) → item b (x ∷ v) ≡ y → items_within (suc n) b (x ∷ v) ≡ finished (many0 item b (x ∷ v))
         go (ok i c r) e = turn n b x v i c r e ∙ (ap (prepend i) (ih c r (omega (arith, shorter b (x ∷ v) i c r e))) ∙ (prepend_finished i (many0 item c r) ∙ ap finished (sym (many0_more item item_consumes b (x ∷ v) i c r e))))
-        go (fail p) e = lost_within n b x v (Fail p) e ∙ sym (failed b x v p e)
-        go (stop k p) e = lost_within n b x v (Stop k p) e ∙ sym (stopped b x v k p e)
+        go (fail p) e = fail_within n b x v p e ∙ sym (failed b x v p e)
+        go (stop k p) e = stop_within n b x v k p e ∙ sym (stopped b x v k p e)
 
 all_is : (b : ℕ) (u : List ℕ) → all_items b u ≡ finished (many0 item b u)
 unfolding all_items

@@ -2,7 +2,7 @@
 use Prim.Native.Nat.{ℕ, ◌+◌, ◌*◌, ◌≤◌}
 use mathlib.Core.Path.{◌≡◌, refl, sym, ap}
 use mathlib.Core.Bool.{Bool, true, false, false≢true}
-use mathlib.Core.Option.{Option, none, some}
+use Rattle.std.specs.Prelude.{Option, None, Some}
 use mathlib.Core.List.{List, [], ◌∷◌}
 use native.Mathlib.Omega.{arith}
 use lib.Dec.{leb}
@@ -53,8 +53,8 @@ module _ (b : ℕ) (u : List ℕ) where
   verdict_at_bounded = go (utf8_error b u)
     where
       go : (o : Option ℕ) → Bounded (length u) (by_utf8 o (by_reply (all_items b u)))
-      go none = reply_bounded (all_items b u) refl (all_refused b u)
-      go (some p) = refl
+      go None = reply_bounded (all_items b u) refl (all_refused b u)
+      go (Some p) = refl
 
 verdict_bounded : (u : List ℕ) → Bounded (length u) (verdict u)
 unfolding verdict

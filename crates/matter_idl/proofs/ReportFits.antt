@@ -2,7 +2,7 @@
 use Prim.Native.Nat.{ℕ, ◌+◌, ◌≤◌}
 use mathlib.Core.Path.{◌≡◌, refl, ap}
 use mathlib.Core.List.{List, [], ◌∷◌}
-use mathlib.Core.Option.{Option, none, some}
+use Rattle.std.specs.Prelude.{Option, None, Some}
 use native.Mathlib.Omega.{arith}
 use lib.Dec.{lit<}
 use lib.ListN.{length, length-append}
@@ -43,8 +43,8 @@ module _ (n b : ℕ) (s : List ℕ) (h : b + length s ≤ n) where
   entry_in = go (utf8_error b s) refl
     where
       go : (o : Option ℕ) → utf8_error b s ≡ o → EntryIn n (report_entry b (length s) (by_utf8 o (by_reply (all_items b s))))
-      go none e = reply_in (all_items b s) (all_refused b s)
-      go (some p) e = (h, refl, omega (arith, utf8_inside b s p e))
+      go None e = reply_in (all_items b s) (all_refused b s)
+      go (Some p) e = (h, refl, omega (arith, utf8_inside b s p e))
 
 entries_in : (n b : ℕ) (ss : List (List ℕ)) → b + length (joined ss) ≤ n → All (EntryIn n) (report_entries b ss)
 unfolding report_entries joined

@@ -1,7 +1,7 @@
 -- A section read in its place is the section read alone, moved by its start.
 use Prim.Native.Nat.{ℕ, zero, suc, ◌+◌, ◌≤◌}
 use mathlib.Core.Path.{◌≡◌, refl, sym, ◌∙◌, ap}
-use mathlib.Core.Option.{Option, none, some}
+use Rattle.std.specs.Prelude.{Option, None, Some}
 use mathlib.Core.List.{List, [], ◌∷◌, ◌++◌, map}
 use native.Mathlib.Omega.{arith}
 use lib.ListN.{length, length-append}
@@ -47,8 +47,8 @@ module _ (d : ℕ) where
 
   utf8_first : (o : Option ℕ) (v : Verdict) → by_utf8 (shift_place d o) (shift_verdict d v) ≡ shift_verdict d (by_utf8 o v)
   unfolding by_utf8 shift_place shift_verdict
-  utf8_first none v = refl
-  utf8_first (some p) v = refl
+  utf8_first None v = refl
+  utf8_first (Some p) v = refl
 
   verdict_shift : (b : ℕ) (u : List ℕ) → verdict_at (d + b) u ≡ shift_verdict d (verdict_at b u)
   unfolding verdict_at

@@ -2,7 +2,7 @@
 use Prim.Native.Nat.{ℕ, ◌+◌, ◌≤◌}
 use mathlib.Core.Path.{◌≡◌, refl, ◌∙◌}
 use mathlib.Core.Bool.{Bool, true, false}
-use mathlib.Core.Option.{Option, none, some}
+use Rattle.std.specs.Prelude.{Option, None, Some}
 use mathlib.Core.List.{List, [], ◌∷◌, ◌++◌, append-nil, append_assoc}
 use native.Mathlib.Omega.{arith}
 use lib.Dec.{leb}
@@ -29,7 +29,7 @@ use Rattle.matter_idl.proofs.SectionsAlone.{shift_verdict, verdict_short, verdic
 
 -- an accepted section is UTF-8 and is read to its end
 record AcceptedAt (b : ℕ) (s : List ℕ) (l : List Item) : Type 0 where
-  well_formed : utf8_error b s ≡ none
+  well_formed : utf8_error b s ≡ None
   reads : Reads (b + length s) [] b s l
 
 read_at : (b : ℕ) (s : List ℕ) (l : List Item) (x : Reply (List Item)) → all_items b s ≡ x → by_reply x ≡ accepted l → Reads (b + length s) [] b s l
@@ -47,8 +47,8 @@ unfolding verdict_at by_utf8
 accepted_at b s l h = go (utf8_error b s) refl h
   where
     go : (o : Option ℕ) → utf8_error b s ≡ o → by_utf8 o (by_reply (all_items b s)) ≡ accepted l → AcceptedAt b s l
-    go none e k = record { well_formed = e; reads = read_at b s l (all_items b s) refl k }
-    go (some p) e k = let z : ◌≡◌ {A = ℕ} 0 1 = cc in absurd (omega arith)
+    go None e k = record { well_formed = e; reads = read_at b s l (all_items b s) refl k }
+    go (Some p) e k = let z : ◌≡◌ {A = ℕ} 0 1 = cc in absurd (omega arith)
 
 -- it is read so with the sections after it
 section_reads : (b : ℕ) (s : List ℕ) (ss : List (List ℕ)) (l : List Item) → Cuts (s ∷ ss) → verdict_at b s ≡ accepted l → Reads (b + length s) (joined ss) b (s ++ joined ss) l
@@ -111,11 +111,11 @@ sections_read b (s ∷ ss) c h =
     let z : b + length s + length (joined ss) ≡ b + length (s ++ joined ss) = omega (arith, length-append s (joined ss)) in
     reads_on (section_reads b s ss (items_of (verdict_at b s)) c (accepted_is (verdict_at b s) h.0)) (rw z at (sections_read (b + length s) ss (cuts_tail s ss c) h.1))
 
-nothing_ill : (b : ℕ) → utf8_error b [] ≡ none
+nothing_ill : (b : ℕ) → utf8_error b [] ≡ None
 unfolding utf8_error run fault
 nothing_ill b = refl
 
-sections_well_formed : (b : ℕ) (ss : List (List ℕ)) → EachAt b ss → utf8_error b (joined ss) ≡ none
+sections_well_formed : (b : ℕ) (ss : List (List ℕ)) → EachAt b ss → utf8_error b (joined ss) ≡ None
 unfolding joined
 sections_well_formed b [] h = nothing_ill b
 sections_well_formed b (s ∷ ss) h = utf8_append b s (joined ss) (accepted_at b s _ (accepted_is (verdict_at b s) h.0)).well_formed ∙ sections_well_formed (b + length s) ss h.1
@@ -124,7 +124,7 @@ no_items : (e : ℕ) → all_items e [] ≡ ok [] e []
 unfolding all_items items_within ret
 no_items e = refl
 
-read_whole : (b : ℕ) (u : List ℕ) (l : List Item) → utf8_error b u ≡ none → Reads (b + length u) [] b u l → verdict_at b u ≡ accepted l
+read_whole : (b : ℕ) (u : List ℕ) (l : List Item) → utf8_error b u ≡ None → Reads (b + length u) [] b u l → verdict_at b u ≡ accepted l
 unfolding verdict_at by_utf8 by_reply
 read_whole b u l e k = rw (e, reads_all k, no_items (b + length u), append-nil l) refl
 

@@ -1,6 +1,5 @@
 -- Reading a text.
-use Rattle.std.specs.Prelude.{ℕ, zero, suc, true, false, List, [], ◌∷◌, leb, length}
-use Rattle.std.proofs.Math.Option.{Option, none, some}
+use Rattle.std.specs.Prelude.{ℕ, zero, suc, true, false, List, [], ◌∷◌, leb, length, Option, Some, None}
 use Rattle.lexing.specs.reply.{Reply, ok, fail, stop, Parser, ret, ◌>>=◌}
 use Rattle.lexing.specs.outcomes.{Outcome, refused, fitted}
 use Rattle.lexing.specs.utf8.{utf8_error}
@@ -35,8 +34,8 @@ by_reply (fail p) = turned_down 3 p
 by_reply (stop n p) = turned_down n p
 
 unfoldable pub by_utf8 : Option ℕ → Verdict → Verdict
-by_utf8 none v = v
-by_utf8 (some p) v = turned_down 2 p
+by_utf8 None v = v
+by_utf8 (Some p) v = turned_down 2 p
 
 -- 2, then whichever of 3 to 6 is met first, of bytes from the offset b on
 unfoldable pub verdict_at : ℕ → List ℕ → Verdict

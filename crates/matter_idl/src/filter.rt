@@ -1,29 +1,24 @@
 // A filter before the search for an id: eight bits are set for the id of every global type, so an id that has one of its bits clear is that of none.
-ghost use Rattle.std.specs.Prelude.{◌≡◌, ◌+◌, ◌^◌, ◌≤◌, ◌<◌, length, take, drop};
-ghost use Rattle.matter_idl.specs.inner.bits.{bits_size};
+ghost use Rattle.std.specs.Prelude.{◌≡◌, ◌^◌, ◌<◌};
 ghost use Rattle.matter_idl.specs.inner.filter.{id_bits, hash_of, position_of, MayHoldTo, Added};
 
-use crate::bits::{has_bit, set_bit};
+use crate::bits::Bits;
+
+// The bits of an id.
+const ID_BITS: u32 = 8;
 
 // The id of a type, which is its kind and the bytes of its name, as a number.
-pub fn hash_of(text: &[u8], kind: u8, name: usize, size: usize) -> u64
-    requires { name + size ≤ length text.now }
-    ensures value { result ≡ hash_of kind (take size (drop name text.now)) }
-    ensures upper_bound { result < 2 ^ 32 }
+pub fn hash_of(kind: u8, name: &[u8]) -> u32
+    ensures { result ≡ hash_of kind name.now }
 {
-    let mut h = 0x811c_9dc5 + kind as u64;
-    let mut i = 0;
-    while i < size {
-        h = (h + text[name + i] as u64) * 0x100_0193 % 0x1_0000_0000;
-        i += 1;
-    }
-    h
+    name.iter().fold(0x811c_9dc5 + u32::from(kind), |h, byte| {
+        h.wrapping_add(u32::from(*byte)).wrapping_mul(0x100_0193)
+    })
 }
 
 // The place of the j-th bit of a hash.
-fn position(h: u64, j: u64) -> usize
-    requires h_bound { h < 2 ^ 32 }
-    requires j_lt_id_bits { j < id_bits }
+fn position(h: u32, j: u32) -> usize
+    requires { j < id_bits }
     ensures value { result ≡ position_of h j }
     ensures upper_bound { result < 2 ^ 19 }
 {
@@ -32,30 +27,22 @@ fn position(h: u64, j: u64) -> usize
 }
 
 // Whether all bits of a hash are set.
-pub fn may_hold(filter: &[u8], h: u64) -> bool
-    requires filter_len { length filter.now ≡ bits_size }
-    requires h_bound { h < 2 ^ 32 }
+pub fn may_hold(filter: &Bits, h: u32) -> bool
     ensures { MayHoldTo result filter.now h }
 {
-    let mut j = 0;
-    while j < 8 {
-        if !has_bit(filter, position(h, j)) {
+    for j in 0..ID_BITS {
+        if !filter.has(position(h, j)) {
             return false;
         }
-        j += 1;
     }
     true
 }
 
 // Sets all bits of a hash.
-pub fn add(filter: &mut [u8], h: u64)
-    requires filter_len { length filter.old ≡ bits_size }
-    requires h_bound { h < 2 ^ 32 }
+pub fn add(filter: &mut Bits, h: u32)
     ensures { Added filter.new filter.old h }
 {
-    let mut j = 0;
-    while j < 8 {
-        set_bit(filter, position(h, j));
-        j += 1;
+    for j in 0..ID_BITS {
+        filter.set(position(h, j));
     }
 }

@@ -1,15 +1,19 @@
 // What is called from C, by way of matter_idl_c: byte buffers go in, and one number comes back, that of the refusal in its top 8 bits and its value below; 0 is acceptance, with the bytes written.
 ghost use Rattle.std.specs.Prelude.{◌≡◌, ◌+◌, ◌*◌, ◌≤◌, ◌<◌, length};
+ghost use Rattle.lexing.specs.answers.{number_of};
 ghost use Rattle.lexing.specs.outcomes.{afterwards};
 ghost use Rattle.items.specs.layout.{layout};
 ghost use Rattle.matter_idl.specs.reading.{reading};
 ghost use Rattle.matter_idl.specs.survey.{report_layout, for_catalogue, for_report, survey};
 ghost use Rattle.matter_idl.specs.interface.{format, value_limit, number_unit, answer_of, unescaping};
 
-use crate::reading::{Verdict, verdict_on, write_items};
+use crate::bits::Bits;
+use crate::reading::{verdict_on, write_items};
 use crate::survey::{ENTRY_SIZE, count_accepted, write_sections};
+use crate::text::Text;
 use items::layout::{TEXT_LIMIT, WORD};
-use lexing::unescaping::{Unescaping, unescape};
+use lexing::answers::Refusal;
+use lexing::unescaping::{UnescapeError, unescape};
 
 // The largest value that a result has room for, and one of the number above it.
 const VALUE_LIMIT: usize = 0xff_ffff_ffff_ffff;
@@ -24,19 +28,25 @@ fn packed(number: usize, value: usize) -> u64
     number as u64 * NUMBER_UNIT + value as u64
 }
 
+fn refused(refusal: Refusal, value: usize) -> u64
+    requires { value ≤ value_limit }
+    ensures { result ≡ number_of refusal * number_unit + value }
+{
+    packed(refusal.number(), value)
+}
+
 pub fn matter_idl_read(text: &[u8], catalogue: &mut [u8]) -> u64
     ensures answer_value { result ≡ answer_of (reading layout text.now (length catalogue.old)) }
     ensures catalogue_after { catalogue.new ≡ afterwards (reading layout text.now (length catalogue.old)) catalogue.old }
 {
-    let v = verdict_on(text);
-    match v {
-        Verdict::Refused(number, value) => packed(number, value),
-        Verdict::Accepted(n) => {
+    match verdict_on(text) {
+        Err(r) => refused(r.refusal, r.value),
+        Ok(n) => {
             if catalogue.len() < WORD * n {
-                return packed(7, WORD * n);
+                return refused(Refusal::CatalogueTooShort, WORD * n);
             }
-            let mut filter = [0; 65536];
-            write_items(text, text, 0, catalogue, &mut filter, 0);
+            let mut filter = Bits::new();
+            write_items(Text { bytes: text }, text, 0, catalogue, &mut filter, 0);
             packed(0, WORD * n)
         }
     }
@@ -49,21 +59,22 @@ pub fn matter_idl_survey(text: &[u8], catalogue: &mut [u8], report: &mut [u8]) -
     ensures report_after { report.new ≡ afterwards (for_report (survey layout report_layout text.now (length catalogue.old) (length report.old))) report.old }
 {
     if TEXT_LIMIT < text.len() {
-        return packed(1, TEXT_LIMIT);
+        return refused(Refusal::TextTooLong, TEXT_LIMIT);
     }
-    let mut accepted_bits = [0; 65536];
-    let counted = count_accepted(text, &mut accepted_bits);
+    let whole = Text { bytes: text };
+    let mut accepted_bits = Bits::new();
+    let counted = count_accepted(whole, &mut accepted_bits);
     let sections = counted.sections;
     let words = counted.words;
     if report.len() < ENTRY_SIZE * sections {
-        return packed(8, ENTRY_SIZE * sections);
+        return refused(Refusal::ReportTooShort, ENTRY_SIZE * sections);
     }
     if catalogue.len() < WORD * words {
-        return packed(7, WORD * words);
+        return refused(Refusal::CatalogueTooShort, WORD * words);
     }
-    let mut filter = [0; 65536];
+    let mut filter = Bits::new();
     write_sections(
-        text,
+        whole,
         sections,
         &accepted_bits,
         catalogue,
@@ -78,13 +89,12 @@ pub fn matter_idl_unescape(part: &[u8], output: &mut [u8]) -> u64
     ensures output_after { output.new ≡ afterwards (unescaping part.now (length output.old)) output.old }
 {
     if VALUE_LIMIT < part.len() {
-        return packed(1, VALUE_LIMIT);
+        return refused(Refusal::TextTooLong, VALUE_LIMIT);
     }
-    let r = unescape(part, output);
-    match r {
-        Unescaping::Written(n) => packed(0, n),
-        Unescaping::Fault(p) => packed(9, p),
-        Unescaping::Short(n) => packed(10, n),
+    match unescape(part, output) {
+        Ok(n) => packed(0, n),
+        Err(UnescapeError::Fault(p)) => refused(Refusal::BadEscape, p),
+        Err(UnescapeError::Short(n)) => refused(Refusal::OutputTooShort, n),
     }
 }
 

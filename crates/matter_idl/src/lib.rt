@@ -8,3 +8,4 @@ pub mod interface;
 mod reading;
 mod sections;
 mod survey;
+mod text;

@@ -8,25 +8,44 @@ ghost use Rattle.matter_idl.specs.reading.{all_items};
 ghost use Rattle.matter_idl.specs.answers.reading.{refused_by, VerdictAtTo, VerdictTo};
 ghost use Rattle.matter_idl.specs.inner.reading.{PartOf, HoistedFront, HoistedItemsTo};
 
+use crate::bits::Bits;
 use crate::hoisting::mark_item;
-use items::counts::{Count, count_lost};
+use crate::text::Text;
 use items::items::{count_declaration, write_declaration};
 use items::layout::TEXT_LIMIT;
 use items::writing::Wrote;
-use lexing::answers::Lost;
+use lexing::answers::{Lost, Read, Refusal};
 use lexing::blanks::whitespace0;
 use lexing::parts::rest_at;
-use lexing::utf8::{Utf8, utf8_error};
+use lexing::utf8::utf8_error;
 
-// What a text comes to: the words of its catalogue, or the number of a refusal and the value that goes with it.
+// Why a text is refused, and the value that goes with it.
 #[derive(Clone, Copy)]
-pub enum Verdict {
-    Accepted(usize),
-    Refused(usize, usize),
+pub struct Refused {
+    pub refusal: Refusal,
+    pub value: usize,
 }
 
+// What is lost refuses the text, at its place.
+impl From<Lost> for Refused {
+    ghost from_gives = { λ l r. r ≡ refused_by l };
+
+    fn from(l: Lost) -> Refused {
+        match l {
+            Lost::Fail(value) => Refused {
+                refusal: Refusal::NoItem,
+                value,
+            },
+            Lost::Stop(refusal, value) => Refused { refusal, value },
+        }
+    }
+}
+
+// What a text comes to: the words of its catalogue, or why it is refused.
+pub type Verdict = Result<usize, Refused>;
+
 // The first pass over all items of a part: blanks and a declaration, until the part ends.
-pub fn count_items(part: &[u8], base: usize) -> Count
+pub fn count_items(part: &[u8], base: usize) -> Read<usize>
     requires { base + length part.now ≤ text_limit }
     ensures { CountTo (each unhoisted_item) all_items result base part.now }
 {
@@ -37,24 +56,12 @@ pub fn count_items(part: &[u8], base: usize) -> Count
         let w = whitespace0(rest_at(part, base, c), c);
         let start = w.next;
         if start == end {
-            return Count::Words(n, start);
+            return Ok((n, start));
         }
-        let r = count_declaration(rest_at(part, base, start), start);
-        let Count::Words(k, next) = r else {
-            return r;
-        };
+        let (k, next) = count_declaration(rest_at(part, base, start), start)?;
         c = next;
         n += k;
     }
-}
-
-fn refused_by(l: Lost) -> Verdict
-    ensures { result ≡ refused_by l }
-{
-    if l.cause == 0 {
-        return Verdict::Refused(3, l.place);
-    }
-    Verdict::Refused(l.cause - 1, l.place)
 }
 
 // UTF-8, then the first pass.
@@ -62,15 +69,14 @@ pub fn verdict_at(part: &[u8], base: usize) -> Verdict
     requires { base + length part.now ≤ text_limit }
     ensures { VerdictAtTo result base part.now }
 {
-    let u = utf8_error(part, base);
-    if let Utf8::IllFormed(p) = u {
-        return Verdict::Refused(2, p);
+    if let Some(value) = utf8_error(part, base) {
+        return Err(Refused {
+            refusal: Refusal::NotUtf8,
+            value,
+        });
     }
-    let r = count_items(part, base);
-    let Count::Words(n, _) = r else {
-        return refused_by(count_lost(r));
-    };
-    Verdict::Accepted(n)
+    let (n, _) = count_items(part, base)?;
+    Ok(n)
 }
 
 // The limit before them, for a whole text.
@@ -78,25 +84,27 @@ pub fn verdict_on(text: &[u8]) -> Verdict
     ensures { VerdictTo result text.now }
 {
     if TEXT_LIMIT < text.len() {
-        return Verdict::Refused(1, TEXT_LIMIT);
+        return Err(Refused {
+            refusal: Refusal::TextTooLong,
+            value: TEXT_LIMIT,
+        });
     }
     verdict_at(text, 0)
 }
 
 // The second pass over all items of a part of the text, after the records of earlier items: each item's records are marked as soon as they are written.
 pub fn write_items(
-    text: &[u8],
+    text: Text,
     part: &[u8],
     base: usize,
     out: &mut [u8],
-    filter: &mut [u8],
+    filter: &mut Bits,
     at: usize,
 ) -> Wrote
-    requires text_len_bound { length text.now ≤ text_limit }
-    requires part_of { PartOf text.now base part.now }
+    requires part_of { PartOf text.bytes.now base part.now }
     requires room { Room (each unhoisted_item) all_items base part.now at (length out.old) }
-    requires hoisted_front { HoistedFront text.now out.old filter.old at }
-    ensures { HoistedItemsTo out.new filter.new text.now out.old filter.old at base part.now result }
+    requires hoisted_front { HoistedFront text.bytes.now out.old filter.old at }
+    ensures { HoistedItemsTo out.new filter.new text.entry.bytes.now out.old filter.old at base part.now result }
 {
     let end = base + part.len();
     let mut c = base;

@@ -19,31 +19,17 @@ fn is_cut(text: &[u8], i: usize) -> bool
     (text[i - 1] == b'\n') & (text[i] == b'}')
 }
 
-// Whether a cut is after one of four bytes.
-fn cut_4(part: &[u8], i: usize) -> bool
-    requires le_i { 1 ≤ i }
-    requires i_in_bounds { i + 4 ≤ length part.now }
-    ensures { Cutless result part.now i 4 }
-{
-    is_cut(part, i) | is_cut(part, i + 1) | is_cut(part, i + 2) | is_cut(part, i + 3)
-}
-
-// Whether a cut is after one of sixteen bytes.
-fn cut_16(part: &[u8], i: usize) -> bool
-    requires le_i { 1 ≤ i }
-    requires i_in_bounds { i + 16 ≤ length part.now }
-    ensures { Cutless result part.now i 16 }
-{
-    cut_4(part, i) | cut_4(part, i + 4) | cut_4(part, i + 8) | cut_4(part, i + 12)
-}
-
 // Whether a cut is after one of sixty-four bytes, which the compiler compares by vectors.
 fn cut_64(part: &[u8], i: usize) -> bool
     requires le_i { 1 ≤ i }
     requires i_in_bounds { i + 64 ≤ length part.now }
     ensures { Cutless result part.now i 64 }
 {
-    cut_16(part, i) | cut_16(part, i + 16) | cut_16(part, i + 32) | cut_16(part, i + 48)
+    let mut found = false;
+    for j in 0..64 {
+        found |= is_cut(part, i + j);
+    }
+    found
 }
 
 // How many bytes are passed 64 at a time with no cut among them; the first is passed too, since no cut is after it.
@@ -51,12 +37,9 @@ fn cutless(part: &[u8]) -> usize
     requires { length part.now ≤ text_limit }
     ensures { Uncut part.now result }
 {
-    let part = &part[..];
     let mut i = 1;
-    while i + 64 <= part.len() {
-        if cut_64(part, i) {
-            return i;
-        }
+    // Not a `for`: the answer is where the steps of 64 end.
+    while i + 64 <= part.len() && !cut_64(part, i) {
         i += 64;
     }
     i
@@ -67,15 +50,13 @@ pub fn first_section(part: &[u8], base: usize) -> Section
     requires { base + length part.now ≤ text_limit }
     ensures { FirstSection result base part.now }
 {
-    let mut i = cutless(part);
-    while i < part.len() {
+    for i in cutless(part)..part.len() {
         if is_cut(part, i) {
             return Section {
                 end: base + i + 1,
                 last: false,
             };
         }
-        i += 1;
     }
     Section {
         end: base + part.len(),

@@ -22,11 +22,10 @@ pub extern "C" fn token_keyword(text: &[u8], key: &[u8]) -> usize
     ensures { result ≡ after_keyword key.now text.now }
 {
     if lexing::words::is_key(key) {
-        let r = lexing::words::keyword(text, 0, key);
-        let lexing::answers::Step::Next(c) = r else {
-            return 0xffff_ffff_ffff_ffff;
+        return match lexing::words::keyword(text, 0, key) {
+            Ok(c) => c,
+            Err(_) => usize::MAX,
         };
-        return c;
     }
-    0xffff_ffff_ffff_ffff
+    usize::MAX
 }

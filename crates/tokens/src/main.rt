@@ -5,12 +5,11 @@
 ghost use Rattle.std.specs.Prelude.{◌+◌, ◌≤◌, length};
 ghost use Rattle.lexing.specs.integers.{u64_max};
 
-use lexing::answers::{Lost, Step};
-use lexing::blanks::{Blank, DocSpan, Gap};
-use lexing::integers::{Number, SignedNumber};
-use lexing::unescaping::Unescaping;
-use lexing::utf8::Utf8;
-use lexing::word_sets::WordSet;
+use lexing::answers::{Lost, Read, Step};
+use lexing::blanks::Blank;
+use lexing::integers::SignedParts;
+use lexing::unescaping::UnescapeError;
+use lexing::word_sets::{KeywordSet, WordSet, keywords_set};
 use std::io;
 
 fn print_number(out: &impl Print, label: &[u8], n: usize) -> io::Result<()> {
@@ -19,84 +18,85 @@ fn print_number(out: &impl Print, label: &[u8], n: usize) -> io::Result<()> {
 }
 
 fn print_lost(out: &impl Print, l: Lost) -> io::Result<()> {
-    if l.cause == 0 {
-        return print_number(out, b" fail ", l.place);
+    match l {
+        Lost::Fail(place) => print_number(out, b" fail ", place),
+        Lost::Stop(refusal, place) => {
+            print_number(out, b" stop ", refusal.number())?;
+            print_number(out, b" at ", place)
+        }
     }
-    print_number(out, b" stop ", l.cause - 1)?;
-    print_number(out, b" at ", l.place)
 }
 
 fn print_step(out: &impl Print, r: Step) -> io::Result<()> {
     match r {
-        Step::Next(c) => print_number(out, b" next ", c),
-        Step::Not(l) => print_lost(out, l),
+        Ok(c) => print_number(out, b" next ", c),
+        Err(l) => print_lost(out, l),
     }
 }
 
 fn print_blank(out: &impl Print, b: Blank) -> io::Result<()> {
-    let doc = b.doc;
     print_number(out, b" next ", b.next)?;
-    match doc {
-        DocSpan::Absent => Ok(()),
-        DocSpan::At(o, n) => {
-            print_number(out, b" doc ", o)?;
-            print_number(out, b" length ", n)
+    match b.doc {
+        None => Ok(()),
+        Some(doc) => {
+            print_number(out, b" doc ", doc.offset)?;
+            print_number(out, b" length ", doc.size)
         }
     }
 }
 
-fn print_gap(out: &impl Print, r: Gap) -> io::Result<()> {
+fn print_gap(out: &impl Print, r: Result<Blank, Lost>) -> io::Result<()> {
     match r {
-        Gap::Passed(b) => print_blank(out, b),
-        Gap::NoGap(l) => print_lost(out, l),
+        Ok(b) => print_blank(out, b),
+        Err(l) => print_lost(out, l),
     }
 }
 
-fn print_integer(out: &impl Print, r: Number) -> io::Result<()> {
+fn print_integer(out: &impl Print, r: Read<u64>) -> io::Result<()> {
     match r {
-        Number::Value(v, c) => {
+        Ok((v, c)) => {
             print!(out; " value {v}")?;
             print_number(out, b" next ", c)
         }
-        Number::NoNumber(l) => print_lost(out, l),
+        Err(l) => print_lost(out, l),
     }
 }
 
-fn print_signed(out: &impl Print, r: SignedNumber) -> io::Result<()> {
+fn print_signed(out: &impl Print, r: Read<SignedParts>) -> io::Result<()> {
     match r {
-        SignedNumber::Sized(negative, v, c) => {
-            if negative {
+        Ok((signed, c)) => {
+            if signed.negative {
                 out.write_all(b" minus ")?;
             } else {
                 out.write_all(b" plus ")?;
             }
+            let v = signed.magnitude;
             print!(out; "{v}")?;
             print_number(out, b" next ", c)
         }
-        SignedNumber::NoSigned(l) => print_lost(out, l),
+        Err(l) => print_lost(out, l),
     }
 }
 
-fn print_utf8(out: &impl Print, r: Utf8) -> io::Result<()> {
+fn print_utf8(out: &impl Print, r: Option<usize>) -> io::Result<()> {
     match r {
-        Utf8::WellFormed => out.write_all(b" well-formed"),
-        Utf8::IllFormed(p) => print_number(out, b" ill-formed at ", p),
+        None => out.write_all(b" well-formed"),
+        Some(p) => print_number(out, b" ill-formed at ", p),
     }
 }
 
 fn print_set(out: &impl Print, r: WordSet) -> io::Result<()> {
-    print_number(out, b" flags ", r.flags as usize)?;
+    print_number(out, b" flags ", usize::from(r.flags))?;
     print_number(out, b" next ", r.next)
 }
 
 // Into eight bytes of output.
 fn print_unescaped(out: &impl Print, text: &[u8]) -> io::Result<()> {
     let mut output = [b'.'; 8];
-    let r = lexing::unescaping::unescape(text, &mut output);
-    match r {
-        Unescaping::Written(n) => print_number(out, b" written ", n)?,
-        Unescaping::Fault(p) => print_number(out, b" fault ", p)?,
-        Unescaping::Short(n) => print_number(out, b" short ", n)?,
+    match lexing::unescaping::unescape(text, &mut output) {
+        Ok(n) => print_number(out, b" written ", n)?,
+        Err(UnescapeError::Fault(p)) => print_number(out, b" fault ", p)?,
+        Err(UnescapeError::Short(n)) => print_number(out, b" short ", n)?,
     }
     out.write_all(b" <")?;
     out.write_all(&output)?;
@@ -118,20 +118,19 @@ fn print_answer(out: &impl Print, reader: u8, part: &[u8], base: usize) -> io::R
         b'a' => print_step(out, lexing::strings::quoted_string(part, base)),
         b'd' => print_step(out, lexing::strings::default_string(part, base)),
         b'u' => print_utf8(out, lexing::utf8::utf8_error(part, base)),
-        b'0'..=b'4' => print_set(
-            out,
-            lexing::word_sets::keywords_set(part, base, reader - b'0'),
-        ),
+        b'0' => print_set(out, keywords_set(part, base, KeywordSet::Field)),
+        b'1' => print_set(out, keywords_set(part, base, KeywordSet::Struct)),
+        b'2' => print_set(out, keywords_set(part, base, KeywordSet::Event)),
+        b'3' => print_set(out, keywords_set(part, base, KeywordSet::Command)),
+        b'4' => print_set(out, keywords_set(part, base, KeywordSet::Attribute)),
         _ => out.write_all(b" no such reader"),
     }
 }
 
 // A letter from A to Z hands the reader the part after the text's first three bytes.
 fn print_part(out: &impl Print, letter: u8, text: &[u8]) -> io::Result<()> {
-    if lexing::bytes::is_between(b'A', b'Z', letter) {
-        if 3 <= text.len() {
-            return print_answer(out, lexing::bytes::lower_of(letter), &text[3..], 3);
-        }
+    if letter.is_ascii_uppercase() && 3 <= text.len() {
+        return print_answer(out, letter.to_ascii_lowercase(), &text[3..], 3);
     }
     print_answer(out, letter, text, 0)
 }
@@ -147,8 +146,7 @@ fn print_line(out: &impl Print, line: &[u8]) -> io::Result<()> {
         print_unescaped(out, raw)?;
         return out.write_all(b"\n");
     }
-    let r = lexing::unescaping::unescape(raw, &mut text);
-    let Unescaping::Written(n) = r else {
+    let Ok(n) = lexing::unescaping::unescape(raw, &mut text) else {
         return out.write_all(b" no text\n");
     };
     print_part(out, letter, lines::front(&text, n))?;
@@ -156,16 +154,8 @@ fn print_line(out: &impl Print, line: &[u8]) -> io::Result<()> {
 }
 
 fn print_lines(out: &impl Print, lines: &[u8]) -> io::Result<()> {
-    let mut at = 0;
-    while at < lines.len() {
-        let rest = lexing::parts::rest_at(lines, 0, at);
-        let n = lines::line_length(rest);
-        print_line(out, &rest[..n])?;
-        at += n;
-        if at == lines.len() {
-            return Ok(());
-        }
-        at += 1;
+    for line in lines.split_inclusive(|byte| *byte == b'\n') {
+        print_line(out, line.strip_suffix(b"\n").unwrap_or(line))?;
     }
     Ok(())
 }

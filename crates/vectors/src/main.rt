@@ -2,7 +2,7 @@
 // a survey, `@` and the bytes of its catalogue, then `+` and those of its report. A line whose answer is another comes back; last come the number of texts and of those that differ.
 #![tactic(auto)]
 
-ghost use Rattle.std.specs.Prelude.{◌≤◌, ◌≡◌, IfOk, length};
+ghost use Rattle.std.specs.Prelude.{◌≤◌, ◌≡◌, length};
 
 use std::io;
 
@@ -13,13 +13,11 @@ const FILL: u8 = 0xa5;
 fn digit(b: u8) -> u8
     ensures { result ≤ 15 }
 {
-    if b < b'a' {
-        return b % 16;
+    match b {
+        b'a'..=b'f' => b - b'a' + 10,
+        b'g'.. => 0,
+        _ => b % 16,
     }
-    if b <= b'f' {
-        return b - b'a' + 10;
-    }
-    0
 }
 
 fn byte_of(high: u8, low: u8) -> u8 {
@@ -28,35 +26,19 @@ fn byte_of(high: u8, low: u8) -> u8 {
 
 // Puts the bytes that pairs of digits stand for at the start of a buffer, as many as fit, and answers how many they are.
 fn decode(digits: &[u8], out: &mut [u8]) -> usize {
-    let mut n = 0;
-    while n < out.len() {
-        if digits.len() / 2 <= n {
-            return n;
-        }
-        out[n] = byte_of(digits[2 * n], digits[2 * n + 1]);
-        n += 1;
+    for (byte, pair) in out.iter_mut().zip(digits.chunks_exact(2)) {
+        *byte = byte_of(pair[0], pair[1]);
     }
-    n
+    out.len().min(digits.len() / 2)
 }
 
 // How many digits are at the front: up to the sign after a text or a catalogue.
 fn digits_length(line: &[u8]) -> usize
     ensures { result ≤ length line.now }
 {
-    let mut i = 0;
-    while i < line.len() {
-        if line[i] < b'0' {
-            return i;
-        }
-        if line[i] == b'=' {
-            return i;
-        }
-        if line[i] == b'@' {
-            return i;
-        }
-        i += 1;
-    }
-    i
+    line.iter()
+        .position(|byte| *byte < b'0' || *byte == b'=' || *byte == b'@')
+        .unwrap_or(line.len())
 }
 
 // What is after the digits at the front and the sign.
@@ -64,64 +46,32 @@ fn after_digits(line: &[u8]) -> &[u8] {
     lexing::parts::after(lexing::parts::after(line, digits_length(line)), 1)
 }
 
-fn same(a: &[u8], b: &[u8]) -> bool {
-    if a.len() != b.len() {
-        return false;
-    }
-    let mut i = 0;
-    while i < a.len() {
-        if a[i] != lexing::parts::peek(b, i) {
-            return false;
-        }
-        i += 1;
-    }
-    true
-}
-
 fn is_untouched(bytes: &[u8]) -> bool {
-    let mut i = 0;
-    while i < bytes.len() {
-        if bytes[i] != FILL {
-            return false;
-        }
-        i += 1;
-    }
-    true
+    bytes.iter().all(|byte| *byte == FILL)
 }
 
 // Whether a text was accepted with the wanted catalogue, and nothing after it is written.
 fn is_accepted(answer: u64, catalogue: &[u8], wanted: &[u8]) -> bool {
     let n = wanted.len();
-    if answer != n as u64 {
-        return false;
-    }
-    if same(lines::front(catalogue, n), wanted) {
-        return is_untouched(lexing::parts::after(catalogue, n));
-    }
-    false
+    answer == n as u64
+        && lines::front(catalogue, n) == wanted
+        && is_untouched(lexing::parts::after(catalogue, n))
 }
 
 // Whether a text was refused with the wanted result, and nothing is written.
 fn is_refused(answer: u64, catalogue: &[u8], wanted: &[u8]) -> bool {
-    let mut word = [0u8; 8];
-    lexing::buffers::put_word(&mut word, 0, answer);
-    if same(&word, wanted) {
-        return is_untouched(catalogue);
-    }
-    false
+    answer.to_be_bytes().as_slice() == wanted && is_untouched(catalogue)
 }
 
 // Reading: a catalogue or a refusal is wanted.
 fn is_read(text: &[u8], sign: u8, wanted: &[u8]) -> bool {
     let mut catalogue = [FILL; 512];
     let result = matter_idl::interface::matter_idl_read(text, &mut catalogue);
-    if sign == b'=' {
-        return is_accepted(result, &catalogue, wanted);
+    match sign {
+        b'=' => is_accepted(result, &catalogue, wanted),
+        b'!' => is_refused(result, &catalogue, wanted),
+        _ => false,
     }
-    if sign == b'!' {
-        return is_refused(result, &catalogue, wanted);
-    }
-    false
 }
 
 // The survey: the digits of a catalogue and a report are wanted.
@@ -153,16 +103,14 @@ fn holds(line: &[u8]) -> bool {
     is_read(lines::front(&text, size), sign, lines::front(&wanted, n))
 }
 
-// How many lines differ: 1 or 0.
-fn replay(out: &impl Print, line: &[u8]) -> io::Result<usize>
-    ensures { IfOk result (λ n. n ≤ 1) }
-{
+// Whether a line's answer is another than the wanted one; then it comes back.
+fn differs(out: &impl Print, line: &[u8]) -> io::Result<bool> {
     if holds(line) {
-        return Ok(0);
+        return Ok(false);
     }
     out.write_all(line)?;
     out.write_all(b"\n")?;
-    Ok(1)
+    Ok(true)
 }
 
 fn print_counts(out: &impl Print, texts: usize, differ: usize) -> io::Result<()> {
@@ -173,10 +121,11 @@ fn replay_lines(out: &impl Print, input: &[u8]) -> io::Result<()> {
     let mut at = 0;
     let mut texts = 0;
     let mut differ = 0;
+    // Not `split_inclusive`, as elsewhere: the sums need a bound by the input's length, and over that iterator their proof does not close.
     while at < input.len() {
         let rest = lexing::parts::rest_at(input, 0, at);
         let n = lines::line_length(rest);
-        differ += replay(out, lines::front(rest, n))?;
+        differ += usize::from(differs(out, lines::front(rest, n))?);
         texts += 1;
         at += n;
         if at < input.len() {

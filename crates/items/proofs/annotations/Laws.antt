@@ -1,85 +1,69 @@
 -- Annotations: one by one, in brackets, and after the code of an entry.
-use mathlib.Core.Path.{◌≡◌, refl, sym, ap, ◌∙◌, subst}
+use Rattle.items.specs.declared.maturity.Maturity.TheVariants.{Stable}
+use Rattle.items.specs.declared.levels.Privilege.TheVariants.{View}
+use Rattle.lexing.specs.declared.answers.Lost.TheVariants.{Stop}
+use Rattle.std.specs.Prelude.{Ok, Err}
+use mathlib.Core.Path.{◌≡◌, refl, sym, ap, ◌∙◌}
 use mathlib.Core.List.{List, [], ◌∷◌, map}
 use mathlib.Core.Option.{Option, none, some}
 use Prim.Native.Nat.{ℕ, suc, ◌+◌, ◌-◌, ◌*◌, ◌≤◌, ◌<◌}
 use native.Mathlib.Omega.{arith}
 use lib.ListN.{length, drop}
 use Rattle.lexing.specs.reply.{Reply, ok, fail, stop, Parser, ret, ◌>>=◌, ◌>>◌, opt, many0}
-use Rattle.lexing.specs.words.{Word, tag}
+use Rattle.lexing.specs.words.{tag}
 use Rattle.lexing.specs.strings.{annotation_escape, quoted_string}
 use Rattle.lexing.specs.blanks.{Doc, whitespace0}
 use Rattle.lexing.specs.buffers.{each, words_bytes, put}
-use Rattle.lexing.specs.answers.{Rest, lost_reply, span_to, string_reply, Stop}
+use Rattle.lexing.specs.answers.{Rest, lost_reply, span_to, string_reply, Read, number_of}
 use Rattle.lexing.specs.declared.answers.Lost.{Lost}
-use Rattle.lexing.specs.declared.answers.Step.{Step}
-use Rattle.lexing.specs.declared.answers.Step.TheVariants.{Next}
 use Rattle.lexing.proofs.Losses.{by_lost}
 use Rattle.lexing.proofs.Onward.{Onward}
 use Rattle.lexing.proofs.Locality.{chain_many0}
 use Rattle.lexing.proofs.TokenLocality.{whitespace0_chain}
 use Rattle.lexing.proofs.TokenPlaces.{quoted_string_place}
-use Rattle.lexing.proofs.Slicing.{Took, took, walks, rest_self, rest_from, rebase, told_next, string_took, begin, on, fall}
-use Rattle.lexing.proofs.AnswerLaws.{read_within, read_took, read_lost}
-use Rattle.lexing.proofs.WordBetween.{word_moved}
+use Rattle.lexing.proofs.Slicing.{Took, took, walks, rest_self, rest_from, rebase, string_took, begin, on, fall}
 use Rattle.lexing.proofs.answers.Laws.{opt_ok, opt_fail, opt_stop}
 use Rattle.items.specs.entries.{Annotation, constant_annotation, blank_annotation, annotations_in_brackets, constant_annotations_list, annotations_of}
 use Rattle.items.specs.records.{span_extent, plain, annotation_record}
 use Rattle.items.specs.layout.{packed, width, from_top, offset, size, further_word, word_count, catalogue_words, catalogue_bytes, record_words, layout, text_limit}
-use Rattle.items.specs.answers.{first_of, word_of_span, CountTo, count_end, count_lost, Room, Written}
-use Rattle.items.specs.inner.annotations.{annotation_at, annotation_lost, AnnotationBetween, AnnotationTo, optional_records, entry_list, list_read, list_at, annotations_at, annotation_parts}
-use Rattle.items.specs.declared.counts.Count.{Count}
-use Rattle.items.specs.declared.counts.Count.TheVariants.{Words, NoCount}
+use Rattle.items.specs.answers.{first_of, word_of_span, CountTo, count_end, Room, Written}
+use Rattle.items.specs.inner.annotations.{annotation_at, AnnotationBetween, AnnotationTo, optional_records, entry_list, list_read, list_at, annotations_at, annotation_parts}
 use Rattle.items.specs.declared.annotations.AnnotationParts.{AnnotationParts}
-use Rattle.items.specs.declared.annotations.AnnotationRead.{AnnotationRead}
-use Rattle.items.specs.declared.annotations.AnnotationRead.TheVariants.{Read, NoAnnotation}
 use Rattle.items.specs.declared.writing.Wrote.{Wrote}
 use Rattle.items.proofs.Locality.{optional_comma_chain, blank_annotation_chain, blank_annotation_consumes, constant_annotations_list_inside}
 use Rattle.items.proofs.Blanks.{read_after}
 use Rattle.items.proofs.Braces.{taken, then_value, follows, rest_is, lost_not}
 use Rattle.items.proofs.WordBetween.{extent_between}
-use Rattle.items.proofs.RecordWords.{Elements, word_count_none}
-use Rattle.items.proofs.counts.Laws.{count_is, count_not, count_value, count_lost_lem}
+use Rattle.items.specs.inner.runs.{Repeats}
+use Rattle.items.proofs.RecordWords.{map_elementwise, word_count_none}
+use Rattle.items.proofs.counts.Laws.{count_is, count_not, count_value, count_lost}
 use Rattle.items.proofs.writing.Laws.{plain_bytes}
+use Rattle.items.specs.declared.layout.Kind.TheVariants.{Annotation as a_annotation}
 
 -- the string of a value
-pub quoted_took : {b n : ℕ} {u r : List ℕ} {a : Step} {c : ℕ} → Rest b u n r → a ≡ Next c → string_reply a n r ≡ quoted_string n r → Took quoted_string b u n (span_to n c) c
+pub quoted_took : {b n : ℕ} {u r : List ℕ} {c : ℕ} → Rest b u n r → string_reply (Ok c) n r ≡ quoted_string n r → Took quoted_string b u n (span_to n c) c
 unfolding quoted_string
-quoted_took q e h = string_took q e annotation_escape h
+quoted_took q h = string_took q annotation_escape h
 
 -- both its quotes were read
-pub quoted_long : (n : ℕ) (r : List ℕ) {a : Step} {c : ℕ} → a ≡ Next c → string_reply a n r ≡ quoted_string n r → suc n < c
-quoted_long n r {a} {c} e h = rw (← told_next (span_to n) a c n r (quoted_string n r) e h) at (quoted_string_place n r)
+pub quoted_long : (n : ℕ) (r : List ℕ) {c : ℕ} → string_reply (Ok c) n r ≡ quoted_string n r → suc n < c
+quoted_long n r h = rw (← h) at (quoted_string_place n r)
 
 pub comma_onward : Onward (opt (tag 44))
 comma_onward = walks optional_comma_chain
 
 -- An annotation reads the blanks before it itself.
-blank_annotation_onward : Onward blank_annotation
-blank_annotation_onward = walks blank_annotation_chain
-
-pub annotation_after : {b : ℕ} {u : List ℕ} {a : AnnotationRead} → AnnotationTo constant_annotation a b u → AnnotationTo blank_annotation a b u
+pub annotation_after : {b : ℕ} {u : List ℕ} {a : Read AnnotationParts} → AnnotationTo constant_annotation a b u → AnnotationTo blank_annotation a b u
 unfolding blank_annotation constant_annotation
 annotation_after h = read_after _ _ _ h
-
--- the same bytes, seen from the part's start
-annotation_moved : (b n : ℕ) (u r : List ℕ) (a : AnnotationParts) → Rest b u n r → n ≤ a.key → annotation_at n r a ≡ annotation_at b u a
-annotation_moved b n u r a q h = ap (λ (w : Word). record { key = w; value = span_to a.quote a.after }) (word_moved b n u r a.key a.end q h)
-
-module _ {b n : ℕ} {u r : List ℕ} {a : AnnotationRead} (q : Rest b u n r) (h : AnnotationTo blank_annotation a n r) where
-  pub annotation_took : (e : AnnotationParts) (c : ℕ) → a ≡ Read e c → Took blank_annotation b u n (annotation_at b u e) c
-  annotation_took e c d = rw (← annotation_moved b n u r e q (read_within h d).from) (read_took h d blank_annotation_onward q refl)
-
-  pub annotation_lost_lem : (l l' : Lost) → l' ≡ annotation_lost a → a ≡ NoAnnotation l → lost_reply l' ≡ blank_annotation n r
-  annotation_lost_lem l l' e d = read_lost h d annotation_lost e refl
 
 -- two words each
 pub annotation_words : (a : Annotation) → word_count layout (annotation_record a ∷ []) ≡ 2
 unfolding word_count catalogue_words each record_words layout annotation_record plain
 annotation_words a = refl
 
-pub annotation_elements : Elements annotation_record blank_annotation 2
-annotation_elements = record { takes = blank_annotation_consumes; words = annotation_words; few = omega arith }
+pub annotations_repeat : Repeats (map annotation_record) (λ a. annotation_record a ∷ []) blank_annotation annotation_at (λ u. AnnotationBetween) (λ a. 2)
+annotations_repeat = record { takes = blank_annotation_consumes; chain = blank_annotation_chain; elementwise = map_elementwise annotation_record; words = λ b c u a h. annotation_words _; few = λ b c u a h v. omega (arith, v) }
 
 pub annotations_onward : Onward (many0 blank_annotation)
 annotations_onward = walks (chain_many0 blank_annotation_chain)
@@ -88,24 +72,22 @@ pub annotations_list_onward : Onward constant_annotations_list
 annotations_list_onward = walks constant_annotations_list_inside.on_chain
 
 -- A list that may be absent.
-pub list_counted : {r : Count} {n c b : ℕ} {u : List ℕ} → r ≡ Words n c → CountTo (map annotation_record) annotations_in_brackets r b u → CountTo optional_records constant_annotations_list r b u
+pub list_counted : {n c b : ℕ} {u : List ℕ} → CountTo (map annotation_record) annotations_in_brackets (Ok (n, c)) b u → CountTo optional_records constant_annotations_list (Ok (n, c)) b u
 unfolding constant_annotations_list annotations_of
-list_counted {r} {n} {c} {b} {u} e h =
-    let k = subst (λ (x : Count). CountTo (map annotation_record) annotations_in_brackets x b u) e h in
-    let s = count_value (map annotation_record) annotations_in_brackets b u n c k in
-    subst (λ (x : Count). CountTo optional_records constant_annotations_list x b u) (sym e)
-    (count_is optional_records constant_annotations_list b u (some s.value) n c s.words k.few (opt_ok annotations_in_brackets b u s.value c (drop (c - b) u) s.is))
+list_counted {n} {c} {b} {u} h =
+    let s = count_value (map annotation_record) annotations_in_brackets b u n c h in
+    count_is optional_records constant_annotations_list b u (some s.value) n c s.words h.few (opt_ok annotations_in_brackets b u s.value c (drop (c - b) u) s.is)
 
-pub list_given_up : {r t : Count} {l l' : Lost} {b : ℕ} {u : List ℕ} → l' ≡ count_lost r → r ≡ NoCount l → t ≡ count_end l' 0 b → CountTo (map annotation_record) annotations_in_brackets r b u → CountTo optional_records constant_annotations_list t b u
+pub list_given_up : {t : Read ℕ} {l : Lost} {b : ℕ} {u : List ℕ} → t ≡ count_end l 0 b → CountTo (map annotation_record) annotations_in_brackets (Err l) b u → CountTo optional_records constant_annotations_list t b u
 unfolding constant_annotations_list annotations_of word_count catalogue_words each
-list_given_up {r} {t} {l} {l'} {b} {u} f e d h =
-    rw (d, f ∙ ap count_lost e) (
+list_given_up {t} {l} {b} {u} d h =
+    rw d (
     by_lost
     (λ l. lost_reply l ≡ annotations_in_brackets b u → CountTo optional_records constant_annotations_list (count_end l 0 b) b u)
     (λ p z. count_is optional_records constant_annotations_list b u none 0 b refl (omega arith) (ap (λ v. ok none b v) (sym (rest_self b u).same) ∙ opt_fail annotations_in_brackets b u p z))
-    (λ i p z. count_not optional_records constant_annotations_list b u (Stop i p) (opt_stop annotations_in_brackets b u i p z))
+    (λ i p z. count_not optional_records constant_annotations_list b u (Stop i p) (opt_stop annotations_in_brackets b u (number_of i) p z))
     l
-    (count_lost_lem l e b u h)
+    (count_lost b u h)
     )
 
 -- After the code of an entry: what is read there, by the steps that read it.
@@ -121,13 +103,13 @@ list_stopped {b} {u = u} t e = ap list_read (sym (begin entry_list b u (on _ t e
 
 -- the two words of an annotation's record, one after the other
 pub put_annotation : (a : AnnotationParts) (p w v : ℕ) (l l₁ : List ℕ)
-    → w ≡ first_of (record { kind = 17; place = 0; maturity = 0; doc_present = 0; flags = 0; name = a.key; name_length = a.end - a.key; first_privilege = 0; second_privilege = 0 })
+    → w ≡ first_of (record { kind = a_annotation; place = 0; maturity = Stable; doc_present = 0; flags = 0; name = a.key; name_length = a.end - a.key; first_privilege = View; second_privilege = View })
     → v ≡ word_of_span (a.quote + 1) (a.after - 1 - (a.quote + 1))
     → l₁ ≡ put p (words_bytes (w ∷ v ∷ [])) l → l₁ ≡ put p (catalogue_bytes layout (annotation_parts a ∷ [])) l
 unfolding from_top packed width offset size layout further_word
 put_annotation a p w v l l₁ z y e =
     let s : a.quote + 1 ≡ suc a.quote = omega arith in
-    e ∙ ap (λ (k : List ℕ). put p k l) (rw (z, y, s) (sym (plain_bytes 17 0 [] _ _ 0 refl)))
+    e ∙ ap (λ (k : List ℕ). put p k l) (rw (z, y, s) (sym (plain_bytes a_annotation Stable [] _ _ 0 refl)))
 
 -- the record of an annotation that was read
 pub annotation_is : {b c d : ℕ} {u r : List ℕ} (a : AnnotationParts) → Rest b u c r → AnnotationBetween c a d → d ≤ b + length u → annotation_parts a ≡ annotation_record (annotation_at b u a)

@@ -1,4 +1,8 @@
 -- Lists of privileges, and attributes.
+use Rattle.items.specs.declared.attributes.Privileges.{Privileges}
+use Rattle.lexing.specs.declared.answers.Refusal.TheVariants.{AccessNotLower}
+use Rattle.lexing.specs.declared.answers.Lost.TheVariants.{Fail, Stop}
+use Rattle.std.specs.Prelude.{Ok, Err, Option as CodeOption, Some, None}
 use mathlib.Core.Path.{◌≡◌, refl, sym, ap, ◌∙◌, subst, fun_ext}
 use mathlib.Core.Logic.{◌⊎◌, inl, inr}
 use mathlib.Core.Bool.{Bool, true, false}
@@ -12,17 +16,15 @@ use Rattle.lexing.specs.reply.{Reply, ok, fail, stop, Parser, ret, ◌>>=◌, �
 use Rattle.lexing.specs.words.{Word, bytes_of, offset_of, is_keyword, is_lower, keyword, any_keyword, tag}
 use Rattle.lexing.specs.blanks.{Doc, whitespace0}
 use Rattle.lexing.specs.word_sets.{same_bytes}
-use Rattle.lexing.specs.answers.{Rest, lost_reply, reply, word_at, word_reply, SkipsAt, Fail, Stop}
+use Rattle.lexing.specs.answers.{Rest, lost_reply, word_at, word_reply, SkipsAt}
 use Rattle.lexing.specs.declared.answers.Lost.{Lost}
-use Rattle.lexing.specs.declared.answers.Step.{Step}
-use Rattle.lexing.specs.declared.answers.Step.TheVariants.{Next, Not}
 use Rattle.lexing.proofs.Losses.{by_lost}
 use Rattle.lexing.proofs.Onward.{Onward}
 use Rattle.lexing.proofs.FirstWord.{blank_clear}
 use Rattle.lexing.proofs.Locality.{OnChain, Consumes, chain_ret, chain_bind, chain_then, chain_inside, chain_opt, consumes_right, consumes_then_left, consumes_then_right}
 use Rattle.lexing.proofs.TokenLocality.{keyword_chain, any_keyword_chain, keyword_consumes, whitespace0_chain, whitespace1_chain, set_flags_chain}
 use Rattle.lexing.proofs.Pairs.{bind_same, bind_assoc, ret_first, pair_on, pair_fall}
-use Rattle.lexing.proofs.Slicing.{Took, took, walks, reads_in, told_next, rest_self, blank_took, begin, go, on, lose, fall, done, or_here, or_next}
+use Rattle.lexing.proofs.Slicing.{Took, took, walks, reads_in, rest_self, blank_took, begin, go, on, lose, fall, done, or_here, or_next}
 use Rattle.lexing.proofs.Repetition.{before, many0_more, many0_fail, before_cons}
 use Rattle.lexing.proofs.blanks.Laws.{blanks_none}
 use Rattle.lexing.proofs.words.Laws.{keyword_says, key_differs}
@@ -31,26 +33,16 @@ use Rattle.lexing.specs.buffers.{each, words_bytes, put}
 use Rattle.items.specs.records.{Record, plain, documented, field_record, attribute_records, absent, bits}
 use Rattle.items.specs.layout.{layout, record_words, catalogue_words, word_count, packed, width, from_top, offset, size, catalogue_bytes}
 use Rattle.items.specs.answers.{Front, front_of, first_of, doc_span_word, doc_span_bit, Room, Written}
-use Rattle.items.specs.inner.attributes.{SmallPrivileges, PrivilegesTo, access_words, operation_of, operation_answer, operation_means, OperationTo, grants_with, with_entry, grants_from, grants_small, grants_after, AccessEntryTo, no_grants, AccessEntriesTo, AttributeHeadOf, attribute_head, attribute_head_of, attribute_head_lost, AttributeHeadTo, attribute_first}
+use Rattle.items.specs.inner.attributes.{privileges_of, Grants, Granted, granted_of, PrivilegesTo, access_words, operation_of, OperationTo, grants_with, with_entry, grants_from, grants_after, AccessEntryTo, no_grants, AccessEntriesTo, AttributeHeadOf, attribute_head, attribute_head_of, AttributeHeadTo, attribute_first}
 use Rattle.items.specs.declared.writing.FrontParts.{FrontParts}
 use Rattle.items.specs.inner.fields.{field_parts, StructFieldTo}
 use Rattle.items.specs.declared.attributes.Operation.{Operation}
 use Rattle.items.specs.declared.attributes.Operation.TheVariants.{Read, Write, Neither}
-use Rattle.items.specs.declared.attributes.OperationRead.{OperationRead}
-use Rattle.items.specs.declared.attributes.OperationRead.TheVariants.{Named, NoOperation}
 use Rattle.items.specs.declared.attributes.AccessEntries.{AccessEntries}
-use Rattle.items.specs.declared.attributes.Grants.{Grants}
-use Rattle.items.specs.declared.attributes.Grants.TheVariants.{Granted, RefusedAt}
-use Rattle.items.specs.declared.attributes.PrivilegesRead.{PrivilegesRead}
-use Rattle.items.specs.declared.attributes.PrivilegesRead.TheVariants.{Privileges, NoPrivileges}
 use Rattle.items.specs.declared.attributes.AttributeHeadParts.{AttributeHeadParts}
-use Rattle.items.specs.declared.attributes.AttributeHeadRead.{AttributeHeadRead}
-use Rattle.items.specs.declared.attributes.AttributeHeadRead.TheVariants.{AttributeHead, NoAttributeHead}
 use Rattle.items.specs.declared.fields.StructFieldParts.{StructFieldParts}
-use Rattle.items.specs.declared.fields.StructFieldRead.{StructFieldRead}
-use Rattle.items.specs.declared.fields.StructFieldRead.TheVariants.{StructField}
 use Rattle.items.specs.structs.{StructField as StructFieldOf, parse_struct_field, closed_field}
-use Rattle.lexing.proofs.AnswerLaws.{reads_as, read_within, read_took, read_lost}
+use Rattle.lexing.proofs.AnswerLaws.{read_took}
 use Rattle.items.proofs.Mapped.{TookAs, mapped_ok, read_as}
 use Rattle.lexing.proofs.Calm.{Calm, calm_absent, calm_ret, calm_catch, calm_or, calm_many0, calm_bind, calm_then, calm_tag, calm_keyword, calm_any, calm_blanks}
 use Rattle.items.proofs.Keywords.{keyword_missing}
@@ -62,8 +54,10 @@ use Rattle.items.proofs.Choice.{or_both}
 use Rattle.items.proofs.writing.Laws.{documented_bytes, read_room, read_written}
 use Rattle.items.proofs.structs.Laws.{other_case, by_case}
 use Rattle.items.proofs.fields.Laws.{struct_field_took, closed_field_on, field_words, field_parts_is}
-use Rattle.items.proofs.levels.Laws.{skips_none}
+use Rattle.lexing.proofs.steps.Laws.{skips_lost}
 use Rattle.lexing.proofs.answers.Laws.{opt_ok, opt_fail}
+use Rattle.items.specs.declared.levels.Privilege.TheVariants.{View, Operate}
+use Rattle.items.specs.declared.layout.Kind.TheVariants.{Attribute as a_attribute}
 
 -- the word of an entry
 pub read_operation : operation_of (ascii "read") ≡ Read
@@ -83,33 +77,26 @@ abbrev operation_by : Operation → Bool → Operation
 operation_by k true = k
 operation_by k false = Neither
 
-module _ (k : List ℕ) {a : Step} {b : ℕ} {u : List ℕ} (h : word_reply a b u ≡ keyword k b u) where
-  pub operation_is : {c : ℕ} → a ≡ Next c → (x : Operation) → operation_of k ≡ x → (t : Bool) → is_lower (take (c - b) u) ≡ t → OperationTo (keyword k) (Named (operation_by x t) c) b u
+module _ (k : List ℕ) (b : ℕ) (u : List ℕ) where
+  pub operation_is : {c : ℕ} → word_reply (Ok c) b u ≡ keyword k b u → (x : Operation) → operation_of k ≡ x → (t : Bool) → is_lower (take (c - b) u) ≡ t → OperationTo (keyword k) (Some (operation_by x t, c)) b u
   unfolding bytes_of
-  operation_is {c} e x s t z =
-      let r = told_next (word_at b u) a c b u (keyword k b u) e h in
-      let i : is_keyword (take (c - b) u) k ≡ true = rw (← r) at (keyword_says k b u) in
-      record { reads = r; means = by_case operation_of (operation_by x) (take (c - b) u) k i s (other_operation (take (c - b) u)) ∙ ap (operation_by x) z }
+  operation_is {c} h x s t z =
+      let i : is_keyword (take (c - b) u) k ≡ true = rw (← h) at (keyword_says k b u) in
+      record { reads = h; means = by_case operation_of (operation_by x) (take (c - b) u) k i s (other_operation (take (c - b) u)) ∙ ap (operation_by x) z }
 
-  pub operation_not : {l : Lost} → a ≡ Not l → OperationTo (keyword k) NoOperation b u
-  operation_not {l} e = record { reads = keyword_missing k b u a h l e; means = tt }
+  pub operation_not : (l : Lost) → lost_reply l ≡ keyword k b u → OperationTo (keyword k) None b u
+  operation_not l h = record { reads = keyword_missing k b u l h; means = tt }
 
 -- one of the two
-module _ {a : OperationRead} {b : ℕ} {u : List ℕ} (h : OperationTo (keyword (ascii "read")) a b u) where
-  pub word_first : {k : Operation} {c : ℕ} → a ≡ Named k c → OperationTo (any_keyword access_words) a b u
+module _ {b : ℕ} {u : List ℕ} where
+  pub word_first : {x : Operation × ℕ} → OperationTo (keyword (ascii "read")) (Some x) b u → OperationTo (any_keyword access_words) (Some x) b u
   unfolding any_keyword
-  word_first {k} {c} e =
-      let i = subst (λ (x : OperationRead). OperationTo (keyword (ascii "read")) x b u) e h in
-      subst (λ (x : OperationRead). OperationTo (any_keyword access_words) x b u) (sym e) (record { reads = or_here _ _ b u _ c (drop (c - b) u) i.reads; means = i.means })
+  word_first {x} h = record { reads = or_here _ _ b u _ x.1 (drop (x.1 - b) u) h.reads; means = h.means }
 
-  pub word_second : (r : OperationRead) → a ≡ NoOperation → OperationTo (keyword (ascii "write")) r b u → OperationTo (any_keyword access_words) r b u
+  pub word_second : (r : CodeOption (Operation × ℕ)) → OperationTo (keyword (ascii "read")) None b u → OperationTo (keyword (ascii "write")) r b u → OperationTo (any_keyword access_words) r b u
   unfolding any_keyword
-  word_second (Named k c) e g =
-      let i = subst (λ (x : OperationRead). OperationTo (keyword (ascii "read")) x b u) e h in
-      record { reads = or_next _ _ b u b _ c (drop (c - b) u) i.reads (or_here _ _ b u _ c (drop (c - b) u) g.reads); means = g.means }
-  word_second NoOperation e g =
-      let i = subst (λ (x : OperationRead). OperationTo (keyword (ascii "read")) x b u) e h in
-      record { reads = sym (or_both _ _ (sym i.reads) (or_both _ _ (sym g.reads) refl)); means = tt }
+  word_second (Some x) h g = record { reads = or_next _ _ b u b _ x.1 (drop (x.1 - b) u) h.reads (or_here _ _ b u _ x.1 (drop (x.1 - b) u) g.reads); means = g.means }
+  word_second None h g = record { reads = sym (or_both _ _ (sym h.reads) (or_both _ _ (sym g.reads) refl)); means = tt }
 
 -- as a step of a sequence
 pub record TookOperation (b : ℕ) (u : List ℕ) (n : ℕ) (k : Operation) (c : ℕ) : Type 0 where
@@ -118,34 +105,12 @@ pub record TookOperation (b : ℕ) (u : List ℕ) (n : ℕ) (k : Operation) (c :
   pub starts : offset_of value ≡ n
   pub step : Took (any_keyword access_words) b u n value c
 
-module _ {a : OperationRead} {n : ℕ} {r : List ℕ} (h : OperationTo (any_keyword access_words) a n r) where
-  pub operation_took : {b : ℕ} {u : List ℕ} {k : Operation} {c : ℕ} → Rest b u n r → a ≡ Named k c → TookOperation b u n k c
-  unfolding offset_of
-  operation_took {b} {u} {k} {c} q e =
-      record {
-        value = word_at n r c;
-        names = subst (λ (x : OperationRead). operation_means n r x) e h.means;
-        starts = refl;
-        step = took (walks (any_keyword_chain access_words)) q (subst (λ (x : OperationRead). reply (operation_answer n r x) n r ≡ any_keyword access_words n r) e h.reads);
-      }
-
-  pub operation_none : a ≡ NoOperation → fail n ≡ any_keyword access_words n r
-  operation_none e = subst (λ (x : OperationRead). reply (operation_answer n r x) n r ≡ any_keyword access_words n r) e h.reads
+pub operation_took : {b n c : ℕ} {u r : List ℕ} {k : Operation} → OperationTo (any_keyword access_words) (Some (k, c)) n r → Rest b u n r → TookOperation b u n k c
+unfolding offset_of
+operation_took {n = n} {c = c} {r = r} h q = record { value = word_at n r c; names = h.means; starts = refl; step = took (walks (any_keyword_chain access_words)) q h.reads }
 
 -- what is granted with an entry more
-pub grants_with_lem : (g : Grants) (k : Operation) (p o : ℕ) {r w : ℕ} {j : Operation} → g ≡ Granted r w → k ≡ j → grants_with (Granted r w) j p o ≡ grants_with g k p o
-grants_with_lem g k p o d e = rw (d, e) refl
-
-pub grants_refused : (g : Grants) (k : Operation) (p o : ℕ) {q : ℕ} → g ≡ RefusedAt q → g ≡ grants_with g k p o
-grants_refused g k p o d = rw d refl
-
-grants_small_lem : (g : Grants) (k : Operation) (p o : ℕ) → grants_small g → p < 4 → grants_small (grants_with g k p o)
-grants_small_lem (Granted r w) Read p o h l = record { read = l; write = h.write }
-grants_small_lem (Granted r w) Write p o h l = record { read = h.read; write = l }
-grants_small_lem (Granted r w) Neither p o h l = tt
-grants_small_lem (RefusedAt q) k p o h l = tt
-
-grants_more : (g : Grants) (l : List AccessOf) (a : AccessOf) → grants_from g (l ++ (a ∷ [])) ≡ with_entry (grants_from g l) a
+grants_more : (g : Granted) (l : List AccessOf) (a : AccessOf) → grants_from g (l ++ (a ∷ [])) ≡ with_entry (grants_from g l) a
 unfolding grants_from
 grants_more g [] a = refl
 grants_more g (x ∷ l) a = grants_more (with_entry g x) l a
@@ -158,27 +123,27 @@ entry_calm =
     let privilege = calm_or (number _ 0) (calm_or (number _ 1) (calm_or (number _ 2) (number _ 3))) in
     calm_then calm_blanks (calm_bind (calm_any access_words) λ k. calm_then calm_blanks (calm_then (calm_tag 58) (calm_then calm_blanks (calm_bind privilege λ p. calm_then calm_blanks (calm_ret _)))))
 
-pub entry_none : {g : Grants} (l : Lost) {b : ℕ} {u : List ℕ} → grants_small g → lost_reply l ≡ access_entry b u → AccessEntryTo g (record { grants = g; next = b }) b u
+pub entry_none : {g : Grants} (l : Lost) {b : ℕ} {u : List ℕ} → lost_reply l ≡ access_entry b u → AccessEntryTo g (record { grants = g; next = b }) b u
 unfolding grants_after
-entry_none {g} l {b} {u} h e = record { reads = mapped_ok (grants_after g) (opt access_entry) b u none b (drop (b - b) u) refl (calm_absent entry_calm l e); within = h }
+entry_none {g} l {b} {u} e = record { reads = mapped_ok (grants_after (granted_of g)) (opt access_entry) b u none b (drop (b - b) u) refl (calm_absent entry_calm l e); within = tt }
 
-pub entry_is : (g : Grants) {x : Grants} {b n c d : ℕ} {u : List ℕ} {k : Operation} {p : ℕ} (t : TookOperation b u n k c) → grants_small g → p < 4 → x ≡ grants_with g k p n
+pub entry_is : (g : Grants) {x : Grants} {b n c d : ℕ} {u : List ℕ} {k : Operation} {p : ℕ} (t : TookOperation b u n k c) → granted_of x ≡ grants_with (granted_of g) k p n
     → ok (record { operation = t.value; granted = p }) d (drop (d - b) u) ≡ access_entry b u → AccessEntryTo g (record { grants = x; next = d }) b u
 unfolding grants_after with_entry
-entry_is g {x} {b} {n} {c} {d} {u} {k} {p} t s l e h =
+entry_is g {x} {b} {n} {c} {d} {u} {k} {p} t e h =
     let v : AccessOf = record { operation = t.value; granted = p } in
-    let z : with_entry g v ≡ x = rw (t.names, t.starts) (sym e) in
-    record { reads = mapped_ok (grants_after g) (opt access_entry) b u (some v) d (drop (d - b) u) z (opt_ok access_entry b u v d (drop (d - b) u) h); within = rw e (grants_small_lem g k p n s l) }
+    let z : with_entry (granted_of g) v ≡ granted_of x = rw (t.names, t.starts) (sym e) in
+    record { reads = mapped_ok (grants_after (granted_of g)) (opt access_entry) b u (some v) d (drop (d - b) u) z (opt_ok access_entry b u v d (drop (d - b) u) h); within = tt }
 
 -- it takes a byte, so that it is there where reading goes on after its start
 pub record TookEntry (g : Grants) (b : ℕ) (u : List ℕ) (n : ℕ) (e : AccessEntries) : Type 0 where
   pub value : AccessOf
-  pub is : with_entry g value ≡ e.grants
+  pub is : with_entry (granted_of g) value ≡ granted_of e.grants
   pub step : Took access_entry b u n value e.next
 
 module _ (g : Grants) {b n : ℕ} {u r : List ℕ} {e : AccessEntries} (q : Rest b u n r) (h : AccessEntryTo g e n r) where
-  optional : TookAs (grants_after g) (opt access_entry) b u n e.grants e.next
-  optional = read_as h refl (walks (chain_opt (chain_inside access_entry_inside))) q refl
+  optional : TookAs (grants_after (granted_of g)) (opt access_entry) b u n (granted_of e.grants) e.next
+  optional = read_as h (walks (chain_opt (chain_inside access_entry_inside))) q
 
   entry_cases : TookEntry g b u n e ⊎ ((e.next ≡ n) × ((p : ℕ) × (fail p ≡ access_entry n (drop (n - b) u))))
   unfolding grants_after
@@ -190,7 +155,7 @@ module _ (g : Grants) {b n : ℕ} {u r : List ℕ} {e : AccessEntries} (q : Rest
           let i = sym t.step.goes ∙ sym (opt_ok access_entry _ _ _ _ _ (sym z)) in
           let x : t.value ≡ some a = cc in
           let y : ok a d v ≡ ok a e.next (drop (e.next - b) u) = cc in
-          inl (record { value = a; is = subst (λ (o : Option AccessOf). grants_after g o ≡ e.grants) x t.is; step = record { goes = z ∙ y; up = t.step.up; inside = t.step.inside } })
+          inl (record { value = a; is = subst (λ (o : Option AccessOf). grants_after (granted_of g) o ≡ granted_of e.grants) x t.is; step = record { goes = z ∙ y; up = t.step.up; inside = t.step.inside } })
       go (fail p) z = let t = optional in let i = sym t.step.goes ∙ sym (opt_fail access_entry _ _ _ (sym z)) in let y : e.next ≡ n = cc in inr (y, (p, sym z))
       go (stop j p) z = absurd (rw z at (entry_calm.runs n (drop (n - b) u)))
 
@@ -305,23 +270,15 @@ entries_onward = walks (chain_inside (separated_list0_inside comma_local access_
 -- those up to a place: what they grant, and what is left to read
 pub record Entered (b : ℕ) (u : List ℕ) (n : ℕ) (g : Grants) : Type 0 where
   pub seen : List AccessOf
-  pub so_far : grants_from no_grants seen ≡ g
-  pub small : grants_small g
+  pub so_far : grants_from no_grants seen ≡ granted_of g
   pub from : b ≤ n
   pub inside : n ≤ b + length u
   pub left : entries b u ≡ before seen (many0 separated_entry n (drop (n - b) u))
 
 -- before an entry: none was read, or a comma after some
 pub data Entering (b : ℕ) (u : List ℕ) (n c : ℕ) (g : Grants) : Type 0 where
-  first : n ≡ b → c ≡ b → g ≡ no_grants → Entering b u n c g
+  first : n ≡ b → c ≡ b → granted_of g ≡ no_grants → Entering b u n c g
   next : Entered b u n g → {x : Unit {0}} → Took (whitespace0 >> tag 44) b u n x c → Entering b u n c g
-
-first_small : grants_small no_grants
-first_small = record { read = omega arith; write = omega arith }
-
-pub entering_small : {b n c : ℕ} {u : List ℕ} {g : Grants} → Entering b u n c g → grants_small g
-entering_small (first z y x) = rw x first_small
-entering_small (next i t) = i.small
 
 pub entering_at : {b n c : ℕ} {u : List ℕ} {g : Grants} → Entering b u n c g → (b ≤ c) × (c ≤ b + length u)
 entering_at (first z y x) = (omega arith, omega arith)
@@ -332,7 +289,7 @@ ended : {b n : ℕ} {u : List ℕ} {g : Grants} → Entered b u n g → (p : ℕ
 ended {b} {n} {u} {g} i p e =
     let v = drop (n - b) u in
     let z : entries b u ≡ ok (i.seen ++ []) n v = i.left ∙ ap (before i.seen) (many0_fail separated_entry separated_consumes n v p (sym e)) in
-    record { reads = mapped_ok (grants_from no_grants) entries b u i.seen n v i.so_far (ap (λ (l : List AccessOf). ok l n v) (sym (append-nil i.seen)) ∙ sym z); within = i.small }
+    record { reads = mapped_ok (grants_from no_grants) entries b u i.seen n v i.so_far (ap (λ (l : List AccessOf). ok l n v) (sym (append-nil i.seen)) ∙ sym z); within = tt }
 
 pub entries_end : {b n c : ℕ} {u r : List ℕ} {g : Grants} {e : AccessEntries} → Entering b u n c g → Rest b u c r → AccessEntryTo g e c r → e.next ≡ c → AccessEntriesTo (record { grants = g; next = n }) b u
 unfolding separated_list0 ret grants_from
@@ -341,11 +298,11 @@ entries_end {b} {n} {c} {u} {r} {g} {e} (first z y x) q h d =
     let i : fail k.0 ≡ access_entry b u = begin access_entry b u (subst (λ (o : ℕ). fail k.0 ≡ access_entry o (drop (o - b) u)) y k.1) in
     let j : ok [] b u ≡ entries b u = catch_fail some_entries (λ p. ret []) b u k.0 (begin some_entries b u (lose access_entry _ (Fail k.0) (rest_self b u) i)) in
     let o : b - b ≡ 0 = omega arith in
-    rw (z, x) (record { reads = mapped_ok (grants_from no_grants) entries b u [] b (drop (b - b) u) refl (rw o j); within = first_small })
+    rw z (record { reads = mapped_ok (grants_from no_grants) entries b u [] b (drop (b - b) u) (sym x) (rw o j); within = tt })
 entries_end {b} {n} {c} {u} {r} {g} {e} (next i t) q h d = let k = entry_absent g q h d in ended i k.0 (pair_on _ _ _ t k.1 ∙ separated_is n (drop (n - b) u))
 
-pub entries_closed : {b n : ℕ} {u : List ℕ} {g : Grants} {a : Step} {l : Lost} → Entered b u n g → SkipsAt (whitespace0 >> tag 44) a b u n → a ≡ Not l → AccessEntriesTo (record { grants = g; next = n }) b u
-entries_closed {b} {n} {u} {g} {a} {l} i h d = go l (pair_fall _ _ access_entry l h.at (skips_none d h) ∙ separated_is n (drop (n - b) u))
+pub entries_closed : {b n : ℕ} {u : List ℕ} {g : Grants} {l : Lost} → Entered b u n g → SkipsAt (whitespace0 >> tag 44) (Err l) b u n → AccessEntriesTo (record { grants = g; next = n }) b u
+entries_closed {b} {n} {u} {g} {l} i h = go l (pair_fall _ _ access_entry l h.at (skips_lost h) ∙ separated_is n (drop (n - b) u))
   where
     go : (l : Lost) → lost_reply l ≡ separated_entry n (drop (n - b) u) → AccessEntriesTo (record { grants = g; next = n }) b u
     go =
@@ -366,16 +323,15 @@ unfolding grants_from
 entered {b} {n} {c} {u} {r} {g} {e} (first z y x) q h f =
     let t = entry_there g q h f in
     let s : Took access_entry b u b t.value e.next = subst (λ (o : ℕ). Took access_entry b u o t.value e.next) y t.step in
-    let i : with_entry no_grants t.value ≡ e.grants = subst (λ (o : Grants). with_entry o t.value ≡ e.grants) x t.is in
-    record { seen = t.value ∷ []; so_far = i; small = h.within; from = s.up; inside = s.inside; left = first_left s (many0 separated_entry e.next (drop (e.next - b) u)) refl }
+    let i : with_entry no_grants t.value ≡ granted_of e.grants = subst (λ (o : Granted). with_entry o t.value ≡ granted_of e.grants) x t.is in
+    record { seen = t.value ∷ []; so_far = i; from = s.up; inside = s.inside; left = first_left s (many0 separated_entry e.next (drop (e.next - b) u)) refl }
 entered {b} {n} {c} {u} {r} {g} {e} (next i t) q h f =
     let s = entry_there g q h f in
     let v = drop (n - b) u in
     let k = pair_on _ _ _ t (sym s.step.goes) ∙ separated_is n v in
     record {
       seen = i.seen ++ (s.value ∷ []);
-      so_far = grants_more no_grants i.seen s.value ∙ (ap (λ (o : Grants). with_entry o s.value) i.so_far ∙ s.is);
-      small = h.within;
+      so_far = grants_more no_grants i.seen s.value ∙ (ap (λ (o : Granted). with_entry o s.value) i.so_far ∙ s.is);
       from = omega (arith, i.from, t.up, s.step.up);
       inside = s.step.inside;
       left = i.left ∙ (ap (before i.seen) (many0_more separated_entry separated_consumes n v s.value e.next (drop (e.next - b) u) (sym k)) ∙ before_cons i.seen s.value (many0 separated_entry e.next (drop (e.next - b) u)));
@@ -391,59 +347,56 @@ list_calm =
 list_on : Onward (opt access_list)
 list_on = walks (chain_opt (chain_inside access_list_inside))
 
-pub access_absent : (l : Lost) {b : ℕ} {u : List ℕ} → lost_reply l ≡ access_list b u → PrivilegesTo (Privileges 0 1 b) b u
+pub access_absent : (l : Lost) {b : ℕ} {u : List ℕ} → lost_reply l ≡ access_list b u → PrivilegesTo (Ok (record { read = View; write = Operate }, b)) b u
 unfolding attribute_access default_privileges listed granted_by
-access_absent l {b} {u} e = record { reads = begin attribute_access b u (go _ (took list_on (rest_self b u) (calm_absent list_calm l e)) (done _ _ _ _)); within = first_small }
+access_absent l {b} {u} e = record { reads = begin attribute_access b u (go _ (took list_on (rest_self b u) (calm_absent list_calm l e)) (done _ _ _ _)); within = tt }
 
 -- no list begins with this byte
-pub access_elsewhere : {b : ℕ} {u : List ℕ} {x y : ℕ} → x ≡ get_or u 0 0 → y ≡ lower x → slash < x → (y ≡ 0x61 → ⊥) → PrivilegesTo (Privileges 0 1 b) b u
+pub access_elsewhere : {b : ℕ} {u : List ℕ} {x y : ℕ} → x ≡ get_or u 0 0 → y ≡ lower x → slash < x → (y ≡ 0x61 → ⊥) → PrivilegesTo (Ok (record { read = View; write = Operate }, b)) b u
 unfolding access_list
 access_elsewhere {b} {u} {x} {y} p q h n =
     let missing = key_differs (ascii "access") b u 0 (omega arith) (λ o w. n (q ∙ ap lower p ∙ o)) in
     access_absent (Fail b) (begin access_list b u (on _ (blank_took (rest_self b u) (blanks_none b u x p h)) (fall _ _ (Fail b) (rest_self b u) missing)))
 
 -- the definition's fold over the list
-abbrev granted : Grants → Parser PrivilegesOf
-granted (Granted r w) = ret (record { read = r; write = w })
-granted (RefusedAt o) = stop_at 6 o
+abbrev granted : Granted → Parser PrivilegesOf
+granted (Ok g) = ret g
+granted (Err o) = stop_at 6 o
 
-refused_stays : (o : ℕ) (l : List AccessOf) → grants_from (RefusedAt o) l ≡ RefusedAt o
+refused_stays : (o : ℕ) (l : List AccessOf) → grants_from (Err o) l ≡ Err o
 unfolding grants_from with_entry
 refused_stays o [] = refl
 refused_stays o (a ∷ l) = refused_stays o l
 
-granted_is : (r w : ℕ) (l : List AccessOf) → granted_by (record { read = r; write = w }) l ≡ granted (grants_from (Granted r w) l)
+granted_is : (g : PrivilegesOf) (l : List AccessOf) → granted_by g l ≡ granted (grants_from (Ok g) l)
 unfolding granted_by grants_from with_entry operation_of pick
-granted_is r w [] = refl
-granted_is r w (a ∷ l) = go (same_bytes (bytes_of a.operation) (ascii "read")) refl (same_bytes (bytes_of a.operation) (ascii "write")) refl (λ r w. granted_is r w l)
+granted_is g [] = refl
+granted_is g (a ∷ l) = go (same_bytes (bytes_of a.operation) (ascii "read")) refl (same_bytes (bytes_of a.operation) (ascii "write")) refl (λ g. granted_is g l)
   where
     go : (x : Bool) → same_bytes (bytes_of a.operation) (ascii "read") ≡ x → (y : Bool) → same_bytes (bytes_of a.operation) (ascii "write") ≡ y
-        → ((r w : ℕ) → granted_by (record { read = r; write = w }) l ≡ granted (grants_from (Granted r w) l)) → granted_by (record { read = r; write = w }) (a ∷ l) ≡ granted (grants_from (Granted r w) (a ∷ l))
-    go true d y e ih = rw d (ih a.granted w)
-    go false d true e ih = rw (d, e) (ih r a.granted)
+        → ((g : PrivilegesOf) → granted_by g l ≡ granted (grants_from (Ok g) l)) → granted_by g (a ∷ l) ≡ granted (grants_from (Ok g) (a ∷ l))
+    go true d y e ih = rw d (ih (record { read = a.granted; write = g.write }))
+    go false d true e ih = rw (d, e) (ih (record { read = g.read; write = a.granted }))
     go false d false e ih = rw (d, e, refused_stays (offset_of a.operation) l)
 
-folded : (l : List AccessOf) {g x : Grants} → grants_from no_grants l ≡ g → g ≡ x → granted_by default_privileges l ≡ granted x
+folded : (l : List AccessOf) {g : Granted} → grants_from no_grants l ≡ g → granted_by default_privileges l ≡ granted g
 unfolding default_privileges
-folded l i d = granted_is 0 1 l ∙ ap (λ (y : Grants). granted y) (i ∙ d)
+folded l i = granted_is (record { read = 0; write = 1 }) l ∙ ap (λ (y : Granted). granted y) i
 
-module _ {l : List AccessOf} {g : Grants} (i : grants_from no_grants l ≡ g) {b c : ℕ} {u : List ℕ} where
+module _ {l : List AccessOf} {b c : ℕ} {u : List ℕ} where
   whole : ok l c (drop (c - b) u) ≡ access_list b u → Took (opt access_list) b u b (some l) c
   whole e = took list_on (rest_self b u) (opt_ok access_list b u l c (drop (c - b) u) e)
 
-  pub access_grants : {r w : ℕ} → g ≡ Granted r w → grants_small g → ok l c (drop (c - b) u) ≡ access_list b u → PrivilegesTo (Privileges r w c) b u
+  pub access_grants : {p : Privileges} → grants_from no_grants l ≡ Ok (privileges_of p) → ok l c (drop (c - b) u) ≡ access_list b u → PrivilegesTo (Ok (p, c)) b u
   unfolding attribute_access listed
-  access_grants {r} {w} d h e = record { reads = begin attribute_access b u (go _ (whole e) (rw (folded l i d) (done _ _ _ _))); within = subst (λ (y : Grants). grants_small y) d h }
+  access_grants i e = record { reads = begin attribute_access b u (go _ (whole e) (rw (folded l i) (done _ _ _ _))); within = tt }
 
-  pub access_refused : {o : ℕ} → g ≡ RefusedAt o → ok l c (drop (c - b) u) ≡ access_list b u → PrivilegesTo (NoPrivileges (Stop 6 o)) b u
+  pub access_refused : {o : ℕ} → grants_from no_grants l ≡ Err o → ok l c (drop (c - b) u) ≡ access_list b u → PrivilegesTo (Err (Stop AccessNotLower o)) b u
   unfolding attribute_access listed stop_at
-  access_refused {o} d e = record { reads = begin attribute_access b u (go _ (whole e) (rw (folded l i d))); within = tt }
+  access_refused i e = record { reads = begin attribute_access b u (go _ (whole e) (rw (folded l i))); within = tt }
 
 pub attribute_access_onward : Onward attribute_access
 attribute_access_onward = walks (chain_inside attribute_access_inside)
-
-pub privileges_small_lem : {a : PrivilegesRead} {n : ℕ} {r : List ℕ} {x w c : ℕ} → PrivilegesTo a n r → a ≡ Privileges x w c → SmallPrivileges x w
-privileges_small_lem h e = read_within h e
 
 -- two words an attribute, and four its field
 pub attribute_words : (a : AttributeOf) → word_count layout (attribute_records a) ≡ 6
@@ -459,12 +412,8 @@ pub attribute_head_consumes : Consumes attribute_head
 unfolding attribute_head
 attribute_head_consumes = consumes_right (set_flags_chain _) λ q. consumes_then_right whitespace0_chain (consumes_then_left (keyword_consumes _) (chain_then whitespace1_chain (chain_bind (chain_inside attribute_access_inside) λ p. chain_ret _)))
 
-module _ {a : AttributeHeadRead} {b : ℕ} {u : List ℕ} (h : AttributeHeadTo a b u) where
-  pub attribute_head_took : {p : AttributeHeadParts} {c : ℕ} → a ≡ AttributeHead p c → Took attribute_head b u b (attribute_head_of p) c
-  attribute_head_took e = read_took h e (walks head_chain) (rest_self b u) refl
-
-  pub attribute_head_none : {l l' : Lost} → l' ≡ attribute_head_lost a → a ≡ NoAttributeHead l → lost_reply l' ≡ attribute_head b u
-  attribute_head_none e d = read_lost h d attribute_head_lost e refl
+pub attribute_head_took : {b c : ℕ} {u : List ℕ} {p : AttributeHeadParts} → AttributeHeadTo (Ok (p, c)) b u → Took attribute_head b u b (attribute_head_of p) c
+attribute_head_took h = read_took h (walks head_chain) (rest_self _ _)
 
 -- steps that are taken together are taken one after the other
 one_by_one : {A B C : Type 0} (m : Parser A) (g : A → Parser B) (k : B → Parser C) (f : A → Parser C) → ((a : A) → f a ≡ (g a >>= k)) → (m >>= f) ≡ ((m >>= g) >>= k)
@@ -498,30 +447,30 @@ attribute_headed = record {
 }
 
 -- its field, in both passes
-module _ {n : ℕ} {r : List ℕ} {a : StructFieldRead} (h : StructFieldTo closed_field a n r) {s : StructFieldParts} {c : ℕ} (e : a ≡ StructField s c) where
+module _ {n c : ℕ} {r : List ℕ} {s : StructFieldParts} (h : StructFieldTo closed_field (Ok (s, c)) n r) where
   pub field_counted : {b : ℕ} {u : List ℕ} → Rest b u n r → Counted (λ f. field_record f ∷ []) closed_field b u n 4 c
   field_counted q =
-      let t = struct_field_took closed_field_on q h e in
+      let t = struct_field_took closed_field_on q h in
       record { value = _; words = field_words _; step = t; few = omega (arith, further_on closed_field_consumes q.from t) }
 
   pub field_room : {p k : ℕ} → Room (λ f. field_record f ∷ []) closed_field n r p k → p + 32 ≤ k
-  field_room room = read_room (reads_as h e) (field_words _) room
+  field_room room = read_room h.reads (field_words _) room
 
   pub field_written : {p : ℕ} (to : ℕ) → to ≡ p + 32 → {old new : List ℕ} → new ≡ put p (catalogue_bytes layout (field_parts s ∷ [])) old → Written (λ f. field_record f ∷ []) closed_field n r p (record { next = c; to = to }) old new
   field_written to z g =
-      let i = reads_in closed_field_on n c r _ (reads_as h e) in
-      rw z (read_written (reads_as h e) (field_words _) (ap (λ (x : Record). x ∷ []) (field_parts_is n r s c (read_within h e) i.1)) g)
+      let i = reads_in closed_field_on n c r _ h.reads in
+      rw z (read_written h.reads (field_words _) (ap (λ (x : Record). x ∷ []) (field_parts_is n r s c h.within i.1)) g)
 
 -- The second pass.
 
 -- the two words of an attribute's first record
 pub attribute_first_put : (f : FrontParts) (h : AttributeHeadParts) (p v : ℕ) (l l₁ : List ℕ) → v ≡ doc_span_bit f.doc
-    → l₁ ≡ put p (words_bytes (first_of (record { kind = 7; place = 0; maturity = f.maturity; doc_present = v; flags = h.flags * 8; name = 0; name_length = 0; first_privilege = h.read; second_privilege = h.write }) ∷ doc_span_word f.doc ∷ [])) l
+    → l₁ ≡ put p (words_bytes (first_of (record { kind = a_attribute; place = 0; maturity = f.maturity; doc_present = v; flags = h.flags * 8; name = 0; name_length = 0; first_privilege = h.read; second_privilege = h.write }) ∷ doc_span_word f.doc ∷ [])) l
     → l₁ ≡ put p (catalogue_bytes layout (attribute_first f h ∷ [])) l
 unfolding from_top packed width offset size
 attribute_first_put f h p v l l₁ d e =
     let y : h.flags * 8 ≡ from_top 7 (bits 4 h.flags ∷ []) = omega arith in
-    rw (documented_bytes 7 0 f.maturity f.doc (bits 4 h.flags ∷ []) absent h.read h.write [] (h.flags * 8) y) (rw (← d) e)
+    rw (documented_bytes a_attribute 0 f.maturity f.doc (bits 4 h.flags ∷ []) absent h.read h.write [] (h.flags * 8) y) (rw (← d) e)
 
 pub attribute_first_is : (f : FrontParts) (h : AttributeHeadParts) (l : StructFieldOf) → attribute_first f h ≡ attribute_headed.first (front_of f) (attribute_head_of h) l
 unfolding attribute_headed

@@ -1,4 +1,6 @@
 -- Enums and bitmaps.
+use Rattle.items.specs.declared.levels.Privilege.TheVariants.{View}
+use Rattle.std.specs.Prelude.{Ok}
 use mathlib.Core.Path.{◌≡◌, refl, sym, ◌∙◌, subst}
 use mathlib.Core.Bool.{Bool}
 use mathlib.Core.Option.{Option, none, some}
@@ -17,13 +19,12 @@ use Rattle.lexing.proofs.Slicing.{Took, walks, rest_self}
 use Rattle.items.specs.entries.{present, Entry, shared_before, choice_head, constant_entries_list, choice_after_doc_maturity}
 use Rattle.items.specs.records.{at, spanned, flag, word_extent, documented, entry_records, choice_records}
 use Rattle.lexing.specs.buffers.{each, words_bytes, put}
-use Rattle.items.specs.layout.{packed, width, from_top, offset, size, layout, further_word, record_words, catalogue_words, catalogue_bytes, word_count, text_limit}
+use Rattle.items.specs.layout.{packed, width, from_top, offset, size, layout, further_word, record_words, catalogue_words, catalogue_bytes, word_count}
 use Rattle.lexing.specs.answers.{word_between}
 use Rattle.items.specs.answers.{Front, first_of, word_of_span, doc_span_word, doc_span_bit, front_of}
 use Rattle.items.specs.inner.choices.{choice_first, ChoiceFrom, choice_head_at, ChoiceHeadBetween, ChoiceHeadTo}
 use Rattle.items.specs.declared.writing.FrontParts.{FrontParts}
 use Rattle.items.specs.declared.choices.ChoiceHeadParts.{ChoiceHeadParts}
-use Rattle.items.specs.declared.choices.ChoiceHeadRead.TheVariants.{ChoiceHead}
 use Rattle.lexing.proofs.AnswerLaws.{read_is, read_on}
 use Rattle.items.proofs.Headed.{Headed}
 use Rattle.items.proofs.WordBetween.{extent_between}
@@ -59,13 +60,13 @@ pub shared_took : {b f : ℕ} {u : List ℕ} → ChoiceFrom f b u → Shared b u
 shared_took {b} {f} {u} h = record {
   value = h.value;
   is = opt_present (walks shared_before_local.on_chain) shared_before_consumes b u h.reads;
-  step = skip_took (walks (chain_opt shared_before_local.on_chain)) (rest_self b u) refl h;
+  step = skip_took (walks (chain_opt shared_before_local.on_chain)) (rest_self b u) h;
 }
 
 -- the head, by whether `shared` is before it
 pub choice_head_is : (k : List ℕ) (b : ℕ) (u : List ℕ) (h : ChoiceHeadParts) (c : ℕ) (s : Option Word) → present s ≡ h.shared
     → ok (record { head_shared = present s; head_name = word_between b u h.name h.end; head_base = word_between b u h.base_at h.base_end }) c (drop (c - b) u) ≡ choice_head k b u
-    → ChoiceHeadBetween b h c → ChoiceHeadTo k (ChoiceHead h c) b u
+    → ChoiceHeadBetween b h c → ChoiceHeadTo k (Ok (h, c)) b u
 choice_head_is k b u h c s e z w = read_is refl (subst (λ (x : Bool). ok (record { head_shared = x; head_name = word_between b u h.name h.end; head_base = word_between b u h.base_at h.base_end }) c (drop (c - b) u) ≡ choice_head k b u) e z) w
 
 pub choice_head_onward : (k : List ℕ) → Onward (choice_head k)
@@ -89,11 +90,11 @@ choice_headed k = record {
 
 -- the three words of the first record
 pub choice_first_put : (f : FrontParts) (h : ChoiceHeadParts) (p v i a o s : ℕ) (l l₁ : List ℕ) → v ≡ doc_span_bit f.doc → i ≡ bit h.shared
-    → a ≡ first_of (record { kind = f.kind; place = f.place; maturity = f.maturity; doc_present = v; flags = i * 64; name = h.name; name_length = h.end - h.name; first_privilege = 0; second_privilege = 0 }) → o ≡ doc_span_word f.doc
+    → a ≡ first_of (record { kind = f.kind; place = f.place; maturity = f.maturity; doc_present = v; flags = i * 64; name = h.name; name_length = h.end - h.name; first_privilege = View; second_privilege = View }) → o ≡ doc_span_word f.doc
     → s ≡ word_of_span h.base_at (h.base_end - h.base_at) → l₁ ≡ put p (words_bytes (a ∷ o ∷ s ∷ [])) l → l₁ ≡ put p (catalogue_bytes layout (choice_first f h ∷ [])) l
 unfolding from_top packed width flag offset size layout further_word
 choice_first_put f h p v i a o s l l₁ d e w b z e₁ =
-    documented_put f.kind f.place f.maturity f.doc (flag h.shared ∷ []) (at h.name (h.end - h.name)) 0 0 (spanned (at h.base_at (h.base_end - h.base_at))) p (i * 64) v a o s l l₁ (omega (arith, e)) d w b z e₁
+    documented_put f.kind f.place f.maturity f.doc (flag h.shared ∷ []) (at h.name (h.end - h.name)) View View (spanned (at h.base_at (h.base_end - h.base_at))) p (i * 64) v a o s l l₁ (omega (arith, e)) d w b z e₁
 
 -- the first record of what was read
 pub choice_first_is : (f : FrontParts) (k : List ℕ) (b : ℕ) (u : List ℕ) (h : ChoiceHeadParts) (c : ℕ) (l : List Entry) → ChoiceHeadBetween b h c → c ≤ b + length u → choice_first f h ≡ (choice_headed k).first (front_of f) (choice_head_at b u h) l
@@ -103,6 +104,3 @@ choice_first_is f k b u h c l w i =
       extent_between b u h.name h.end w.name_from (omega (arith, w.name_to)) (omega (arith, w.base_from, w.base_to, w.before)),
       extent_between b u h.base_at h.base_end (omega (arith, w.name_from, w.name_to, w.base_from)) w.base_to (omega (arith, w.before)),
     )
-
-pub choice_in_limit : {b : ℕ} {h : ChoiceHeadParts} {c : ℕ} → ChoiceHeadBetween b h c → c ≤ text_limit → ChoiceHeadBetween 0 h text_limit
-choice_in_limit w i = record { name_from = omega arith; name_to = w.name_to; base_from = w.base_from; base_to = w.base_to; before = omega (arith, w.before) }

@@ -1,9 +1,10 @@
 -- The members of a cluster, counted.
+use Rattle.std.specs.Prelude.{Ok, Err}
 use mathlib.Core.Path.{◌≡◌}
 use mathlib.Core.List.{List}
 use Prim.Native.Nat.{ℕ, ◌+◌, ◌-◌, ◌*◌, ◌≤◌, ◌<◌}
 use lib.ListN.{length}
-use Rattle.lexing.specs.answers.{Rest}
+use Rattle.lexing.specs.answers.{Rest, Read}
 use Rattle.lexing.specs.declared.answers.Lost.{Lost}
 use Rattle.lexing.proofs.Slicing.{walks}
 use Rattle.lexing.proofs.Onward.{Onward}
@@ -11,13 +12,11 @@ use Rattle.lexing.proofs.Locality.{chain_many0}
 use Rattle.items.specs.clusters.{parse_cluster_member, cluster_members}
 use Rattle.items.specs.records.{member_records}
 use Rattle.lexing.specs.buffers.{each}
-use Rattle.items.specs.answers.{count_lost, count_end}
+use Rattle.items.specs.answers.{count_end}
 use Rattle.items.specs.inner.members.{MemberCountTo}
 use Rattle.items.specs.inner.clusters.{MembersCountTo}
-use Rattle.items.specs.declared.counts.Count.{Count}
-use Rattle.items.specs.declared.counts.Count.TheVariants.{Words, NoCount}
 use Rattle.items.proofs.RecordWords.{each_elementwise}
-use Rattle.items.proofs.counts.Laws.{Counting, counting_start, counting_more, counting_ends, count_took, count_none}
+use Rattle.items.proofs.counts.Laws.{Counting, counting_start, counting_more, counting_ends, count_took, count_lost}
 use Rattle.items.proofs.Locality.{parse_cluster_member_inside, parse_cluster_member_consumes}
 use Rattle.items.proofs.members.Laws.{parse_member_on}
 
@@ -31,19 +30,19 @@ pub record MembersAt (b : ℕ) (u : List ℕ) (c n : ℕ) : Type 0 where
 pub members_start : (b : ℕ) (u : List ℕ) → MembersAt b u b 0
 members_start b u = record { at = λ p. counting_start (each_elementwise (member_records (λ x. p))) parse_cluster_member b u }
 
-module _ {b : ℕ} {u : List ℕ} {c n : ℕ} (i : MembersAt b u c n) {r : List ℕ} (q : Rest b u c r) {a : Count} (h : MemberCountTo parse_cluster_member a c r) where
-  module _ {k d : ℕ} (e : a ≡ Words k d) where
+module _ {b : ℕ} {u : List ℕ} {c n : ℕ} (i : MembersAt b u c n) {r : List ℕ} (q : Rest b u c r) where
+  module _ {k d : ℕ} (h : MemberCountTo parse_cluster_member (Ok (k, d)) c r) where
     turn : (p : ℕ) → Counting (each (member_records (λ x. p))) parse_cluster_member b u d (n + k) × (c < d)
     turn p =
-        let s = count_took parse_member_on q e (h.counts p) in
+        let s = count_took parse_member_on q (h.counts p) in
         counting_more (each_elementwise (member_records (λ x. p))) parse_cluster_member parse_cluster_member_consumes s.value (i.at p) s.step s.words (λ z. s.few)
 
     pub members_more : MembersAt b u d (n + k)
     members_more = record { at = λ p. (turn p).0 }
 
     pub members_on_turn : (c < d) × ((d ≤ b + length u) × (k ≤ 8 * (d - c)))
-    members_on_turn = let t = turn 0 in (t.1, (t.0.run.inside, (count_took parse_member_on q e (h.counts 0)).few))
+    members_on_turn = let t = turn 0 in (t.1, (t.0.run.inside, (count_took parse_member_on q (h.counts 0)).few))
 
-  pub members_end : (l l' : Lost) → a ≡ NoCount l → l' ≡ count_lost a → {x : Count} → x ≡ count_end l' n c → MembersCountTo cluster_members x b u
+  pub members_end : {l : Lost} → MemberCountTo parse_cluster_member (Err l) c r → {x : Read ℕ} → x ≡ count_end l n c → MembersCountTo cluster_members x b u
   unfolding cluster_members
-  members_end l l' e d z = record { counts = λ p. counting_ends parse_cluster_member_consumes l' (i.at p) q (count_none d e c r (h.counts p)) z }
+  members_end {l} h z = record { counts = λ p. counting_ends parse_cluster_member_consumes l (i.at p) q (count_lost c r (h.counts p)) z }

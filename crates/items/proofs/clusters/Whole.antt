@@ -1,4 +1,7 @@
 -- Whole clusters: a side, the head, and both passes over the members between braces.
+use Rattle.items.specs.declared.levels.Privilege.TheVariants.{View}
+use Rattle.lexing.specs.declared.answers.Lost.TheVariants.{Fail}
+use Rattle.std.specs.Prelude.{Ok, Err}
 use mathlib.Core.Path.{◌≡◌, refl, sym, ap, ◌∙◌, subst}
 use mathlib.Core.Bool.{false}
 use mathlib.Core.List.{List, [], ◌∷◌, ◌++◌}
@@ -9,19 +12,15 @@ use Rattle.lexing.specs.bytes.{ascii}
 use Rattle.lexing.specs.reply.{Reply, ok, fail, stop, Parser, ret, ◌>>◌, catch, fail_at, ◌or◌, no_nearer, opt, many0}
 use Rattle.lexing.specs.words.{Word, keyword, any_keyword, tag}
 use Rattle.lexing.specs.blanks.{Doc, whitespace0, whitespace1}
-use Rattle.lexing.specs.answers.{Rest, word_at, word_reply, lost_reply, NameIn, Skips, SkipsAt, Fail, Stop}
+use Rattle.lexing.specs.answers.{Rest, word_at, word_reply, lost_reply, NameIn, Skips, SkipsAt, Read, Step}
 use Rattle.lexing.specs.declared.answers.Lost.{Lost}
-use Rattle.lexing.specs.declared.answers.Step.{Step}
-use Rattle.lexing.specs.declared.answers.Step.TheVariants.{Next, Not}
-use Rattle.lexing.specs.declared.integers.Number.{Number}
-use Rattle.lexing.specs.declared.integers.Number.TheVariants.{Value, NoNumber}
 use Rattle.lexing.proofs.Onward.{Onward}
 use Rattle.lexing.proofs.Locality.{chain_ret, chain_bind, chain_then, chain_opt, chain_many0}
 use Rattle.lexing.proofs.TokenLocality.{any_keyword_chain, whitespace0_chain}
 use Rattle.lexing.proofs.FirstWord.{Frees, free_keywords}
-use Rattle.lexing.proofs.Repetition.{many0_step, many0_ends}
+use Rattle.lexing.proofs.Repetition.{before, many0_step, many0_stop, many0_ends}
 use Rattle.lexing.proofs.words.Laws.{keyword_says}
-use Rattle.lexing.proofs.Slicing.{Took, took, walks, told_next, told_not, or_here, begin, go, on, done, lose, fall, rest_self, rest_from}
+use Rattle.lexing.proofs.Slicing.{Took, took, walks, or_here, begin, go, on, done, lose, fall, rest_self, rest_from}
 use Rattle.lexing.proofs.Dropping.{skip_is, skip_not, no_word}
 use Rattle.lexing.proofs.steps.Laws.{gap_at_took, skips_lost}
 use Rattle.items.specs.entries.{enclosed, where_missing, braces, api_maturity, choice_after_doc_maturity, parse_enum_after_doc_maturity, parse_bitmap_after_doc_maturity}
@@ -43,7 +42,6 @@ use Rattle.items.specs.declared.member_kinds.MemberKind.TheVariants.{Revision, B
 use Rattle.items.specs.declared.member_kinds.MemberStart.{MemberStart}
 use Rattle.items.specs.declared.clusters.ClusterHeadParts.{ClusterHeadParts}
 use Rattle.items.specs.declared.members.MembersWrote.{MembersWrote}
-use Rattle.lexing.proofs.AnswerLaws.{reads_as, read_took}
 use Rattle.items.proofs.Keywords.{keyword_missing}
 use Rattle.lexing.proofs.Composed.{onward_bind}
 use Rattle.items.proofs.Headed.{Headed}
@@ -51,9 +49,10 @@ use Rattle.items.proofs.Choice.{further_ok, ok_further}
 use Rattle.lexing.proofs.Sequences.{bind_ok, then_ok}
 use Rattle.items.proofs.Tries.{maturity_words, maturity_elsewhere}
 use Rattle.lexing.proofs.TextEnd.{brace_first, brace_keyword, brace_blank}
-use Rattle.items.proofs.Braces.{Step as Taken, lost_not, rest_is, taken, then_value, follows, follows_with, close_took, close_lost, close_on, opened_room, opened_is}
-use Rattle.items.proofs.RecordWords.{Elementwise, each_elementwise, word_count_none, catalogue_bytes_none}
-use Rattle.items.proofs.Locality.{braces_chain, api_maturity_local, parse_revision_local, member_tries_inside, parse_cluster_member_inside, parse_cluster_member_consumes, side_local, cluster_head_local}
+use Rattle.items.proofs.Braces.{Step as Taken, lost_not, ok_no_stop, rest_is, taken, then_value, follows, follows_with, close_took, close_lost, close_on, opened_room, opened_is}
+use Rattle.items.proofs.RecordWords.{each_elementwise, word_count_none, catalogue_bytes_none}
+use Rattle.items.specs.inner.runs.{Elementwise}
+use Rattle.items.proofs.Locality.{braces_chain, api_maturity_local, member_tries_inside, parse_cluster_member_inside, parse_cluster_member_consumes, side_local, cluster_head_local}
 use Rattle.items.proofs.WordBetween.{extent_between}
 use Rattle.lexing.proofs.buffers.Laws.{put_nothing}
 use Rattle.items.proofs.writing.Laws.{documented_bytes, no_room, Writing, writing_start, writing_start_seen, writing_same, writing_fits, writing_more, writing_more_seen}
@@ -61,24 +60,23 @@ use Rattle.items.proofs.Recorded.{Recorded, recorded_at, recorded_room, recorded
 use Rattle.items.proofs.member_kinds.Laws.{OtherWord, at_other, member_left}
 use Rattle.items.proofs.members.Laws.{member_tries_on}
 use Rattle.items.proofs.clusters.Laws.{members_on}
+use Rattle.items.specs.declared.layout.Kind.TheVariants.{Cluster as a_cluster}
 
 -- one of two keywords
 module _ (k j : List ℕ) (b : ℕ) (u : List ℕ) where
-  pub either_first : {a : Step} {c : ℕ} → word_reply a b u ≡ keyword k b u → a ≡ Next c → word_reply a b u ≡ any_keyword (k ∷ j ∷ []) b u
+  pub either_first : {c : ℕ} → word_reply (Ok c) b u ≡ keyword k b u → word_reply (Ok c) b u ≡ any_keyword (k ∷ j ∷ []) b u
   unfolding any_keyword
-  either_first {a} {c} h e =
-      let z = or_here (keyword k) (any_keyword (j ∷ [])) b u (word_at b u c) c (drop (c - b) u) (told_next (word_at b u) a c b u (keyword k b u) e h) in
-      subst (λ (x : Step). word_reply x b u ≡ any_keyword (k ∷ j ∷ []) b u) (sym e) z
+  either_first {c} h = or_here (keyword k) (any_keyword (j ∷ [])) b u (word_at b u c) c (drop (c - b) u) h
 
   -- the first is not there: it failed at b, so that the second decides
-  pub either_second : {a : Step} (a' : Step) (l : Lost) → word_reply a b u ≡ keyword k b u → a ≡ Not l → word_reply a' b u ≡ keyword j b u → word_reply a' b u ≡ any_keyword (k ∷ j ∷ []) b u
+  pub either_second : (a : Step) (l : Lost) → word_reply (Err l) b u ≡ keyword k b u → word_reply a b u ≡ keyword j b u → word_reply a b u ≡ any_keyword (k ∷ j ∷ []) b u
   unfolding any_keyword ◌or◌ no_nearer
-  either_second {a} a' l h e h' = go (keyword j b u) refl
+  either_second a l h h' = go (keyword j b u) refl
     where
       f : keyword k b u ≡ fail b
-      f = sym (keyword_missing k b u a h l e)
+      f = sym (keyword_missing k b u l h)
 
-      go : (x : Reply Word) → keyword j b u ≡ x → word_reply a' b u ≡ any_keyword (k ∷ j ∷ []) b u
+      go : (x : Reply Word) → keyword j b u ≡ x → word_reply a b u ≡ any_keyword (k ∷ j ∷ []) b u
       go (ok w c r) z = h' ∙ rw (f, z, any_keyword, ◌or◌) refl
       go (fail p) z =
           let y : p ≡ b = rw z at (keyword_says j b u) in
@@ -87,24 +85,24 @@ module _ (k j : List ℕ) (b : ℕ) (u : List ℕ) where
       go (stop n p) z = absurd (rw z at (keyword_says j b u))
 
 -- the word of a side, and the gap after it
-module _ {b : ℕ} {u : List ℕ} {a : Step} (h : word_reply a b u ≡ any_keyword (ascii "client" ∷ ascii "server" ∷ []) b u) where
-  pub side_word : {c : ℕ} → a ≡ Next c → Took (any_keyword (ascii "client" ∷ ascii "server" ∷ [])) b u b (word_at b u c) c
-  side_word {c} e = took (walks (any_keyword_chain (ascii "client" ∷ ascii "server" ∷ []))) (rest_self b u) (told_next (word_at b u) a c b u _ e h)
+abbrev sides : List (List ℕ)
+sides = ascii "client" ∷ ascii "server" ∷ []
 
-  pub side_not : {l : Lost} → a ≡ Not l → Skips side a b u
-  unfolding side
-  side_not {l} e = subst (λ (x : Step). Skips side x b u) (sym e) (skip_not side no_word l b u (begin side b u (lose _ _ l (rest_self b u) (told_not (word_at b u) a l b u _ e h))))
+module _ {b : ℕ} {u : List ℕ} where
+  pub side_word : {c : ℕ} → word_reply (Ok c) b u ≡ any_keyword sides b u → Took (any_keyword sides) b u b (word_at b u c) c
+  side_word h = took (walks (any_keyword_chain sides)) (rest_self b u) h
 
-  pub side_is : {c : ℕ} → a ≡ Next c → (r : Step) → SkipsAt whitespace1 r b u c → Skips side r b u
+  pub side_not : {l : Lost} → word_reply (Err l) b u ≡ any_keyword sides b u → Skips side (Err l) b u
   unfolding side
-  side_is e (Next d) k = skip_is side _ b d u (begin side b u (go _ (side_word e) (on _ (gap_at_took refl k) (done _ _ _ _))))
-  side_is e (Not l) k = skip_not side no_word l b u (begin side b u (go _ (side_word e) (fall _ _ l k.at (skips_lost refl refl k))))
+  side_not {l} h = skip_not side no_word l b u (begin side b u (lose _ _ l (rest_self b u) h))
+
+  pub side_is : {c : ℕ} → word_reply (Ok c) b u ≡ any_keyword sides b u → (r : Step) → SkipsAt whitespace1 r b u c → Skips side r b u
+  unfolding side
+  side_is h (Ok d) k = skip_is side _ b d u (begin side b u (go _ (side_word h) (on _ (gap_at_took k) (done _ _ _ _))))
+  side_is h (Err l) k = skip_not side no_word l b u (begin side b u (go _ (side_word h) (fall _ _ l k.at (skips_lost k))))
 
 pub side_on : Onward (opt side)
 side_on = walks (chain_opt side_local.on_chain)
-
-revision_on : Onward parse_revision
-revision_on = walks parse_revision_local.on_chain
 
 pub cluster_head_on : Onward cluster_head
 cluster_head_on = walks cluster_head_local.on_chain
@@ -175,21 +173,17 @@ module _ (d : Doc) (m : ℕ) {x : MemberKind} (e : x ≡ Revision) (b : ℕ) (u 
   unfolding member_try
   revision_is = ap (λ (y : MemberKind). member_try y d m b u) e
 
-  revision_written : (z : ℕ) {a : Number} {n c at : ℕ} {old : List ℕ} → RevisionTo a b u → a ≡ Value n c → MemberWritten z (member_try x d m) b u at (record { next = c; to = at; revision = n }) old old
+  revision_written : (z : ℕ) {n c at : ℕ} {old : List ℕ} → RevisionTo (Ok (n, c)) b u → MemberWritten z (member_try x d m) b u at (record { next = c; to = at; revision = n }) old old
   unfolding member_records last_revision
-  revision_written z {a} {n} {c} {at} {old} h y =
-      let t = read_took h y revision_on (rest_self b u) refl in
+  revision_written z {n} {c} {at} {old} h =
       record {
-        written = record { value = revision n; is = begin parse_revision b u (sym t.goes) ∙ sym revision_is; place = omega (arith, word_count_none); bytes = sym (rw (catalogue_bytes_none layout) (put_nothing at old)) };
+        written = record { value = revision n; is = h.reads ∙ sym revision_is; place = omega (arith, word_count_none); bytes = sym (rw (catalogue_bytes_none layout) (put_nothing at old)) };
         latest = refl;
       }
 
-  pub revision_left : (z : ℕ) {a : Number} {at n : ℕ} {old : List ℕ} {w : MembersWrote} → Room unhoisted (member_try x d m) b u at n → RevisionTo a b u → w ≡ revision_wrote a b at z → MemberWritten z (member_try x d m) b u at w old old
-  revision_left z {a} {at} {n} {old} {w} room h y = subst (λ (o : MembersWrote). MemberWritten z (member_try x d m) b u at o old old) (sym y) (go a refl)
-    where
-      go : (v : Number) → a ≡ v → MemberWritten z (member_try x d m) b u at (revision_wrote v b at z) old old
-      go (Value i c) e = revision_written z h e
-      go (NoNumber l) e = absurd (no_room room l (reads_as h e ∙ sym revision_is))
+  pub revision_left : (z : ℕ) (a : Read ℕ) {at n : ℕ} {old : List ℕ} {w : MembersWrote} → Room unhoisted (member_try x d m) b u at n → RevisionTo a b u → w ≡ revision_wrote a b at z → MemberWritten z (member_try x d m) b u at w old old
+  revision_left z (Ok (i, c)) room h y = rw y (revision_written z h)
+  revision_left z (Err l) room h y = absurd (no_room room l (h.reads ∙ sym revision_is))
 
 -- no member at all
 pub unknown_found : (d : Doc) (m : ℕ) {x : MemberKind} → x ≡ Unknown → (b : ℕ) (u : List ℕ) {at n : ℕ} → Room unhoisted (member_try x d m) b u at n → ⊥
@@ -319,7 +313,9 @@ module _ (b : ℕ) (u : List ℕ) (at : ℕ) (old : List ℕ) (room : Room (each
                 let n : whole.next ≡ c = cc in
                 let g : lost_reply l ≡ close whole.value c (drop (c - b) u) = fall _ _ l here (close_lost t whole.value l q' e) in
                 absurd (lost_not whole.then l (subst (λ (o : ℕ). lost_reply l ≡ close whole.value o (drop (o - b) u)) (sym n) g))
-            find (stop n p) y = absurd (no_room all (Stop n p) (sym (many0_ends parse_cluster_member_consumes (Stop n p) i.writing.run here (member_lost (Stop n p) (sym y)))))
+            find (stop n p) y =
+                let k = many0_stop parse_cluster_member parse_cluster_member_consumes c (drop (c - b) u) n p (member_is ∙ (ap (member_after d s) (sym q.same) ∙ y)) in
+                absurd (ok_no_stop whole.is (sym (i.writing.run.left ∙ ap (before i.writing.seen) k)))
 
         -- a turn
         pub placing_more : {w : MembersWrote} {new' : List ℕ} → MemberWritten z (member_after d) s r to w new new' → MembersPlacing b u w.next at old new' w.to w.revision × ((c < w.next) × (w.next ≤ b + length u))
@@ -361,11 +357,11 @@ module _ {b : ℕ} {u : List ℕ} {c : ℕ} (t : Took (tag 123) b u b tt c) {r :
 
 -- the first record
 pub cluster_first_put : (f : FrontParts) (h : ClusterHeadParts) (n p v a o : ℕ) (l l₁ : List ℕ) → v ≡ doc_span_bit f.doc
-    → a ≡ first_of (record { kind = 1; place = 0; maturity = f.maturity; doc_present = v; flags = 0; name = h.name; name_length = h.end - h.name; first_privilege = 0; second_privilege = 0 }) → o ≡ doc_span_word f.doc
+    → a ≡ first_of (record { kind = a_cluster; place = 0; maturity = f.maturity; doc_present = v; flags = 0; name = h.name; name_length = h.end - h.name; first_privilege = View; second_privilege = View }) → o ≡ doc_span_word f.doc
     → l₁ ≡ put p (words_bytes (a ∷ o ∷ h.code ∷ n ∷ [])) l → l₁ ≡ put p (catalogue_bytes layout (cluster_first f h n ∷ [])) l
 unfolding further_word offset size from_top packed width
 cluster_first_put f h n p v a o l l₁ d w b e₁ =
-    rw (documented_bytes 1 0 f.maturity f.doc [] (at h.name (h.end - h.name)) 0 0 (value h.code ∷ value n ∷ []) 0 refl, ← d) (rw (w, b) at e₁)
+    rw (documented_bytes a_cluster 0 f.maturity f.doc [] (at h.name (h.end - h.name)) View View (value h.code ∷ value n ∷ []) 0 refl, ← d) (rw (w, b) at e₁)
 
 pub cluster_first_is : (f : FrontParts) (b : ℕ) (u : List ℕ) (h : ClusterHeadParts) (n : ℕ) {c : ℕ} (l : List Member) → NameIn b h.name h.end c → c ≤ b + length u → n ≡ last_revision 0 l → cluster_first f h n ≡ cluster_headed.first (front_of f) (cluster_head_at b u h) l
 unfolding cluster_headed

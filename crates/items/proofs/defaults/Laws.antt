@@ -1,4 +1,6 @@
 -- Default values: one law for each way through a reader.
+use Rattle.lexing.specs.declared.answers.Lost.TheVariants.{Fail, Stop}
+use Rattle.std.specs.Prelude.{Ok, Err}
 use mathlib.Core.Path.{◌≡◌, refl, sym, ap, ◌∙◌, subst}
 use mathlib.Core.List.{List}
 use mathlib.Core.Bool.{Bool, true, false}
@@ -6,39 +8,29 @@ use mathlib.Core.Option.{Option, none, some}
 use Prim.Native.Nat.{ℕ, zero, suc, ◌+◌, ◌-◌, ◌≤◌, ◌<◌}
 use native.Mathlib.Omega.{arith}
 use lib.ListN.{drop}
-use Rattle.lexing.specs.reply.{Reply, ok, fail, Parser, ◌>>◌, opt, stop}
+use Rattle.lexing.specs.reply.{Reply, ok, fail, Parser, ◌>>◌, opt}
 use Rattle.lexing.specs.integers.{signed, positive_integer, signed_integer}
 use Rattle.lexing.specs.blanks.{whitespace1}
-use Rattle.lexing.specs.strings.{Span, span, default_string}
-use Rattle.lexing.specs.answers.{lost_reply, Rest, lost_of, number_lost, number_reply, signed_reply, span_to, string_reply, Fail}
+use Rattle.lexing.specs.strings.{span, default_string}
+use Rattle.lexing.specs.answers.{lost_reply, number_of, Rest, number_reply, signed_of, signed_reply, span_to, string_reply, Read}
 use Rattle.lexing.specs.declared.answers.Lost.{Lost}
-use Rattle.lexing.specs.declared.answers.Step.{Step}
-use Rattle.lexing.specs.declared.answers.Step.TheVariants.{Next, Not}
-use Rattle.lexing.specs.declared.integers.Number.{Number}
-use Rattle.lexing.specs.declared.integers.Number.TheVariants.{Value, NoNumber}
-use Rattle.lexing.specs.declared.integers.SignedNumber.{SignedNumber}
-use Rattle.lexing.specs.declared.integers.SignedNumber.TheVariants.{Sized, NoSigned}
-use Rattle.lexing.proofs.Losses.{by_lost, at_failure}
+use Rattle.lexing.specs.declared.integers.SignedParts.{SignedParts}
 use Rattle.lexing.proofs.Onward.{Onward}
 use Rattle.lexing.proofs.Locality.{chain_opt, chain_then}
 use Rattle.lexing.proofs.TokenLocality.{whitespace1_chain}
-use Rattle.lexing.proofs.Slicing.{walks, told_next, step_lost, integer_lost}
+use Rattle.lexing.proofs.Slicing.{walks}
 use Rattle.items.specs.clusters.{mapped}
 use Rattle.items.specs.endpoints.{Default as DefaultOf, number, signed_number, truth, text, value_tries, default_attribute_value}
 use Rattle.items.specs.records.{twos_complement, default_number}
-use Rattle.items.specs.layout.{text_limit}
 use Rattle.items.specs.inner.defaults.{ValueTo, DefaultIn, optional_value, default_of, OptionalTo}
-use Rattle.items.specs.declared.defaults.SpanParts.{SpanParts}
 use Rattle.items.specs.declared.defaults.DefaultValue.{DefaultValue}
 use Rattle.items.specs.declared.defaults.DefaultValue.TheVariants.{Absent, Number as Num, Signed as SignedValue, Truth, Text}
-use Rattle.items.specs.declared.defaults.DefaultRead.{DefaultRead}
-use Rattle.items.specs.declared.defaults.DefaultRead.TheVariants.{Read, NoDefault}
 use Rattle.items.proofs.Locality.{value_tries_local, default_attribute_value_local}
 use Rattle.items.proofs.Mapped.{value_as, TookAs, took_as, lost_as, mapped_ok, mapped_not}
 use Rattle.lexing.proofs.AnswerLaws.{last_lost}
 use Rattle.lexing.proofs.answers.Laws.{opt_ok, opt_fail, opt_stop}
 use Rattle.items.proofs.Choice.{Past}
-use Rattle.lexing.proofs.TokenPlaces.{integer_place, signed_place, StringPlace, default_string_place}
+use Rattle.lexing.proofs.TokenPlaces.{integer_place, signed_place, default_string_place}
 
 pub values_on : Onward value_tries
 values_on = walks value_tries_local.on_chain
@@ -50,101 +42,69 @@ pub optional_on : Onward (opt (whitespace1 >> default_attribute_value))
 optional_on = walks (chain_opt (chain_then whitespace1_chain default_attribute_value_local.on_chain))
 
 -- the tries of a default's value
-module _ (b : ℕ) (u : List ℕ) {a : Number} (h : number_reply a b u ≡ positive_integer b u) where
-  pub number_try : {v c : ℕ} → a ≡ Value v c → ok (number v) c (drop (c - b) u) ≡ mapped positive_integer number b u
-  number_try {v} {c} e = mapped_ok number positive_integer b u v c (drop (c - b) u) refl (subst (λ (x : Number). number_reply x b u ≡ positive_integer b u) e h)
+module _ (b : ℕ) (u : List ℕ) where
+  pub number_try : {v c : ℕ} → number_reply (Ok (v, c)) b u ≡ positive_integer b u → ok (number v) c (drop (c - b) u) ≡ mapped positive_integer number b u
+  number_try {v} {c} h = mapped_ok number positive_integer b u v c (drop (c - b) u) refl h
 
-  module _ {l l' : Lost} (d : l' ≡ number_lost a) (e : a ≡ NoNumber l) where
-    lost_integer : lost_reply l' ≡ positive_integer b u
-    lost_integer = integer_lost d e b u (positive_integer b u) h
+  pub number_lost : (l : Lost) → number_reply (Err l) b u ≡ positive_integer b u → lost_reply l ≡ mapped positive_integer number b u
+  number_lost l h = mapped_not number positive_integer b u l h
 
-    pub number_stop : lost_reply l' ≡ mapped positive_integer number b u
-    number_stop = mapped_not number positive_integer b u l' lost_integer
+  pub number_not : {p : ℕ} → number_reply (Err (Fail p)) b u ≡ positive_integer b u → fail b ≡ mapped positive_integer number b u
+  number_not {p} h = let y : p ≡ b = rw (← h) at (integer_place b u) in mapped_not number positive_integer b u (Fail b) (rw y at h)
 
-    pub number_not : l'.cause ≡ 0 → fail b ≡ mapped positive_integer number b u
-    number_not z =
-        let k : fail l'.place ≡ positive_integer b u = at_failure (λ p. fail p) (λ n p. stop n p) l' z ∙ lost_integer in
-        let y : l'.place ≡ b = rw (← k) at (integer_place b u) in
-        mapped_not number positive_integer b u (Fail b) (rw y at k)
+  pub signed_try : {s : SignedParts} {c : ℕ} → signed_reply (Ok (s, c)) b u ≡ signed_integer b u → ok (signed_number (signed_of s)) c (drop (c - b) u) ≡ mapped signed_integer signed_number b u
+  signed_try {s} {c} h = mapped_ok signed_number signed_integer b u (signed_of s) c (drop (c - b) u) refl h
 
-signed_fails : (b : ℕ) (u : List ℕ) (l : Lost) → lost_reply l ≡ signed_integer b u → fail b ≡ mapped signed_integer signed_number b u
-signed_fails b u =
-    by_lost
-    (λ l. lost_reply l ≡ signed_integer b u → fail b ≡ mapped signed_integer signed_number b u)
-    (λ p k. let y : p ≡ b = rw (← k) at (signed_place b u) in mapped_not signed_number signed_integer b u (Fail b) (rw y at k))
-    (λ n p k. absurd (rw (← k) at (signed_place b u)))
+  pub signed_not : (l : Lost) → signed_reply (Err l) b u ≡ signed_integer b u → fail b ≡ mapped signed_integer signed_number b u
+  signed_not (Fail p) h = let y : p ≡ b = rw (← h) at (signed_place b u) in mapped_not signed_number signed_integer b u (Fail b) (rw y at h)
+  signed_not (Stop n p) h = absurd (rw (← h) at (signed_place b u))
 
-module _ (b : ℕ) (u : List ℕ) {a : SignedNumber} (h : signed_reply a b u ≡ signed_integer b u) where
-  pub signed_try : {m : Bool} {v c : ℕ} → a ≡ Sized m v c → ok (signed_number (signed m v)) c (drop (c - b) u) ≡ mapped signed_integer signed_number b u
-  signed_try {m} {v} {c} e = mapped_ok signed_number signed_integer b u (signed m v) c (drop (c - b) u) refl (subst (λ (x : SignedNumber). signed_reply x b u ≡ signed_integer b u) e h)
-
-  pub signed_not : (l : Lost) → a ≡ NoSigned l → fail b ≡ mapped signed_integer signed_number b u
-  signed_not l e = signed_fails b u l (subst (λ (x : SignedNumber). signed_reply x b u ≡ signed_integer b u) e h)
-
-module _ (b : ℕ) (u : List ℕ) {a : Step} (h : string_reply a b u ≡ default_string b u) where
-  module _ {c : ℕ} (e : a ≡ Next c) where
-    read_string : ok (span_to b c) c (drop (c - b) u) ≡ default_string b u
-    read_string = told_next (span_to b) a c b u (default_string b u) e h
-
+  module _ {c : ℕ} (h : string_reply (Ok c) b u ≡ default_string b u) where
     -- both quotes were read
     pub text_long : suc b < c
-    text_long = rw (← read_string) at (default_string_place b u)
+    text_long = rw (← h) at (default_string_place b u)
 
     pub text_try : ok (text (span (b + 1) (c - 1 - (b + 1)))) c (drop (c - b) u) ≡ mapped default_string text b u
-    text_try = let z : b + 1 ≡ suc b = omega arith in rw z (mapped_ok text default_string b u (span_to b c) c (drop (c - b) u) refl read_string)
+    text_try = let z : b + 1 ≡ suc b = omega arith in rw z (mapped_ok text default_string b u (span_to b c) c (drop (c - b) u) refl h)
 
-  module _ {l l' : Lost} (d : l' ≡ lost_of a) (e : a ≡ Not l) where
-    lost_string : lost_reply l' ≡ default_string b u
-    lost_string = step_lost (span_to b) d e b u (default_string b u) h
+  pub text_not : (l : Lost) → string_reply (Err l) b u ≡ default_string b u → lost_reply l ≡ mapped default_string text b u
+  text_not l h = mapped_not text default_string b u l h
 
-    pub text_not : lost_reply l' ≡ mapped default_string text b u
-    text_not = mapped_not text default_string b u l' lost_string
-
-    string_past : (X : Reply Span) → StringPlace b X → (k : Lost) → lost_reply k ≡ X → Past {A = DefaultOf} b (lost_reply k)
-    string_past X p = by_lost (λ k. lost_reply k ≡ X → Past {A = DefaultOf} b (lost_reply k)) (λ q z. rw (← z) at p) (λ n q z. tt)
-
-    pub text_past : Past {A = DefaultOf} b (lost_reply l')
-    text_past = string_past (default_string b u) (default_string_place b u) l' lost_string
+  pub text_past : (l : Lost) → string_reply (Err l) b u ≡ default_string b u → Past {A = DefaultOf} b (lost_reply l)
+  text_past (Fail p) h = rw (← h) at (default_string_place b u)
+  text_past (Stop n p) h = tt
 
 -- the two ways in which a default that is present answers
 module _ (m : Parser DefaultOf) {b : ℕ} {u : List ℕ} where
-  pub value_is : {d : DefaultValue} {v : DefaultOf} {c : ℕ} → some v ≡ default_of d → ok v c (drop (c - b) u) ≡ m b u → DefaultIn d c → ValueTo m (Read d c) b u
+  pub value_is : {d : DefaultValue} {v : DefaultOf} {c : ℕ} → some v ≡ default_of d → ok v c (drop (c - b) u) ≡ m b u → DefaultIn d c → ValueTo m (Ok (d, c)) b u
   value_is {d} {v} {c} e h w = record { reads = mapped_ok some m b u v c (drop (c - b) u) e h; within = w }
 
-  pub value_not : (l : Lost) → lost_reply l ≡ m b u → ValueTo m (NoDefault l) b u
+  pub value_not : (l : Lost) → lost_reply l ≡ m b u → ValueTo m (Err l) b u
   value_not l h = record { reads = mapped_not some m b u l h; within = tt }
 
 -- one that may be absent
-pub optional_at : (r : DefaultRead) (b : ℕ) {x : DefaultRead} → r ≡ x → optional_value x b ≡ optional_value r b
-optional_at r b e = sym (ap (λ (y : DefaultRead). optional_value y b) e)
-
-optional_to : (m : Parser DefaultOf) (a : DefaultRead) (b : ℕ) (u : List ℕ) → ValueTo m a b u → OptionalTo m (optional_value a b) b u
-optional_to m (Read d c) b u h =
+optional_to : (m : Parser DefaultOf) (a : Read DefaultValue) (b : ℕ) (u : List ℕ) → ValueTo m a b u → OptionalTo m (optional_value a b) b u
+optional_to m (Ok (d, c)) b u h =
     let x = value_as some m b u (default_of d) c (drop (c - b) u) h.reads in
     record { reads = ap (λ (o : Option DefaultOf). ok o c (drop (c - b) u)) (sym x.1.0) ∙ opt_ok m b u x.0 c (drop (c - b) u) x.1.1; within = h.within }
-optional_to m (NoDefault l) b u h =
-    by_lost
-    (λ l. lost_reply l ≡ m b u → OptionalTo m (optional_value (NoDefault l) b) b u)
-    (λ p h. let z : b - b ≡ 0 = omega arith in record { reads = rw z (opt_fail m b u p h); within = tt })
-    (λ n p h. record { reads = opt_stop m b u n p h; within = tt })
-    l
-    (lost_as some m b u l h.reads)
+optional_to m (Err (Fail p)) b u h = let z : b - b ≡ 0 = omega arith in record { reads = rw z (opt_fail m b u p (lost_as some m b u (Fail p) h.reads)); within = tt }
+optional_to m (Err (Stop n p)) b u h = record { reads = opt_stop m b u (number_of n) p (lost_as some m b u (Stop n p) h.reads); within = tt }
 
-pub optional_is : (m : Parser DefaultOf) (a : DefaultRead) (x : DefaultRead) (b : ℕ) (u : List ℕ) → x ≡ optional_value a b → ValueTo m a b u → OptionalTo m x b u
-optional_is m a x b u e h = subst (λ (y : DefaultRead). OptionalTo m y b u) (sym e) (optional_to m a b u h)
+pub optional_is : (m : Parser DefaultOf) (a : Read DefaultValue) (x : Read DefaultValue) (b : ℕ) (u : List ℕ) → x ≡ optional_value a b → ValueTo m a b u → OptionalTo m x b u
+optional_is m a x b u e h = subst (λ (y : Read DefaultValue). OptionalTo m y b u) (sym e) (optional_to m a b u h)
 
 -- a default as the end of a sequence k
-pub value_end : {m : Parser DefaultOf} (w : Onward m) (k : Parser DefaultOf) {b n : ℕ} {u r : List ℕ} (a : DefaultRead) → Rest b u n r → ((X : Reply DefaultOf) → X ≡ m n (drop (n - b) u) → X ≡ k b u) → ValueTo m a n r → ValueTo k a b u
-value_end {m} w k {b} {n} {u} {r} (Read d c) q f h =
+pub value_end : {m : Parser DefaultOf} (w : Onward m) (k : Parser DefaultOf) {b n : ℕ} {u r : List ℕ} (a : Read DefaultValue) → Rest b u n r → ((X : Reply DefaultOf) → X ≡ m n (drop (n - b) u) → X ≡ k b u) → ValueTo m a n r → ValueTo k a b u
+value_end {m} w k {b} {n} {u} {r} (Ok (d, c)) q f h =
     let s : TookAs some m b u n (default_of d) c = took_as w q h.reads in
     record { reads = mapped_ok some k b u s.value c (drop (c - b) u) s.is (f _ (sym s.step.goes)); within = h.within }
-value_end {m} w k {b} {n} {u} {r} (NoDefault l) q f h = value_not k l (f _ (last_lost m l q (lost_as some m n r l h.reads)))
+value_end {m} w k {b} {n} {u} {r} (Err l) q f h = value_not k l (f _ (last_lost m l q (lost_as some m n r l h.reads)))
 
 -- the text goes on after a default
 pub default_within : (d : DefaultValue) (c e : ℕ) → DefaultIn d c → c ≤ e → DefaultIn d e
 default_within Absent c e h k = tt
 default_within (Num n) c e h k = tt
-default_within (SignedValue m n) c e h k = tt
+default_within (SignedValue s) c e h k = tt
 default_within (Truth x) c e h k = tt
 default_within (Text s) c e h k = omega (arith, h, k)
 
@@ -170,7 +130,3 @@ complement_negative (suc v) h = omega arith
 pub complement_positive : (v : ℕ) → twos_complement (signed false v) ≡ v
 unfolding twos_complement
 complement_positive v = refl
-
--- what a default's span fits
-pub span_fits : (d : DefaultValue) {s : SpanParts} → d ≡ Text s → DefaultIn d text_limit → (s.start ≤ text_limit) × (s.length ≤ text_limit)
-span_fits d {s} e h = let k : s.start + s.length < text_limit = subst (λ (x : DefaultValue). DefaultIn x text_limit) e h in (omega (arith, k), omega (arith, k))

@@ -1,4 +1,6 @@
 -- Device types and endpoints: one law for each way through a reader.
+use Rattle.items.specs.declared.maturity.Maturity.TheVariants.{Stable}
+use Rattle.items.specs.declared.layout.Kind.TheVariants.{DeviceType as a_device_type, Endpoint as a_endpoint}
 use mathlib.Core.Path.{◌≡◌, refl, sym}
 use mathlib.Core.List.{List, [], ◌∷◌}
 use Prim.Native.Nat.{ℕ, ◌-◌}
@@ -55,13 +57,13 @@ endpoint_headed = record {
   size = λ i n l. refl;
 }
 
-pub device_put : (t : DeviceTypeParts) (p w : ℕ) (l l₁ : List ℕ) → w ≡ plain_word 11 0 t.name t.end → l₁ ≡ put p (words_bytes (w ∷ t.code ∷ t.version ∷ [])) l → l₁ ≡ put p (catalogue_bytes layout (device_parts t ∷ [])) l
+pub device_put : (t : DeviceTypeParts) (p w : ℕ) (l l₁ : List ℕ) → w ≡ plain_word a_device_type 0 t.name t.end → l₁ ≡ put p (words_bytes (w ∷ t.code ∷ t.version ∷ [])) l → l₁ ≡ put p (catalogue_bytes layout (device_parts t ∷ [])) l
 unfolding from_top packed width offset size further_word
-device_put t p w l l₁ d e₁ = rw (plain_bytes 11 0 [] (at t.name (t.end - t.name)) (value t.code ∷ value t.version ∷ []) 0 refl) (rw d at e₁)
+device_put t p w l l₁ d e₁ = rw (plain_bytes a_device_type Stable [] (at t.name (t.end - t.name)) (value t.code ∷ value t.version ∷ []) 0 refl) (rw d at e₁)
 
-pub endpoint_put : (p n w : ℕ) (l l₁ : List ℕ) → w ≡ plain_word 10 0 0 0 → l₁ ≡ put p (words_bytes (w ∷ n ∷ [])) l → l₁ ≡ put p (catalogue_bytes layout (endpoint_first n ∷ [])) l
+pub endpoint_put : (p n w : ℕ) (l l₁ : List ℕ) → w ≡ plain_word a_endpoint 0 0 0 → l₁ ≡ put p (words_bytes (w ∷ n ∷ [])) l → l₁ ≡ put p (catalogue_bytes layout (endpoint_first n ∷ [])) l
 unfolding from_top packed width offset size further_word
-endpoint_put p n w l l₁ d e₁ = rw (plain_bytes 10 0 [] absent (value n ∷ []) 0 refl) (rw d at e₁)
+endpoint_put p n w l l₁ d e₁ = rw (plain_bytes a_endpoint Stable [] absent (value n ∷ []) 0 refl) (rw d at e₁)
 
 pub parts_unclosing : Unclosing part_tries
 unfolding part_tries

@@ -1,43 +1,41 @@
 -- Entries.
-use mathlib.Core.Path.{◌≡◌, refl, sym, ap, ◌∙◌, subst}
+use Rattle.items.specs.declared.levels.Privilege.TheVariants.{View}
+use Rattle.std.specs.Prelude.{Ok, Err}
+use mathlib.Core.Path.{◌≡◌, refl, sym, ap, ◌∙◌}
 use mathlib.Core.List.{List, [], ◌∷◌, map}
 use mathlib.Core.Option.{Option}
-use Prim.Native.Nat.{ℕ, zero, suc, ◌+◌, ◌-◌, ◌*◌, ◌≤◌, ◌<◌}
+use Prim.Native.Nat.{ℕ, ◌+◌, ◌-◌, ◌*◌, ◌≤◌}
 use native.Mathlib.Omega.{arith}
 use lib.ListN.{length, drop}
-use Rattle.lexing.specs.reply.{ok, Parser}
+use Rattle.lexing.specs.reply.{ok}
 use Rattle.lexing.specs.words.{word}
 use Rattle.lexing.specs.blanks.{Doc, whitespace0}
 use Rattle.lexing.specs.buffers.{each, words_bytes, put}
-use Rattle.lexing.specs.answers.{Rest, lost_reply}
+use Rattle.lexing.specs.answers.{Rest, lost_reply, Read}
 use Rattle.lexing.specs.declared.answers.Lost.{Lost}
 use Rattle.lexing.proofs.Onward.{Onward}
-use Rattle.lexing.proofs.Locality.{chain_ret, chain_bind, chain_many0, chain_then}
+use Rattle.lexing.proofs.Locality.{chain_ret, chain_bind, chain_then}
 use Rattle.lexing.proofs.TokenLocality.{whitespace0_chain}
-use Rattle.lexing.proofs.Slicing.{Took, took, walks, rest_self, rebase}
-use Rattle.lexing.proofs.AnswerLaws.{read_within, read_took, read_lost}
-use Rattle.lexing.proofs.WordBetween.{word_moved}
+use Rattle.lexing.proofs.Slicing.{Took, took, walks, rest_self}
 use Rattle.lexing.proofs.buffers.Laws.{put_on}
-use Rattle.items.specs.entries.{Annotation, constant_annotations_list, annotations_of, Entry, constant_entry, blank_entry, constant_entries}
+use Rattle.items.specs.entries.{Annotation, constant_annotations_list, annotations_of, Entry, constant_entry, blank_entry}
 use Rattle.items.specs.records.{Record, plain, annotation_record, entry_record, entry_records}
 use Rattle.items.specs.layout.{packed, width, from_top, offset, size, further_word, word_count, catalogue_words, catalogue_bytes, record_words, layout}
-use Rattle.items.specs.answers.{first_of, count_lost}
+use Rattle.items.specs.answers.{first_of}
 use Rattle.items.specs.inner.annotations.{optional_records, list_at, annotations_at}
-use Rattle.items.specs.inner.entries.{entry_at, entry_lost, EntryBounds, EntryTo, entry_end, EndTo, parts_record}
-use Rattle.items.specs.declared.counts.Count.{Count}
-use Rattle.items.specs.declared.counts.Count.TheVariants.{Words, NoCount}
+use Rattle.items.specs.inner.entries.{entry_at, EntryBounds, EntryTo, entry_end, EndTo, parts_record}
 use Rattle.items.specs.declared.entries.EntryParts.{EntryParts}
-use Rattle.items.specs.declared.entries.EntryRead.{EntryRead}
-use Rattle.items.specs.declared.entries.EntryRead.TheVariants.{Read, NoEntry}
-use Rattle.items.proofs.Locality.{punct_local, constant_annotations_list_inside, blank_entry_inside}
+use Rattle.items.proofs.Locality.{punct_local, constant_annotations_list_inside, blank_entry_inside, blank_entry_consumes}
 use Rattle.items.proofs.Blanks.{read_after}
 use Rattle.items.proofs.WordBetween.{extent_between}
-use Rattle.items.proofs.RecordWords.{word_count_append, catalogue_bytes_append, catalogue_bytes_length}
+use Rattle.items.specs.inner.runs.{Repeats}
+use Rattle.items.proofs.RecordWords.{each_elementwise, word_count_append, catalogue_bytes_append, catalogue_bytes_length}
 use Rattle.items.proofs.annotations.Laws.{list_is, annotation_words}
+use Rattle.items.specs.declared.layout.Kind.TheVariants.{Entry as a_entry}
 
 -- the end of an entry
 pub end_is : {v : Option (List Annotation)} {n c b c₁ c₂ : ℕ} {u : List ℕ} {x : Doc} → Took whitespace0 b u b x c₁ → Took constant_annotations_list b u c₁ v c₂ → word_count layout (optional_records v) ≡ n → n ≤ 8 * (c - b)
-    → ((e : Option (List Annotation) → Entry) → ok (e v) c (drop (c - b) u) ≡ entry_end e b u) → EndTo (Words n c) b u
+    → ((e : Option (List Annotation) → Entry) → ok (e v) c (drop (c - b) u) ≡ entry_end e b u) → EndTo (Ok (n, c)) b u
 end_is {v} {n} {c} {b} {u = u} t s w f h =
     let z = list_is t s in
     record {
@@ -45,53 +43,28 @@ end_is {v} {n} {c} {b} {u = u} t s w f h =
       words = (ap (λ (o : Option (List Annotation)). word_count layout (optional_records o)) z ∙ w, f);
     }
 
-pub end_not : (l : Lost) (b : ℕ) (u : List ℕ) → ((e : Option (List Annotation) → Entry) → lost_reply l ≡ entry_end e b u) → EndTo (NoCount l) b u
+pub end_not : (l : Lost) (b : ℕ) (u : List ℕ) → ((e : Option (List Annotation) → Entry) → lost_reply l ≡ entry_end e b u) → EndTo (Err l) b u
 end_not l b u h = record { reads = h; words = tt }
 
 end_onward : (e : Option (List Annotation) → Entry) → Onward (entry_end e)
 unfolding entry_end
 end_onward e = walks (chain_then whitespace0_chain (chain_bind constant_annotations_list_inside.on_chain λ a. chain_then whitespace0_chain (chain_then (punct_local 59 refl).on_chain (chain_ret (e a)))))
 
-told : {a x : Count} {b : ℕ} {u : List ℕ} → a ≡ x → EndTo a b u → EndTo x b u
-told {b = b} {u = u} d h = subst (λ (y : Count). EndTo y b u) d h
-
-pub end_took : (e : Option (List Annotation) → Entry) {b n : ℕ} {u r : List ℕ} {a : Count} {k c : ℕ} → Rest b u n r → a ≡ Words k c → EndTo a n r → Took (entry_end e) b u n (e (list_at n (drop (n - b) u))) c
-end_took e {b} {n} {u} q d h = rw (← q.same) (took (end_onward e) q ((told d h).reads e))
-
-pub end_none : (e : Option (List Annotation) → Entry) {n : ℕ} {r : List ℕ} {a : Count} {l l' : Lost} → l' ≡ count_lost a → a ≡ NoCount l → EndTo a n r → lost_reply l' ≡ entry_end e n r
-end_none e d z h = ap (λ (x : Lost). lost_reply x) (d ∙ ap count_lost z) ∙ (told z h).reads e
+pub end_took : (e : Option (List Annotation) → Entry) {b n : ℕ} {u r : List ℕ} {k c : ℕ} → Rest b u n r → EndTo (Ok (k, c)) n r → Took (entry_end e) b u n (e (list_at n (drop (n - b) u))) c
+end_took e {b} {n} {u} q h = rw (← q.same) (took (end_onward e) q (h.reads e))
 
 -- its words, and where it ends, from the numbers alone
-pub end_words : {b n : ℕ} {u r : List ℕ} {a : Count} {k c : ℕ} → Rest b u n r → a ≡ Words k c → EndTo a n r → (word_count layout (map annotation_record (annotations_at n (drop (n - b) u))) ≡ k) × (k ≤ 8 * (c - n))
-end_words {n = n} q d h = (ap (λ (v : List ℕ). word_count layout (map annotation_record (annotations_at n v))) (sym q.same) ∙ (told d h).words.0, (told d h).words.1)
+pub end_words : {b n : ℕ} {u r : List ℕ} {k c : ℕ} → Rest b u n r → EndTo (Ok (k, c)) n r → (word_count layout (map annotation_record (annotations_at n (drop (n - b) u))) ≡ k) × (k ≤ 8 * (c - n))
+end_words {n = n} q h = (ap (λ (v : List ℕ). word_count layout (map annotation_record (annotations_at n v))) (sym q.same) ∙ h.words.0, h.words.1)
 
-pub end_up : {n : ℕ} {r : List ℕ} {a : Count} {k c : ℕ} → a ≡ Words k c → EndTo a n r → n ≤ c
-end_up {n} {r} d h =
+pub end_up : {n : ℕ} {r : List ℕ} {k c : ℕ} → EndTo (Ok (k, c)) n r → n ≤ c
+end_up {n} {r} h =
     let e : Option (List Annotation) → Entry = λ o. record { maturity = 0; name = word 0 []; code = 0; annotations = annotations_of o } in
-    (end_took e (rest_self n r) d h).up
+    (end_took e (rest_self n r) h).up
 
 -- entries
--- the same bytes, seen from the part's start
-entry_moved : (b n : ℕ) (u r : List ℕ) (e : EntryParts) → Rest b u n r → n ≤ e.name → n ≤ e.list → entry_at n r e ≡ entry_at b u e
-entry_moved b n u r e q h k =
-    let z : drop (e.list - n) r ≡ drop (e.list - b) u = ap (drop (e.list - n)) q.same ∙ rebase b n e.list u q.from k in
-    rw (word_moved b n u r e.name e.end q h, z) refl
-
-module _ {m : Parser Entry} (w : Onward m) {b n : ℕ} {u r : List ℕ} {a : EntryRead} (q : Rest b u n r) (h : EntryTo m a n r) where
-  pub entry_same : (e : EntryParts) (c : ℕ) → a ≡ Read e c → entry_at n r e ≡ entry_at b u e
-  entry_same e c d = let v = read_within h d in entry_moved b n u r e q v.from (omega (arith, v.from, v.up, v.follows))
-
-  pub entry_took : (e : EntryParts) (c : ℕ) → a ≡ Read e c → Took m b u n (entry_at b u e) c
-  entry_took e c d = rw (← entry_same e c d) (read_took h d w q refl)
-
-  pub entry_lost_lem : (l l' : Lost) → l' ≡ entry_lost a → a ≡ NoEntry l → lost_reply l' ≡ m n r
-  entry_lost_lem l l' e d = read_lost h d entry_lost e refl
-
-pub blank_entry_onward : Onward blank_entry
-blank_entry_onward = walks blank_entry_inside.on_chain
-
 -- an entry reads the blanks before it itself
-pub entry_after : {b : ℕ} {u : List ℕ} {a : EntryRead} → EntryTo constant_entry a b u → EntryTo blank_entry a b u
+pub entry_after : {b : ℕ} {u : List ℕ} {a : Read EntryParts} → EntryTo constant_entry a b u → EntryTo blank_entry a b u
 unfolding blank_entry constant_entry
 entry_after h = read_after _ _ _ h
 
@@ -110,12 +83,12 @@ parts_count e = refl
 
 -- the two words of an entry's record, one after the other
 parts_words : (e : EntryParts) → catalogue_bytes layout (parts_record e ∷ [])
-    ≡ words_bytes (first_of (record { kind = 4; place = 0; maturity = e.maturity; doc_present = 0; flags = 0; name = e.name; name_length = e.end - e.name; first_privilege = 0; second_privilege = 0 }) ∷ e.code ∷ [])
+    ≡ words_bytes (first_of (record { kind = a_entry; place = 0; maturity = e.maturity; doc_present = 0; flags = 0; name = e.name; name_length = e.end - e.name; first_privilege = View; second_privilege = View }) ∷ e.code ∷ [])
 unfolding catalogue_bytes catalogue_words each record_words layout further_word plain from_top width packed offset size
 parts_words e = refl
 
 pub put_entry : (e : EntryParts) (p w : ℕ) (l l₁ : List ℕ)
-    → w ≡ first_of (record { kind = 4; place = 0; maturity = e.maturity; doc_present = 0; flags = 0; name = e.name; name_length = e.end - e.name; first_privilege = 0; second_privilege = 0 })
+    → w ≡ first_of (record { kind = a_entry; place = 0; maturity = e.maturity; doc_present = 0; flags = 0; name = e.name; name_length = e.end - e.name; first_privilege = View; second_privilege = View })
     → l₁ ≡ put p (words_bytes (w ∷ e.code ∷ [])) l → l₁ ≡ put p (catalogue_bytes layout (parts_record e ∷ [])) l
 put_entry e p w l l₁ z e₁ = rw (parts_words e) (rw z at e₁)
 
@@ -148,31 +121,15 @@ module _ {b c : ℕ} {u : List ℕ} (e : EntryParts) (v : EntryBounds b u e c) (
       let x = put_on at (at + 16) (catalogue_bytes layout one) (catalogue_bytes layout more) old mid new (omega (arith, size)) (omega (arith, k, catalogue_bytes_length more, v.words)) h g' in
       x ∙ ap (λ (l : List ℕ). put at l old) (sym (catalogue_bytes_append layout one more) ∙ ap (λ (y : Record). catalogue_bytes layout (y ∷ more)) (entry_parts e v i))
 
--- what the annotations of an entry ask for, where there are some
-pub annotations_ask : {b c n : ℕ} {u r : List ℕ} (e : EntryParts) (at : ℕ) → EntryBounds b u e c → Rest b u e.list r → at + 8 * (2 + e.words) ≤ n → (e.words ≡ 0 → ⊥)
-    → (0 < word_count layout (map annotation_record (annotations_at e.list r))) × (at + 16 + 8 * word_count layout (map annotation_record (annotations_at e.list r)) ≤ n)
-annotations_ask e at v q k z =
-    let w = ap (λ (x : List ℕ). word_count layout (map annotation_record (annotations_at e.list x))) q.same ∙ v.words in
-    (positive e.words z w, omega (arith, k, w))
-  where
-    positive : {m : ℕ} (n : ℕ) → (n ≡ 0 → ⊥) → m ≡ n → 0 < m
-    positive zero z w = absurd (z refl)
-    positive (suc n) z w = omega (arith, w)
-
 -- A turn of both passes.
 pub entry_wider : {b c d : ℕ} {u : List ℕ} {e : EntryParts} → EntryBounds b u e c → c ≤ d → EntryBounds b u e d
-entry_wider v h = record { from = v.from; up = v.up; follows = v.follows; inside = omega (arith, v.inside, h); small = v.small; words = v.words; few = omega (arith, v.few, h) }
+entry_wider v h = record { from = v.from; up = v.up; follows = v.follows; inside = omega (arith, v.inside, h); words = v.words; few = omega (arith, v.few, h) }
 
-module _ (b n : ℕ) (u r : List ℕ) (e : EntryParts) (s : entry_at n r e ≡ entry_at b u e) where
-  pub entry_count : {c : ℕ} → EntryBounds n r e c → word_count layout (entry_records (entry_at b u e)) ≡ 2 + e.words
-  entry_count v = entry_words (entry_at b u e) ∙ ap (λ (x : ℕ). 2 + x) (ap (λ (x : Entry). word_count layout (map annotation_record x.annotations)) (sym s) ∙ v.words)
-
-  pub entry_put : (at : ℕ) (old : List ℕ) {new : List ℕ} → new ≡ put at (catalogue_bytes layout (entry_records (entry_at n r e))) old → new ≡ put at (catalogue_bytes layout (entry_records (entry_at b u e))) old
-  entry_put at old h = h ∙ ap (λ (x : Entry). put at (catalogue_bytes layout (entry_records x)) old) s
+pub entry_count : (b c : ℕ) (u : List ℕ) (e : EntryParts) → EntryBounds b u e c → word_count layout (entry_records (entry_at b u e)) ≡ 2 + e.words
+entry_count b c u e v = entry_words (entry_at b u e) ∙ ap (λ (x : ℕ). 2 + x) v.words
 
 pub entry_few : {n c : ℕ} {r : List ℕ} {e : EntryParts} → EntryBounds n r e c → 2 + e.words ≤ 8 * (c - n)
 entry_few v = omega (arith, v.from, v.up, v.follows, v.inside, v.few)
 
-pub entries_onward : Onward constant_entries
-unfolding constant_entries
-entries_onward = walks (chain_many0 blank_entry_inside.on_chain)
+pub entries_repeat : Repeats (each entry_records) entry_records blank_entry entry_at (λ u b e. EntryBounds b u e) (λ e. 2 + e.words)
+entries_repeat = record { takes = blank_entry_consumes; chain = blank_entry_inside.on_chain; elementwise = each_elementwise entry_records; words = entry_count; few = λ b c u e h v. entry_few h }

@@ -1,4 +1,5 @@
 -- Blanks that are an item: no declaration is after them, and so no item follows. In an accepted text they are at its end.
+use Rattle.std.specs.Prelude.{None}
 use mathlib.Core.Path.{◌≡◌, refl, sym, ap, ◌∙◌}
 use mathlib.Core.Logic.{◌⊎◌, inl, inr}
 use mathlib.Core.List.{List}
@@ -6,7 +7,6 @@ use Prim.Native.Nat.{ℕ, ◌-◌, max}
 use native.Mathlib.Omega.{arith}
 use Rattle.lexing.specs.reply.{Reply, ok, fail, stop, Parser, ret, ◌>>=◌, ◌>>◌, ◌or◌, no_nearer}
 use Rattle.lexing.specs.blanks.{Doc, no_doc, whitespace0, whitespace1}
-use Rattle.lexing.specs.declared.blanks.DocSpan.TheVariants.{Absent}
 use Rattle.lexing.proofs.blanks.Laws.{gap_none}
 use Rattle.lexing.proofs.FirstWord.{blank_clear}
 use Rattle.items.specs.entries.{choice_after_doc_maturity, parse_enum_after_doc_maturity, parse_bitmap_after_doc_maturity}
@@ -111,7 +111,7 @@ stopped e = let z : ◌≡◌ {A = ℕ} 0 1 = cc in omega arith
 no_gap : (c : ℕ) (r : List ℕ) → whitespace0 c r ≡ ok no_doc c r → whitespace1 c r ≡ fail c
 no_gap c r clear =
     let z : c - c ≡ 0 = omega arith in
-    sym (gap_none c r (record { doc = Absent; next = c }) (record { reads = rw z (sym clear); up = omega arith; inside = omega arith }) refl)
+    sym (gap_none c r (record { doc = None; next = c }) (record { reads = rw z (sym clear); up = omega arith; inside = omega arith }) refl)
 
 -- where no declaration is after blanks, no item is
 no_item : (d : Doc) (c : ℕ) (r : List ℕ) {p : ℕ} → whitespace0 c r ≡ ok no_doc c r → declaration d c r ≡ fail p → (q : ℕ) × (item c r ≡ fail q)

@@ -1,9 +1,14 @@
 -- Items: which try a first word selects, and both passes over declarations.
+use Rattle.items.specs.declared.maturity.Maturity.{Maturity}
+use Rattle.items.specs.declared.maturity.Maturity.TheVariants.{Stable}
+use Rattle.items.specs.answers.{maturity_number}
+use Rattle.lexing.specs.declared.answers.Lost.TheVariants.{Fail, Stop}
+use Rattle.std.specs.Prelude.{Ok, Err}
 use mathlib.Core.Path.{◌≡◌, refl, sym, ap, ◌∙◌, subst}
 use mathlib.Core.Logic.{inl, inr}
 use mathlib.Core.Bool.{Bool, true, false}
 use mathlib.Core.List.{List, [], ◌∷◌}
-use Prim.Native.Nat.{ℕ, ◌-◌, ◌≤◌, ◌<◌, max}
+use Prim.Native.Nat.{ℕ, ◌-◌, ◌≤◌, max}
 use native.Mathlib.Omega.{arith}
 use lib.ListN.{drop}
 use Rattle.lexing.specs.bytes.{ascii}
@@ -15,7 +20,7 @@ use Rattle.lexing.proofs.Losses.{by_lost}
 use Rattle.lexing.proofs.Onward.{Ends, Onward}
 use Rattle.lexing.proofs.blanks.Laws.{gap_none, gap_some}
 use Rattle.lexing.proofs.FirstWord.{Frees, starts_free, blank_clear}
-use Rattle.lexing.specs.answers.{Rest, doc_of, lost_reply, BlankTo, Fail, Stop}
+use Rattle.lexing.specs.answers.{Rest, doc_of, lost_reply, BlankTo, Read, number_of}
 use Rattle.lexing.specs.declared.blanks.Blank.{Blank}
 use Rattle.lexing.specs.declared.answers.Lost.{Lost}
 use Rattle.lexing.proofs.Slicing.{Took, took, walks, rest_self, begin, or_here}
@@ -30,8 +35,6 @@ use Rattle.items.specs.answers.{Front, CountTo, count_end, Room, Written}
 use Rattle.items.specs.declared.writing.Wrote.{Wrote}
 use Rattle.items.specs.inner.clusters.{unhoisted_records}
 use Rattle.items.specs.answers.items.{unhoisted_item, DeclarationCountTo}
-use Rattle.items.specs.declared.counts.Count.{Count}
-use Rattle.items.specs.declared.counts.Count.TheVariants.{Words, NoCount}
 use Rattle.items.specs.layout.{layout, word_count}
 use Rattle.items.specs.inner.member_kinds.{is_ok, member_try, fails_at, MemberFrom, KindTo}
 use Rattle.items.specs.inner.counts.{fail_no_earlier}
@@ -46,7 +49,7 @@ use Rattle.items.proofs.Choice.{End, kept, lost, ends, Tries, more, last, keeps,
 use Rattle.items.proofs.Mapped.{mapped_same, lost_as}
 use Rattle.items.proofs.Recorded.{Recorded, recorded_at, recorded_counts}
 use Rattle.items.proofs.Locality.{declaration_local, item_local, mapped_local, cluster_after_doc_maturity_local, endpoint_local, parse_enum_local, parse_bitmap_local, parse_struct_local}
-use Rattle.items.proofs.counts.Laws.{count_took, count_lost_lem, count_is, count_not, count_after, count_no_earlier}
+use Rattle.items.proofs.counts.Laws.{count_took, count_lost, count_is, count_not, count_after, count_no_earlier}
 use Rattle.items.proofs.Braces.{rest_is}
 use Rattle.items.proofs.writing.Laws.{no_room}
 use Rattle.items.proofs.RecordWords.{word_count_none}
@@ -139,16 +142,12 @@ top_from Unknown f b u g = tt
 pub from_kind : {j k : DeclarationKind} (f b : ℕ) (u : List ℕ) → j ≡ k → DeclarationFrom j f b u → DeclarationFrom k f b u
 from_kind f b u e h = subst (λ (x : DeclarationKind). DeclarationFrom x f b u) e h
 
-pub start_from : {s : DeclarationStart} {b : ℕ} {u v : List ℕ} → StartTo s b u → Rest b u s.next v → DeclarationFrom s.kind s.from s.next v
-start_from h q = rw q.same h.goes
-
 -- How a declaration starts: with `endpoint`, which leaves no maturity,
-pub start_endpoint : (b : ℕ) (u : List ℕ) → whitespace0 b u ≡ ok no_doc b u → is_ok (any_keyword (ascii "endpoint" ∷ []) b u) ≡ true → StartTo (record { kind = Endpoint; others_fail_at = b; maturity = 0; next = b; from = b }) b u
+pub start_endpoint : (b : ℕ) (u : List ℕ) → whitespace0 b u ≡ ok no_doc b u → is_ok (any_keyword (ascii "endpoint" ∷ []) b u) ≡ true → StartTo (record { kind = Endpoint; others_fail_at = b; maturity = Stable; next = b; from = b }) b u
 unfolding same_bytes
 start_endpoint b u clear x = record {
   from = omega arith;
   inside = omega arith;
-  small = omega arith;
   leaves = λ d.
       let s = starts_any (ascii "endpoint" ∷ []) b u x in
       let h = maturity_elsewhere b u (starts_free s b maturity_words refl) in
@@ -160,8 +159,8 @@ start_endpoint b u clear x = record {
 }
 
 -- or with a maturity that may be absent, and blanks up to c,
-module _ (b : ℕ) (u : List ℕ) (clear : whitespace0 b u ≡ ok no_doc b u) (x : is_ok (any_keyword (ascii "endpoint" ∷ []) b u) ≡ false) {m c₁ c : ℕ} {e : Doc} (t₁ : Took api_maturity b u b m c₁) (small : m < 4) (t₂ : Took whitespace0 b u c₁ e c) where
-  h₁ : api_maturity b u ≡ ok m c₁ (drop (c₁ - b) u)
+module _ (b : ℕ) (u : List ℕ) (clear : whitespace0 b u ≡ ok no_doc b u) (x : is_ok (any_keyword (ascii "endpoint" ∷ []) b u) ≡ false) (m : Maturity) {c₁ c : ℕ} {e : Doc} (t₁ : Took api_maturity b u b (maturity_number m) c₁) (t₂ : Took whitespace0 b u c₁ e c) where
+  h₁ : api_maturity b u ≡ ok (maturity_number m) c₁ (drop (c₁ - b) u)
   h₁ = sym (begin api_maturity b u (sym t₁.goes))
 
   clear₂ : whitespace0 c (drop (c - b) u) ≡ ok no_doc c (drop (c - b) u)
@@ -170,12 +169,12 @@ module _ (b : ℕ) (u : List ℕ) (clear : whitespace0 b u ≡ ok no_doc b u) (x
   low : b ≤ c
   low = omega (arith, t₁.up, t₂.up)
 
-  no_endpoint : (d : Doc) → declaration_try Endpoint d m b u ≡ fail b
+  no_endpoint : (d : Doc) → declaration_try Endpoint d (maturity_number m) b u ≡ fail b
   unfolding declaration_try
   no_endpoint d = mapped_fail _ _ (endpoint_elsewhere b u clear (frees_all (ascii "endpoint" ∷ []) b u x).0)
 
-  start_of : (k : DeclarationKind) (q : ℕ) {f : ℕ} → DeclarationFrom k f c (drop (c - b) u) → ((d : Doc) → declaration d b u ≡ no_nearer q (declaration_try k d m c (drop (c - b) u))) → StartTo (record { kind = k; others_fail_at = q; maturity = m; next = c; from = f }) b u
-  start_of k q g h = record { from = low; inside = t₂.inside; small = small; leaves = h; goes = g }
+  start_of : (k : DeclarationKind) (q : ℕ) {f : ℕ} → DeclarationFrom k f c (drop (c - b) u) → ((d : Doc) → declaration d b u ≡ no_nearer q (declaration_try k d (maturity_number m) c (drop (c - b) u))) → StartTo (record { kind = k; others_fail_at = q; maturity = m; next = c; from = f }) b u
+  start_of k q g h = record { from = low; inside = t₂.inside; leaves = h; goes = g }
 
   module _ {r : List ℕ} (q : Rest b u c r) {y : Bool} (f : y ≡ is_ok (any_keyword cluster_starts c r)) where
     seen : y ≡ is_ok (any_keyword cluster_starts c (drop (c - b) u))
@@ -188,14 +187,14 @@ module _ (b : ℕ) (u : List ℕ) (clear : whitespace0 b u ≡ ok no_doc b u) (x
         let s = starts_any cluster_starts c (drop (c - b) u) (sym seen ∙ z) in
         let t = type_tried b u d h₁ t₂.goes (at_word c (drop (c - b) u) clear₂ Unknown cluster_starts refl s (starts_free s c (ascii "shared" ∷ []) refl).0) in
         let same : c ≤ c = omega arith in
-        choice c (tries b u d h₁ t₂.goes (declaration_try Cluster d m c (drop (c - b) u)) kept (lost b) (lost c) (lost c) (lost c) refl (no_endpoint d) (t Enum) (t Bitmap) (t Struct)) (tt, (low, (same, (same, (same, tt))))) (inr (inl refl))
+        choice c (tries b u d h₁ t₂.goes (declaration_try Cluster d (maturity_number m) c (drop (c - b) u)) kept (lost b) (lost c) (lost c) (lost c) refl (no_endpoint d) (t Enum) (t Bitmap) (t Struct)) (tt, (low, (same, (same, (same, tt))))) (inr (inl refl))
 
     -- or another word, by the kind that a member would be
     pub start_type : y ≡ false → {v : List ℕ} → Rest b u c v → {k : MemberStart} → KindTo k c v → {j : DeclarationKind} → j ≡ type_kind k.kind → StartTo (record { kind = j; others_fail_at = k.others_fail_at; maturity = m; next = c; from = k.from }) b u
     start_type z {v} q' {k} h {j} w =
         let g : KindTo k c (drop (c - b) u) = subst (λ (r : List ℕ). KindTo k c r) q'.same h in
         rw w (start_of (type_kind k.kind) k.others_fail_at (top_from k.kind k.from c (drop (c - b) u) g.goes) λ d.
-        types_left b u d h₁ t₂.goes g low (no_cluster d m c (drop (c - b) u) (frees_all cluster_starts c (drop (c - b) u) (sym seen ∙ z))) (no_endpoint d))
+        types_left b u d h₁ t₂.goes g low (no_cluster d (maturity_number m) c (drop (c - b) u) (frees_all cluster_starts c (drop (c - b) u) (sym seen ∙ z))) (no_endpoint d))
 
 -- The tries of each kind by their readers.
 module _ (d : Doc) (m : ℕ) where
@@ -223,13 +222,13 @@ pub of_kind : (d : Doc) (m : ℕ) {k x : DeclarationKind} {B : Type 0} {f : B �
 of_kind d m e i = recorded_at (ap (λ (y : DeclarationKind). declaration_try y d m) e) i
 
 -- The first pass over a declaration of a kind: f is what its reader counts.
-pub kind_counted : {k x : DeclarationKind} {B : Type 0} {f : Front → B → List Record} {p : Front → Parser B} {r : Count} {b : ℕ} {u : List ℕ} → k ≡ x → ((i : Front) → Recorded unhoisted_item (declaration_try x i.doc i.maturity) (f i) (p i))
+pub kind_counted : {k x : DeclarationKind} {B : Type 0} {f : Front → B → List Record} {p : Front → Parser B} {r : Read ℕ} {b : ℕ} {u : List ℕ} → k ≡ x → ((i : Front) → Recorded unhoisted_item (declaration_try x i.doc i.maturity) (f i) (p i))
     → ((i : Front) → CountTo (f i) (p i) r b u) → KindCountTo k r b u
 kind_counted e i h = record { counts = λ j. recorded_counts (of_kind j.doc j.maturity e (i j)) (h j) }
 
-pub kind_unknown : {k : DeclarationKind} {b : ℕ} {u : List ℕ} → k ≡ NoDeclaration → KindCountTo k (NoCount (Fail b)) b u
+pub kind_unknown : {k : DeclarationKind} {b : ℕ} {u : List ℕ} → k ≡ NoDeclaration → KindCountTo k (Err (Fail b)) b u
 unfolding declaration_try
-kind_unknown {b = b} {u = u} e = subst (λ (y : DeclarationKind). KindCountTo y (NoCount (Fail b)) b u) (sym e) (record { counts = λ i. count_not unhoisted_item (declaration_try NoDeclaration i.doc i.maturity) b u (Fail b) refl })
+kind_unknown {b = b} {u = u} e = subst (λ (y : DeclarationKind). KindCountTo y (Err (Fail b)) b u) (sym e) (record { counts = λ i. count_not unhoisted_item (declaration_try NoDeclaration i.doc i.maturity) b u (Fail b) refl })
 
 -- a type's front at the top
 abbrev pub top : ℕ → Front → Front
@@ -254,13 +253,13 @@ raised_on {A} {m} q w = record { onward = λ b u. go b u (m b u) (w.onward b u) 
     go b u (fail p) h = tt
     go b u (stop n p) h = tt
 
-pub started : {s : DeclarationStart} {b : ℕ} {u v : List ℕ} {r x : Count} → StartTo s b u → Rest b u s.next v → KindCountTo s.kind r s.next v → x ≡ fail_no_earlier r s.others_fail_at → DeclarationCountTo x b u
+pub started : {s : DeclarationStart} {b : ℕ} {u v : List ℕ} {r x : Read ℕ} → StartTo s b u → Rest b u s.next v → KindCountTo s.kind r s.next v → x ≡ fail_no_earlier r s.others_fail_at → DeclarationCountTo x b u
 started {s} {b} {u} {v} {r} {x} h q g e = rw e (record {
   counts = λ d.
-      let t = declaration_try s.kind d s.maturity in
+      let t = declaration_try s.kind d (maturity_number s.maturity) in
       let f : Parser Item = λ b u. no_nearer s.others_fail_at (t b u) in
-      count_after unhoisted_item (declaration d) f (raised_on s.others_fail_at (declaration_on s.kind d s.maturity)) (fail_no_earlier r s.others_fail_at) q (sym (h.leaves d))
-      (count_no_earlier unhoisted_item t f s.others_fail_at r s.next v (g.counts (record { kind = 0; place = 0; doc = d; maturity = s.maturity })) refl);
+      count_after unhoisted_item (declaration d) f (raised_on s.others_fail_at (declaration_on s.kind d (maturity_number s.maturity))) (fail_no_earlier r s.others_fail_at) q (sym (h.leaves d))
+      (count_no_earlier unhoisted_item t f s.others_fail_at r s.next v (g.counts (record { kind = 0; place = 0; doc = d; maturity = (maturity_number s.maturity) })) refl);
 })
 
 -- An item is a declaration after its blanks, or else the blanks.
@@ -318,8 +317,8 @@ or_blank : (b : ℕ) (u : List ℕ) {c p : ℕ} {r : List ℕ} {X : Reply Item} 
 unfolding no_nearer
 or_blank b u {p = p} e f = or_fail _ _ e ∙ ap (no_nearer p) f
 
--- The first pass over an item, whose blanks are t and whose declaration was counted as x.
-module _ {b : ℕ} {u : List ℕ} {t : Blank} (w : BlankTo t b u) {v : List ℕ} (q : Rest b u t.next v) {x : Count} (h : DeclarationCountTo x t.next v) where
+-- The first pass over an item, whose blanks are t.
+module _ {b : ℕ} {u : List ℕ} {t : Blank} (w : BlankTo t b u) {v : List ℕ} (q : Rest b u t.next v) where
   abbrev d : Doc
   d = doc_of t.doc
 
@@ -330,36 +329,37 @@ module _ {b : ℕ} {u : List ℕ} {t : Blank} (w : BlankTo t b u) {v : List ℕ}
   unfolding rest
   whole = item_is b u (sym w.reads)
 
-  lost_there : {l : Lost} → x ≡ NoCount l → lost_reply l ≡ declaration d t.next rest
+  pub item_words : {n c : ℕ} → DeclarationCountTo (Ok (n, c)) t.next v → CountTo unhoisted_item item (Ok (n, c)) b u
   unfolding rest
-  lost_there {l} e = count_lost_lem l e t.next v (h.counts d) ∙ ap (declaration d t.next) q.same
+  item_words {n} {c} h =
+      let s = count_took (declaration_walks d) q (h.counts d) in
+      count_after unhoisted_item item (declaration d) (declaration_walks d) (Ok (n, c)) q (s.step.goes ∙ (or_here _ _ b u s.value c (drop (c - b) u) (sym s.step.goes) ∙ sym whole)) (h.counts d)
 
-  pub item_words : {n c : ℕ} → x ≡ Words n c → CountTo unhoisted_item item x b u
-  unfolding rest
-  item_words {n} {c} e =
-      let s = count_took (declaration_walks d) q e (h.counts d) in
-      count_after unhoisted_item item (declaration d) (declaration_walks d) x q (s.step.goes ∙ (or_here _ _ b u s.value c (drop (c - b) u) (sym s.step.goes) ∙ sym whole)) (h.counts d)
+  module _ {l : Lost} (h : DeclarationCountTo (Err l) t.next v) where
+    lost_there : lost_reply l ≡ declaration d t.next rest
+    unfolding rest
+    lost_there = count_lost t.next v (h.counts d) ∙ ap (declaration d t.next) q.same
 
-  -- no blanks: nothing is left to try
-  pub item_lost : t.next ≡ b → {l : Lost} → x ≡ NoCount l → CountTo unhoisted_item item (NoCount l) b u
-  item_lost e {l} f =
-      let z : whitespace1 b u ≡ fail b = sym (gap_none b u t w e) in
-      let p : Past b (declaration d t.next rest) = subst (λ (n : ℕ). Past n (declaration d t.next rest)) e (declaration_past d t.next rest) in
-      count_not unhoisted_item item b u l (lost_there f ∙ (past_start b (declaration d t.next rest) p ∙ sym (whole ∙ or_keep _ _ (then_fail _ _ z))))
+    -- no blanks: nothing is left to try
+    pub item_lost : t.next ≡ b → CountTo unhoisted_item item (Err l) b u
+    item_lost e =
+        let z : whitespace1 b u ≡ fail b = sym (gap_none b u t w e) in
+        let p : Past b (declaration d t.next rest) = subst (λ (n : ℕ). Past n (declaration d t.next rest)) e (declaration_past d t.next rest) in
+        count_not unhoisted_item item b u l (lost_there ∙ (past_start b (declaration d t.next rest) p ∙ sym (whole ∙ or_keep _ _ (then_fail _ _ z))))
 
-  -- the blanks are an item
-  pub item_blank : (t.next ≡ b → ⊥) → {l : Lost} {y : Count} → x ≡ NoCount l → y ≡ count_end l 0 t.next → CountTo unhoisted_item item y b u
-  item_blank n {l} {y} e f = subst (λ (z : Count). CountTo unhoisted_item item z b u) (sym f) (go l (lost_there e))
-    where
-      blank : (whitespace1 >> ret blank_item) b u ≡ ok blank_item t.next (drop (t.next - b) u)
-      blank = blank_read b u (sym (gap_some b u t w n))
+    -- the blanks are an item
+    pub item_blank : (t.next ≡ b → ⊥) → {y : Read ℕ} → y ≡ count_end l 0 t.next → CountTo unhoisted_item item y b u
+    item_blank n {y} f = rw f (go l lost_there)
+      where
+        blank : (whitespace1 >> ret blank_item) b u ≡ ok blank_item t.next (drop (t.next - b) u)
+        blank = blank_read b u (sym (gap_some b u t w n))
 
-      go : (l : Lost) → lost_reply l ≡ declaration d t.next rest → CountTo unhoisted_item item (count_end l 0 t.next) b u
-      go =
-          by_lost
-          (λ l. lost_reply l ≡ declaration d t.next rest → CountTo unhoisted_item item (count_end l 0 t.next) b u)
-          (λ p z. count_is unhoisted_item item b u blank_item 0 t.next blank_words (omega arith) (sym (whole ∙ or_blank b u (sym z) blank)))
-          (λ i p z. count_not unhoisted_item item b u (Stop i p) (or_stop _ _ b u i p z ∙ sym whole))
+        go : (l : Lost) → lost_reply l ≡ declaration d t.next rest → CountTo unhoisted_item item (count_end l 0 t.next) b u
+        go =
+            by_lost
+            (λ l. lost_reply l ≡ declaration d t.next rest → CountTo unhoisted_item item (count_end l 0 t.next) b u)
+            (λ p z. count_is unhoisted_item item b u blank_item 0 t.next blank_words (omega arith) (sym (whole ∙ or_blank b u (sym z) blank)))
+            (λ i p z. count_not unhoisted_item item b u (Stop i p) (or_stop _ _ b u (number_of i) p z ∙ sym whole))
 
 -- The second pass over a declaration: that of its kind.
 pub nothing_found : (d : Doc) (m : ℕ) {k : DeclarationKind} → k ≡ NoDeclaration → (b : ℕ) (u : List ℕ) {at n : ℕ} → Room unhoisted_item (declaration_try k d m) b u at n → ⊥
@@ -367,13 +367,13 @@ unfolding declaration_try
 nothing_found d m {k} e b u room = no_room room (Fail b) (sym (ap (λ (y : DeclarationKind). declaration_try y d m b u) e))
 
 module _ (d : Doc) {s : DeclarationStart} {b : ℕ} {u v : List ℕ} (h : StartTo s b u) (q : Rest b u s.next v) {at : ℕ} where
-  pub start_room : {n : ℕ} → Room unhoisted_item (declaration d) b u at n → Room unhoisted_item (declaration_try s.kind d s.maturity) s.next v at n
+  pub start_room : {n : ℕ} → Room unhoisted_item (declaration d) b u at n → Room unhoisted_item (declaration_try s.kind d (maturity_number s.maturity)) s.next v at n
   start_room room =
-      let x = further_ok s.others_fail_at (declaration_try s.kind d s.maturity s.next (drop (s.next - b) u)) (room.is ∙ h.leaves d) in
-      let y = rest_is (declaration_on s.kind d s.maturity) s.next room.next (drop (s.next - b) u) (drop (room.next - b) u) room.value (sym x) in
+      let x = further_ok s.others_fail_at (declaration_try s.kind d (maturity_number s.maturity) s.next (drop (s.next - b) u)) (room.is ∙ h.leaves d) in
+      let y = rest_is (declaration_on s.kind d (maturity_number s.maturity)) s.next room.next (drop (s.next - b) u) (drop (room.next - b) u) room.value (sym x) in
       record { value = room.value; next = room.next; is = rw q.same (rw (← y) x); fits = room.fits }
 
-  pub start_written : {w : Wrote} {old new : List ℕ} → Written unhoisted_item (declaration_try s.kind d s.maturity) s.next v at w old new → Written unhoisted_item (declaration d) b u at w old new
+  pub start_written : {w : Wrote} {old new : List ℕ} → Written unhoisted_item (declaration_try s.kind d (maturity_number s.maturity)) s.next v at w old new → Written unhoisted_item (declaration d) b u at w old new
   start_written g =
-      let t = took (declaration_on s.kind d s.maturity) q g.is in
+      let t = took (declaration_on s.kind d (maturity_number s.maturity)) q g.is in
       record { value = g.value; is = ok_further s.others_fail_at (sym t.goes) ∙ sym (h.leaves d); place = g.place; bytes = g.bytes }

@@ -1,4 +1,5 @@
 -- Members of clusters: which try a first word selects.
+use Rattle.std.specs.Prelude.{Ok, Err}
 use mathlib.Core.Path.{◌≡◌, refl, sym, ap, ◌∙◌, subst}
 use mathlib.Core.Logic.{◌⊎◌, inl, inr}
 use mathlib.Core.Bool.{Bool, true, false, cond, ◌&&◌, ◌||◌, true≢false, false≢true}
@@ -17,9 +18,7 @@ use Rattle.lexing.specs.word_sets.{same_bytes, struct_set}
 use Rattle.lexing.specs.answers.{Rest, doc_of, word_at, word_reply, lost_reply, BlankTo}
 use Rattle.lexing.specs.declared.blanks.Blank.{Blank}
 use Rattle.lexing.specs.declared.answers.Lost.{Lost}
-use Rattle.lexing.specs.declared.answers.Step.{Step}
-use Rattle.lexing.specs.declared.answers.Step.TheVariants.{Next, Not}
-use Rattle.lexing.proofs.Slicing.{Took, told_next, told_not, blank_took, or_here}
+use Rattle.lexing.proofs.Slicing.{Took, blank_took, or_here}
 use Rattle.lexing.proofs.blanks.Laws.{gap_none, gap_some}
 use Rattle.lexing.proofs.Tests.{and_left, and_right}
 use Rattle.lexing.proofs.FirstWord.{starts_of, Frees, free_set, disjoint, StartsAny, starts_free, blank_clear}
@@ -90,21 +89,18 @@ frees_all (k ∷ ks) b u e = go (stands k b u) (frees_all ks b u)
     go (elsewhere q) ih = (q, ih (sym (any_elsewhere k ks b u q) ∙ e))
 
 -- the code's answers
-module _ (k : List ℕ) (b : ℕ) (u : List ℕ) (a : Step) (h : word_reply a b u ≡ keyword k b u) where
-  pub starts_yes : (c : ℕ) → a ≡ Next c → true ≡ is_ok (any_keyword (k ∷ []) b u)
-  starts_yes c e = sym (any_there k [] b u _ c _ (sym (told_next (word_at b u) a c b u (keyword k b u) e h)))
+module _ (k : List ℕ) (b : ℕ) (u : List ℕ) where
+  pub starts_yes : (c : ℕ) → word_reply (Ok c) b u ≡ keyword k b u → true ≡ is_ok (any_keyword (k ∷ []) b u)
+  starts_yes c h = sym (any_there k [] b u _ c _ (sym h))
 
-  pub starts_no : (l : Lost) → a ≡ Not l → false ≡ is_ok (any_keyword (k ∷ []) b u)
-  starts_no l e = go (stands k b u)
+  pub starts_no : (l : Lost) → word_reply (Err l) b u ≡ keyword k b u → false ≡ is_ok (any_keyword (k ∷ []) b u)
+  starts_no l h = go (stands k b u)
     where
-      lost : lost_reply l ≡ keyword k b u
-      lost = told_not (word_at b u) a l b u (keyword k b u) e h
-
       no : (l : Lost) (w : Word) (c : ℕ) (r : List ℕ) → lost_reply l ≡ ok w c r → ⊥
       no l w c r z = lost_not (sym z) l refl
 
       go : Stands k b u → false ≡ is_ok (any_keyword (k ∷ []) b u)
-      go (there w c r q) = absurd (no l w c r (lost ∙ q))
+      go (there w c r q) = absurd (no l w c r (h ∙ q))
       go (elsewhere q) = sym (any_none k b u q)
 
 -- one test after another
@@ -467,7 +463,7 @@ module _ (b : ℕ) (u : List ℕ) (clear : whitespace0 b u ≡ ok no_doc b u) wh
       at_shared_struct v f f' = at_type Struct v c₂ h (λ d m z. no_bitmap f d m) (λ d m z. no_enum f' d m) (λ d m z. absurd (true≢false z))
 
 -- after `shared`
-module _ (b : ℕ) (u : List ℕ) (clear : whitespace0 b u ≡ ok no_doc b u) (c : ℕ) (k : word_reply (Next c) b u ≡ keyword (ascii "shared") b u) {r : List ℕ} (q : Rest b u c r) (t : Blank) (w : BlankTo t c r) where
+module _ (b : ℕ) (u : List ℕ) (clear : whitespace0 b u ≡ ok no_doc b u) (c : ℕ) (k : word_reply (Ok c) b u ≡ keyword (ascii "shared") b u) {r : List ℕ} (q : Rest b u c r) (t : Blank) (w : BlankTo t c r) where
   word_is : keyword (ascii "shared") b u ≡ ok (word_at b u c) c (drop (c - b) u)
   word_is = sym k
 
@@ -498,9 +494,6 @@ module _ (b : ℕ) (u : List ℕ) (clear : whitespace0 b u ≡ ok no_doc b u) (c
 
     pub kind_struct : Frees t.next (drop (t.next - b) u) (ascii "bitmap" ∷ []) → Frees t.next (drop (t.next - b) u) (ascii "enum" ∷ []) → KindTo (record { kind = Struct; others_fail_at = t.next; from = t.next }) b u
     kind_struct f f' = at_shared_struct b u clear word_is following blank.goes up goes_on f f'
-
-pub keyword_read : (k : List ℕ) (b : ℕ) (u : List ℕ) (a : Step) (c : ℕ) → a ≡ Next c → word_reply a b u ≡ keyword k b u → word_reply (Next c) b u ≡ keyword k b u
-keyword_read k b u a c e h = told_next (word_at b u) a c b u (keyword k b u) e h
 
 -- a test at a rest of the part
 module _ {b n : ℕ} {u r : List ℕ} (q : Rest b u n r) (k : List ℕ) {x : Bool} (h : x ≡ is_ok (any_keyword (k ∷ []) n r)) where

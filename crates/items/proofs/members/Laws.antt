@@ -1,11 +1,13 @@
 -- Members of clusters, counted.
+use Rattle.lexing.specs.declared.answers.Lost.TheVariants.{Fail}
+use Rattle.std.specs.Prelude.{Ok, Err}
 use mathlib.Core.Path.{◌≡◌, refl, sym, subst}
 use mathlib.Core.List.{List}
 use Prim.Native.Nat.{ℕ}
 use native.Mathlib.Omega.{arith}
 use Rattle.lexing.specs.bytes.{ascii}
 use Rattle.lexing.specs.blanks.{Doc}
-use Rattle.lexing.specs.answers.{lost_reply, Fail}
+use Rattle.lexing.specs.answers.{lost_reply, Read}
 use Rattle.lexing.specs.declared.answers.Lost.{Lost}
 use Rattle.lexing.proofs.Slicing.{walks}
 use Rattle.lexing.proofs.Onward.{Onward}
@@ -20,11 +22,7 @@ use Rattle.items.specs.inner.structs.{StructCountTo}
 use Rattle.items.specs.inner.commands.{command_records}
 use Rattle.items.specs.inner.events.{EventCountTo}
 use Rattle.items.specs.inner.members.{RevisionTo, MemberCountTo}
-use Rattle.items.specs.declared.counts.Count.{Count}
 use Rattle.items.specs.declared.member_kinds.MemberStart.{MemberStart}
-use Rattle.lexing.specs.declared.integers.Number.{Number}
-use Rattle.lexing.specs.declared.integers.Number.TheVariants.{Value}
-use Rattle.items.specs.declared.counts.Count.TheVariants.{Words, NoCount}
 use Rattle.items.specs.inner.counts.{fail_no_earlier}
 use Rattle.items.specs.inner.member_kinds.{member_try, KindTo}
 use Rattle.items.specs.declared.member_kinds.MemberKind.{MemberKind}
@@ -39,21 +37,21 @@ no_words : (p n : ℕ) → word_count layout (member_records (λ x. p) (revision
 unfolding member_records
 no_words p n = word_count_none
 
-pub revision_counted : {a : Number} {b : ℕ} {u : List ℕ} {n c : ℕ} → RevisionTo a b u → a ≡ Value n c → MemberCountTo parse_revision (Words 0 c) b u
-revision_counted {n = n} h e = record { counts = λ p. read_counted (member_records (λ x. p)) revision_consumes h e refl (no_words p n) (omega arith) }
+pub revision_counted : {b : ℕ} {u : List ℕ} {n c : ℕ} → RevisionTo (Ok (n, c)) b u → MemberCountTo parse_revision (Ok (0, c)) b u
+revision_counted {n = n} h = record { counts = λ p. read_counted (member_records (λ x. p)) revision_consumes h (no_words p n) (omega arith) }
 
-pub revision_lost : (l : Lost) {b : ℕ} {u : List ℕ} → lost_reply l ≡ parse_revision b u → MemberCountTo parse_revision (NoCount l) b u
+pub revision_lost : (l : Lost) {b : ℕ} {u : List ℕ} → lost_reply l ≡ parse_revision b u → MemberCountTo parse_revision (Err l) b u
 revision_lost l {b} {u} e = record { counts = λ p. count_not (member_records (λ x. p)) parse_revision b u l e }
 
 -- the first pass over a member of a kind
 module _ (d : Doc) (m : ℕ) (b : ℕ) (u : List ℕ) where
-  abbrev CountsKind : MemberKind → Count → Type 0
+  abbrev CountsKind : MemberKind → Read ℕ → Type 0
   CountsKind k r = MemberCountTo (member_try k d m) r b u
 
-  pub kind_counts : {k x : MemberKind} {r : Count} → k ≡ x → CountsKind x r → CountsKind k r
+  pub kind_counts : {k x : MemberKind} {r : Read ℕ} → k ≡ x → CountsKind x r → CountsKind k r
   kind_counts {r = r} e h = subst (λ (y : MemberKind). CountsKind y r) (sym e) h
 
-  module _ {r : Count} where
+  module _ {r : Read ℕ} where
     pub counts_revision : MemberCountTo parse_revision r b u → CountsKind Revision r
     unfolding member_try
     counts_revision h = h
@@ -82,13 +80,13 @@ module _ (d : Doc) (m : ℕ) (b : ℕ) (u : List ℕ) where
     unfolding member_try member_records
     counts_event h = record { counts = λ p. count_mapped (member_records (λ x. p)) event (h.counts (record { kind = 9; place = p; doc = d; maturity = m })) }
 
-  pub counts_unknown : CountsKind Unknown (NoCount (Fail b))
+  pub counts_unknown : CountsKind Unknown (Err (Fail b))
   unfolding member_try
   counts_unknown = record { counts = λ p. count_not (member_records (λ x. p)) (member_try Unknown d m) b u (Fail b) refl }
 
-pub member_counted : (d : Doc) (m : ℕ) (b : ℕ) (u : List ℕ) (k : MemberStart) (r x : Count) → KindTo k b u → MemberCountTo (member_try k.kind d m) r b u → x ≡ fail_no_earlier r k.others_fail_at → MemberCountTo (member_tries d m) x b u
+pub member_counted : (d : Doc) (m : ℕ) (b : ℕ) (u : List ℕ) (k : MemberStart) (r x : Read ℕ) → KindTo k b u → MemberCountTo (member_try k.kind d m) r b u → x ≡ fail_no_earlier r k.others_fail_at → MemberCountTo (member_tries d m) x b u
 member_counted d m b u k r x h g e = record {
-  counts = λ p. subst (λ (y : Count). CountTo (member_records (λ z. p)) (member_tries d m) y b u) (sym e) (count_no_earlier (member_records (λ z. p)) (member_try k.kind d m) (member_tries d m) k.others_fail_at r b u (g.counts p) (member_left h d m));
+  counts = λ p. subst (λ (y : Read ℕ). CountTo (member_records (λ z. p)) (member_tries d m) y b u) (sym e) (count_no_earlier (member_records (λ z. p)) (member_try k.kind d m) (member_tries d m) k.others_fail_at r b u (g.counts p) (member_left h d m));
 }
 
 pub member_tries_on : (d : Doc) (m : ℕ) → Onward (member_tries d m)

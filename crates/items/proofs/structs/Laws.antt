@@ -1,4 +1,6 @@
 -- Structs: one law for each way through a reader.
+use Rattle.items.specs.declared.levels.Privilege.TheVariants.{View}
+use Rattle.std.specs.Prelude.{Ok, Err}
 use mathlib.Core.Path.{◌≡◌, refl, sym, ap, ◌∙◌, subst}
 use mathlib.Core.Bool.{Bool, true, false, false≢true}
 use mathlib.Core.Option.{Option, none, some}
@@ -13,11 +15,8 @@ use Rattle.lexing.specs.bytes.{ascii, within, lower}
 use Rattle.lexing.specs.reply.{Reply, ok, fail, stop, Parser, ret, ◌or◌, no_nearer, opt, pick}
 use Rattle.lexing.specs.words.{Word, bytes_of, is_keyword, is_lower, keyword, any_keyword}
 use Rattle.lexing.specs.word_sets.{same_bytes}
-use Rattle.lexing.specs.answers.{Rest, lost_reply, word_at, word_reply, number_lost, BlankAt}
+use Rattle.lexing.specs.answers.{Rest, lost_reply, word_at, word_reply, BlankAt, Read}
 use Rattle.lexing.specs.declared.answers.Lost.{Lost}
-use Rattle.lexing.specs.declared.answers.Step.TheVariants.{Next}
-use Rattle.lexing.specs.declared.integers.Number.{Number}
-use Rattle.lexing.specs.declared.integers.Number.TheVariants.{Value, NoNumber}
 use Rattle.lexing.proofs.Tests.{false_if, and_right}
 use Rattle.lexing.proofs.Locality.{chain_opt}
 use Rattle.lexing.proofs.TokenLocality.{any_keyword_chain}
@@ -30,16 +29,14 @@ use Rattle.items.specs.records.{at, bits, value, word_extent, documented, field_
 use Rattle.lexing.specs.buffers.{each, words_bytes, put}
 use Rattle.items.specs.layout.{packed, width, from_top, offset, size, layout, further_word, record_words, catalogue_words, catalogue_bytes, word_count, text_limit}
 use Rattle.items.specs.answers.{Front, first_of, doc_span_word, doc_span_bit, front_of}
-use Rattle.items.specs.inner.structs.{StructFrom, after_shared, not_shared, type_of, head_at, head_lost, HeadBetween, StructHeadTo, kind_by, type_by, struct_words, StructWordTo, code_reply, struct_kind_number, response_number, struct_first}
+use Rattle.items.specs.inner.structs.{StructFrom, after_shared, not_shared, type_of, head_at, HeadBetween, StructHeadTo, kind_by, type_by, struct_words, StructWordTo, code_reply, struct_kind_number, response_number, struct_first}
 use Rattle.items.specs.declared.writing.FrontParts.{FrontParts}
 use Rattle.items.specs.declared.structs.StructKind.{StructKind}
 use Rattle.items.specs.declared.structs.StructKind.TheVariants.{Regular, Request, Response, Shared}
 use Rattle.items.specs.declared.structs.StructWord.{StructWord}
 use Rattle.items.specs.declared.structs.StructHeadParts.{StructHeadParts}
-use Rattle.items.specs.declared.structs.StructHeadRead.{StructHeadRead}
-use Rattle.items.specs.declared.structs.StructHeadRead.TheVariants.{Head, NoHead}
 use Rattle.items.proofs.Locality.{struct_type_of_local, struct_head_local}
-use Rattle.lexing.proofs.AnswerLaws.{read_within, read_took, read_lost}
+use Rattle.lexing.proofs.AnswerLaws.{read_took}
 use Rattle.items.proofs.Headed.{Headed}
 use Rattle.lexing.proofs.WordBetween.{word_moved}
 use Rattle.items.proofs.WordBetween.{extent_between}
@@ -49,6 +46,7 @@ use Rattle.items.proofs.Letters.{outs_free}
 use Rattle.items.proofs.Tries.{shared_any}
 use Rattle.lexing.proofs.answers.Laws.{opt_ok, opt_fail, opt_stop}
 use Rattle.lexing.proofs.steps.Laws.{blank_at_took}
+use Rattle.items.specs.declared.layout.Kind.TheVariants.{Struct as a_struct}
 
 -- the word before a struct: in lower case it is the keyword, in another case it says nothing
 pub other_case : (w k : List ℕ) → is_lower k ≡ true → is_lower w ≡ false → same_bytes w k ≡ false
@@ -152,9 +150,9 @@ record SharedWord (f b : ℕ) (u : List ℕ) : Type 0 where
   pub up : b ≤ end
   pub inside : end ≤ b + length u
 
-six_bytes : {f b : ℕ} {u : List ℕ} (c : ℕ) → word_reply (Next c) b u ≡ keyword (ascii "shared") b u → BlankAt f b u c → SharedWord f b u
+six_bytes : {f b : ℕ} {u : List ℕ} (c : ℕ) → word_reply (Ok c) b u ≡ keyword (ascii "shared") b u → BlankAt f b u c → SharedWord f b u
 six_bytes {f} {b} {u} c k g =
-    let t = keyword_took (rest_self b u) refl (ascii "shared") k in
+    let t = keyword_took (rest_self b u) (ascii "shared") k in
     let n : c - b ≤ length u = omega (arith, t.inside, t.up) in
     record { end = c; word = k; blanks = g; six = sym (length-take-le (c - b) u n) ∙ keyword_size (take (c - b) u) (ascii "shared") (keyword_bytes (ascii "shared") u k); up = t.up; inside = t.inside }
 
@@ -181,37 +179,28 @@ pub struct_word_took : {b n : ℕ} {u r : List ℕ} {t : StructWord} → Rest b 
 struct_word_took q h = took (walks (chain_opt (any_keyword_chain struct_words))) q h.reads
 
 -- the code of a struct that has none
-pub no_code : (k : StructKind) (x : StructKind) (b : ℕ) (u : List ℕ) → k ≡ x → ok (type_of x 0) b u ≡ type_by x b u → code_reply k (Value 0 b) b u ≡ type_by k b u
+pub no_code : (k : StructKind) (x : StructKind) (b : ℕ) (u : List ℕ) → k ≡ x → ok (type_of x 0) b u ≡ type_by x b u → code_reply k (Ok (0, b)) b u ≡ type_by k b u
 no_code k x b u e h =
     let z : b - b ≡ 0 = omega arith in
-    let y : code_reply x (Value 0 b) b u ≡ type_by x b u = rw z h in
-    subst (λ (j : StructKind). code_reply j (Value 0 b) b u ≡ type_by j b u) (sym e) y
+    let y : code_reply x (Ok (0, b)) b u ≡ type_by x b u = rw z h in
+    subst (λ (j : StructKind). code_reply j (Ok (0, b)) b u ≡ type_by j b u) (sym e) y
 
-pub is_code : (k : StructKind) (b : ℕ) (u : List ℕ) (a : Number) → k ≡ Response → code_reply Response a b u ≡ response_code b u → code_reply k a b u ≡ type_by k b u
+pub is_code : (k : StructKind) (b : ℕ) (u : List ℕ) (a : Read ℕ) → k ≡ Response → code_reply Response a b u ≡ response_code b u → code_reply k a b u ≡ type_by k b u
 unfolding type_by
 is_code k b u a e h = subst (λ (j : StructKind). code_reply j a b u ≡ type_by j b u) (sym e) h
 
-module _ (k : Option Word) (x : StructKind) (s : struct_type_of k ≡ type_by x) (n : ℕ) (r : List ℕ) (a : Number) (h : code_reply x a n r ≡ type_by x n r) where
-  type_reads : code_reply x a n r ≡ struct_type_of k n r
-  type_reads = rw s h
+module _ (k : Option Word) (x : StructKind) (s : struct_type_of k ≡ type_by x) (n : ℕ) (r : List ℕ) where
+  pub type_took : (v c : ℕ) → code_reply x (Ok (v, c)) n r ≡ type_by x n r → {b : ℕ} {u : List ℕ} → Rest b u n r → Took (struct_type_of k) b u n (type_of x v) c
+  type_took v c h q = took (walks (struct_type_of_local k).on_chain) q (rw s h)
 
-  pub type_took : {b : ℕ} {u : List ℕ} {v c : ℕ} → Rest b u n r → a ≡ Value v c → Took (struct_type_of k) b u n (type_of x v) c
-  type_took {b} {u} {v} {c} q e = took (walks (struct_type_of_local k).on_chain) q (subst (λ (y : Number). code_reply x y n r ≡ struct_type_of k n r) e type_reads)
-
-  pub type_none : {l l' : Lost} → l' ≡ number_lost a → a ≡ NoNumber l → lost_reply l' ≡ struct_type_of k n r
-  type_none {l} {l'} e d =
-      let z : l' ≡ l = e ∙ ap number_lost d in
-      ap (λ (y : Lost). lost_reply y) z ∙ subst (λ (y : Number). code_reply x y n r ≡ struct_type_of k n r) d type_reads
+  pub type_none : (l : Lost) → code_reply x (Err l) n r ≡ type_by x n r → lost_reply l ≡ struct_type_of k n r
+  type_none l h = rw s h
 
 head_moved : (b n : ℕ) (u r : List ℕ) (h : StructHeadParts) (c : ℕ) → Rest b u n r → HeadBetween n h c → head_at n r h ≡ head_at b u h
 head_moved b n u r h c q w = ap (λ (v : Word). record { head_type = type_of h.kind h.code; head_scoped = h.scoped; head_name = v }) (word_moved b n u r h.name h.end q w.name_from)
 
-module _ {b n : ℕ} {u r : List ℕ} {a : StructHeadRead} (q : Rest b u n r) (h : StructHeadTo a n r) where
-  pub head_took : {s : StructHeadParts} {c : ℕ} → a ≡ Head s c → Took struct_head b u n (head_at b u s) c
-  head_took {s} {c} e = rw (← head_moved b n u r s c q (read_within h e)) (read_took h e (walks struct_head_local.on_chain) q refl)
-
-  pub head_none : {l l' : Lost} → l' ≡ head_lost a → a ≡ NoHead l → lost_reply l' ≡ struct_head n r
-  head_none e d = read_lost h d head_lost e refl
+pub head_took : {b n : ℕ} {u r : List ℕ} {s : StructHeadParts} {c : ℕ} → Rest b u n r → StructHeadTo (Ok (s, c)) n r → Took struct_head b u n (head_at b u s) c
+head_took {b} {n} {u} {r} {s} {c} q h = rw (← head_moved b n u r s c q h.within) (read_took h (walks struct_head_local.on_chain) q)
 
 -- three words a struct, and those of its fields
 pub struct_headed : Headed {I = Front} (λ i. parse_struct_after_doc_maturity i.doc i.maturity) (λ i. struct_records i.place) struct_head struct_fields (map field_record) 3
@@ -226,11 +215,11 @@ struct_headed = record {
 
 -- the three words of a struct's first record
 pub struct_first_put : (f : FrontParts) (h : StructHeadParts) (p v i a o s : ℕ) (l l₁ : List ℕ) → v ≡ doc_span_bit f.doc → i ≡ struct_kind_number h.kind
-    → a ≡ first_of (record { kind = 5; place = f.place; maturity = f.maturity; doc_present = v; flags = i * 32 + h.scoped * 16; name = h.name; name_length = h.end - h.name; first_privilege = 0; second_privilege = 0 }) → o ≡ doc_span_word f.doc
+    → a ≡ first_of (record { kind = a_struct; place = f.place; maturity = f.maturity; doc_present = v; flags = i * 32 + h.scoped * 16; name = h.name; name_length = h.end - h.name; first_privilege = View; second_privilege = View }) → o ≡ doc_span_word f.doc
     → s ≡ response_number h.kind h.code → l₁ ≡ put p (words_bytes (a ∷ o ∷ s ∷ [])) l → l₁ ≡ put p (catalogue_bytes layout (struct_first f h ∷ [])) l
 unfolding from_top packed width offset size further_word
 struct_first_put f h p v i a o s l l₁ d e w b z e₁ =
-    documented_put 5 f.place f.maturity f.doc (bits 2 (struct_kind_number h.kind) ∷ bits 1 h.scoped ∷ []) (at h.name (h.end - h.name)) 0 0 (value (response_number h.kind h.code)) p (i * 32 + h.scoped * 16) v a o s l l₁ (omega (arith, e)) d w b z e₁
+    documented_put a_struct f.place f.maturity f.doc (bits 2 (struct_kind_number h.kind) ∷ bits 1 h.scoped ∷ []) (at h.name (h.end - h.name)) View View (value (response_number h.kind h.code)) p (i * 32 + h.scoped * 16) v a o s l l₁ (omega (arith, e)) d w b z e₁
 
 pub kind_small : (k : StructKind) → struct_kind_number k < 4
 kind_small Regular = omega arith

@@ -1,4 +1,9 @@
 -- Words written over a buffer, one after the other.
+use Rattle.items.specs.declared.maturity.Maturity.{Maturity}
+use Rattle.items.specs.declared.levels.Privilege.{Privilege}
+use Rattle.items.specs.declared.levels.Privilege.TheVariants.{View}
+use Rattle.lexing.specs.declared.answers.Lost.TheVariants.{Stop}
+use Rattle.std.specs.Prelude.{None, Option as CodeOption, Some, Ok, Err}
 use mathlib.Core.Path.{◌≡◌, refl, sym, ap, ◌∙◌, subst}
 use mathlib.Core.List.{List, [], ◌∷◌, ◌++◌, map, append_assoc, append-nil}
 use mathlib.Core.Bool.{Bool, true, false}
@@ -8,80 +13,82 @@ use lib.ListN.{length, drop, take, length-append}
 use lib.Seq.{drop_at, take-take, take-append-le, length-take-le}
 use Rattle.lexing.specs.reply.{Reply, ok, fail, stop, Parser, many0}
 use Rattle.lexing.specs.word_sets.{bit}
-use Rattle.lexing.specs.answers.{Rest, lost_reply, doc_of, BlankTo, Stop}
+use Rattle.lexing.specs.answers.{Rest, lost_reply, doc_of, BlankTo, ReadTo}
 use Rattle.lexing.specs.declared.blanks.Blank.{Blank}
 use Rattle.lexing.specs.declared.answers.Lost.{Lost}
 use Rattle.lexing.specs.declared.blanks.DocSpan.{DocSpan}
-use Rattle.lexing.specs.declared.blanks.DocSpan.TheVariants.{Absent, At}
 use Rattle.lexing.proofs.Losses.{by_lost}
 use Rattle.lexing.proofs.DocPlace.{DocIn, doc_in}
 use Rattle.lexing.proofs.Locality.{Consumes}
 use Rattle.lexing.proofs.Onward.{Onward}
-use Rattle.lexing.proofs.Slicing.{Took, took}
+use Rattle.lexing.proofs.Slicing.{Took, took, walks}
+use Rattle.lexing.proofs.AnswerLaws.{read_took, read_lost}
 use Rattle.lexing.proofs.Repetition.{before, ManyAt, many_end, many0_start, many0_step, many0_ends}
 use Rattle.lexing.proofs.buffers.Laws.{put_length, put_nothing, put_on}
 use Rattle.items.specs.records.{Extent, Bits, Further, Record, doc_extent, doc_bit, plain, documented}
 use Rattle.lexing.specs.buffers.{each, words_bytes, put}
 use Rattle.items.specs.layout.{packed, from_top, offset, size, span_word, layout, further_word, record_words, catalogue_words, catalogue_bytes, word_count, text_limit}
-use Rattle.items.specs.answers.{Room, Written, first_of, Fits, doc_span_word, doc_span_bit, DocFits, FrontFits}
+use Rattle.items.specs.declared.layout.Kind.{Kind}
+use Rattle.items.specs.answers.{kind_number, maturity_number, privilege_number, Room, Written, first_of, Fits, doc_span_word, doc_span_bit, DocFits, FrontFits}
 use Rattle.items.specs.declared.writing.FrontParts.{FrontParts}
 use Rattle.items.specs.declared.writing.Wrote.{Wrote}
-use Rattle.items.proofs.RecordWords.{catalogue_bytes_none, catalogue_bytes_length, word_count_none, Elementwise, Elements, map_elementwise, word_count_more, catalogue_bytes_more, word_count_grows}
+use Rattle.items.proofs.RecordWords.{catalogue_bytes_none, catalogue_bytes_length, word_count_none, word_count_more, catalogue_bytes_more, word_count_grows}
+use Rattle.items.specs.inner.runs.{Elementwise, Repeats, ReadInside}
 
 pub bit_small : (b : Bool) → bit b < 2
 unfolding bit
 bit_small true = omega arith
 bit_small false = omega arith
 
-pub doc_fits_at : (d : DocSpan) {o n : ℕ} → d ≡ At o n → DocFits d → (o ≤ text_limit) × (n ≤ text_limit)
-doc_fits_at d e h = subst (λ (x : DocSpan). DocFits x) e h
+pub doc_fits_at : (d : CodeOption DocSpan) {x : DocSpan} → d ≡ Some x → DocFits d → (x.offset ≤ text_limit) × (x.size ≤ text_limit)
+doc_fits_at d e h = subst (λ (y : CodeOption DocSpan). DocFits y) e h
 
 -- a doc comment that is in a run of blanks
-doc_at_limit : (d : DocSpan) (b c : ℕ) → DocIn b c (doc_of d) → c ≤ text_limit → DocFits d
-doc_at_limit Absent b c h i = tt
-doc_at_limit (At o n) b c h i = (omega (arith, h.1, i), omega (arith, h.1, i))
+doc_at_limit : (d : CodeOption DocSpan) (b c : ℕ) → DocIn b c (doc_of d) → c ≤ text_limit → DocFits d
+doc_at_limit None b c h i = tt
+doc_at_limit (Some x) b c h i = (omega (arith, h.1, i), omega (arith, h.1, i))
 
 pub doc_in_limit : {t : Blank} {b : ℕ} {u : List ℕ} → BlankTo t b u → t.next ≤ text_limit → DocFits t.doc
 doc_in_limit {t} {b} h i = doc_at_limit t.doc b t.next (doc_in h) i
 
 -- the words of a doc comment, and of a record that can have one: g is the number that its flags make
-pub doc_word : (d : DocSpan) → doc_span_word d ≡ packed 0 (span_word layout (doc_extent (doc_of d)))
+pub doc_word : (d : CodeOption DocSpan) → doc_span_word d ≡ packed 0 (span_word layout (doc_extent (doc_of d)))
 unfolding layout doc_extent packed offset size
-doc_word Absent = refl
-doc_word (At o n) = refl
+doc_word None = refl
+doc_word (Some x) = refl
 
-pub doc_bit_is : (d : DocSpan) → doc_span_bit d ≡ doc_bit (doc_of d)
+pub doc_bit_is : (d : CodeOption DocSpan) → doc_span_bit d ≡ doc_bit (doc_of d)
 unfolding doc_bit
-doc_bit_is Absent = refl
-doc_bit_is (At o n) = refl
+doc_bit_is None = refl
+doc_bit_is (Some x) = refl
 
-doc_bit_small : (d : DocSpan) → doc_span_bit d < 2
-doc_bit_small Absent = omega arith
-doc_bit_small (At o n) = omega arith
+doc_bit_small : (d : CodeOption DocSpan) → doc_span_bit d < 2
+doc_bit_small None = omega arith
+doc_bit_small (Some x) = omega arith
 
-pub documented_fits : (f : FrontParts) {k v g o n x y : ℕ} → FrontFits f → k < 256 → v ≡ doc_span_bit f.doc → g < 128 → o ≤ text_limit → n ≤ text_limit → x < 4 → y < 4
+pub documented_fits : (f : FrontParts) {k : Kind} {v g o n : ℕ} {x y : Privilege} → FrontFits f → v ≡ doc_span_bit f.doc → g < 128 → o ≤ text_limit → n ≤ text_limit
     → Fits (record { kind = k; place = f.place; maturity = f.maturity; doc_present = v; flags = g; name = o; name_length = n; first_privilege = x; second_privilege = y })
-documented_fits f h a e b c d p q = record { kind_fits = a; place_fits = h.place_fits; maturity_fits = h.maturity_fits; doc_present_fits = omega (arith, e, doc_bit_small f.doc); flags_fits = b; name_fits = omega (arith, c); name_length_fits = omega (arith, d); first_privilege_fits = p; second_privilege_fits = q }
+documented_fits f h e b c d = record { place_fits = h.place_fits; doc_present_fits = omega (arith, e, doc_bit_small f.doc); flags_fits = b; name_fits = omega (arith, c); name_length_fits = omega (arith, d) }
 
-pub documented_bytes : (k p m : ℕ) (d : DocSpan) (fl : List Bits) (e : Extent) (x y : ℕ) (l : List Further) (g : ℕ) → g ≡ from_top 7 fl
-    → catalogue_bytes layout (documented k p m (doc_of d) fl e x y l ∷ [])
+pub documented_bytes : (k : Kind) (p : ℕ) (m : Maturity) (d : CodeOption DocSpan) (fl : List Bits) (e : Extent) (x y : Privilege) (l : List Further) (g : ℕ) → g ≡ from_top 7 fl
+    → catalogue_bytes layout (documented (kind_number k) p (maturity_number m) (doc_of d) fl e (privilege_number x) (privilege_number y) l ∷ [])
     ≡ words_bytes (first_of (record { kind = k; place = p; maturity = m; doc_present = doc_span_bit d; flags = g; name = offset e; name_length = size e; first_privilege = x; second_privilege = y }) ∷ doc_span_word d ∷ map (further_word layout) l)
 unfolding catalogue_bytes catalogue_words each record_words layout further_word documented
 documented_bytes k p m d fl e x y l g h = rw (h, doc_bit_is d, doc_word d) (ap words_bytes (append-nil _))
 
 -- such a record of three words: what the code has computed of it
-pub documented_put : (k p m : ℕ) (d : DocSpan) (fl : List Bits) (e : Extent) (x y : ℕ) (w : Further) (q g v a o s : ℕ) (l l₁ : List ℕ) → g ≡ from_top 7 fl → v ≡ doc_span_bit d
+pub documented_put : (k : Kind) (p : ℕ) (m : Maturity) (d : CodeOption DocSpan) (fl : List Bits) (e : Extent) (x y : Privilege) (w : Further) (q g v a o s : ℕ) (l l₁ : List ℕ) → g ≡ from_top 7 fl → v ≡ doc_span_bit d
     → a ≡ first_of (record { kind = k; place = p; maturity = m; doc_present = v; flags = g; name = offset e; name_length = size e; first_privilege = x; second_privilege = y }) → o ≡ doc_span_word d → s ≡ further_word layout w
-    → l₁ ≡ put q (words_bytes (a ∷ o ∷ s ∷ [])) l → l₁ ≡ put q (catalogue_bytes layout (documented k p m (doc_of d) fl e x y (w ∷ []) ∷ [])) l
+    → l₁ ≡ put q (words_bytes (a ∷ o ∷ s ∷ [])) l → l₁ ≡ put q (catalogue_bytes layout (documented (kind_number k) p (maturity_number m) (doc_of d) fl e (privilege_number x) (privilege_number y) (w ∷ []) ∷ [])) l
 documented_put k p m d fl e x y w q g v a o s l l₁ h z c b f e₁ = rw (documented_bytes k p m d fl e x y (w ∷ []) g h, ← z) (rw (c, b, f) at e₁)
 
 -- a record without one
-pub plain_fits : {k m g o n : ℕ} → k < 256 → m < 4 → g < 128 → o ≤ text_limit → n ≤ text_limit → Fits (record { kind = k; place = 0; maturity = m; doc_present = 0; flags = g; name = o; name_length = n; first_privilege = 0; second_privilege = 0 })
-plain_fits a b c d e = record { kind_fits = a; place_fits = omega arith; maturity_fits = b; doc_present_fits = omega arith; flags_fits = c; name_fits = omega (arith, d); name_length_fits = omega (arith, e); first_privilege_fits = omega arith; second_privilege_fits = omega arith }
+pub plain_fits : {k : Kind} {m : Maturity} {g o n : ℕ} → g < 128 → o ≤ text_limit → n ≤ text_limit → Fits (record { kind = k; place = 0; maturity = m; doc_present = 0; flags = g; name = o; name_length = n; first_privilege = View; second_privilege = View })
+plain_fits c d e = record { place_fits = omega arith; doc_present_fits = omega arith; flags_fits = c; name_fits = omega (arith, d); name_length_fits = omega (arith, e) }
 
-pub plain_bytes : (k m : ℕ) (fl : List Bits) (e : Extent) (l : List Further) (g : ℕ) → g ≡ from_top 7 fl
-    → catalogue_bytes layout (plain k m fl e l ∷ [])
-    ≡ words_bytes (first_of (record { kind = k; place = 0; maturity = m; doc_present = 0; flags = g; name = offset e; name_length = size e; first_privilege = 0; second_privilege = 0 }) ∷ map (further_word layout) l)
+pub plain_bytes : (k : Kind) (m : Maturity) (fl : List Bits) (e : Extent) (l : List Further) (g : ℕ) → g ≡ from_top 7 fl
+    → catalogue_bytes layout (plain (kind_number k) (maturity_number m) fl e l ∷ [])
+    ≡ words_bytes (first_of (record { kind = k; place = 0; maturity = m; doc_present = 0; flags = g; name = offset e; name_length = size e; first_privilege = View; second_privilege = View }) ∷ map (further_word layout) l)
 unfolding catalogue_bytes catalogue_words each record_words layout plain
 plain_bytes k m fl e l g h = rw h (ap words_bytes (append-nil _))
 
@@ -129,8 +136,8 @@ module _ {A : Type 0} {records : A → List Record} {m : Parser A} {b : ℕ} {u 
   read_written h g = record { value = a; is = e; place = omega (arith, z); bytes = rw (← h) g }
 
 -- its front, where its doc comment and its maturity are those that its reader was handed
-pub front_kept : (f : FrontParts) {k : ℕ} {d : DocSpan} {v : ℕ} → FrontFits f → d ≡ f.doc → v ≡ f.maturity → FrontFits (record { kind = k; place = 0; doc = d; maturity = v })
-front_kept f h x y = record { place_fits = omega arith; maturity_fits = omega (arith, h.maturity_fits, y); doc_fits = subst (λ (d : DocSpan). DocFits d) (sym x) h.doc_fits }
+pub front_kept : (f : FrontParts) {k : Kind} {d : CodeOption DocSpan} {v : Maturity} → FrontFits f → d ≡ f.doc → FrontFits (record { kind = k; place = 0; doc = d; maturity = v })
+front_kept f h x = record { place_fits = omega arith; doc_fits = subst (λ (d : CodeOption DocSpan). DocFits d) (sym x) h.doc_fits }
 
 -- the buffer keeps its length
 pub written_same : {A : Type 0} {records : A → List Record} {m : Parser A} {b : ℕ} {u : List ℕ} {at n : ℕ} {w : Wrote} {old new : List ℕ} → Room records m b u at n → Written records m b u at w old new → n ≡ length old → length new ≡ length old
@@ -210,14 +217,23 @@ module _ {A : Type 0} {f : List A → List Record} {one : A → List Record} (w 
     pub writing_ends : (v : Consumes m) {r : List ℕ} (x : Lost) → Rest b u c r → lost_reply x ≡ m c r → Written f (many0 m) b u at (record { next = c; to = to }) old new
     writing_ends v x q e = ended x (many0_ends v x i.run q e)
 
--- The same over elements of one record: a turn reads one, and puts its record.
-module _ {A : Type 0} {one : A → Record} {m : Parser A} {k : ℕ} (w : Elements one m k) {b : ℕ} {u : List ℕ} {at : ℕ} {old : List ℕ} (room : Room (map one) (many0 m) b u at (length old)) {c to : ℕ} {new : List ℕ} (i : Writing (map one) m b u c at old new to) where
-  module _ {a : A} {d : ℕ} (t : Took m b u c a d) where
-    pub element_fits : (to + 8 * k ≤ length new) × ((c < d) × (d ≤ b + length u))
-    element_fits = writing_fits (map_elementwise one) m b u at old room i w.takes t k (w.words a)
+-- A loop over elements: there is room for one that is read, and a turn writes it.
+module _ {P A : Type 0} {all : List A → List Record} {one : A → List Record} {m : Parser A} {f : ℕ → List ℕ → P → A} {W : List ℕ → ℕ → P → ℕ → Type 0} {size : P → ℕ} (e : Repeats all one m f W size) {b : ℕ} {u : List ℕ} {at : ℕ} {old : List ℕ} (room : Room all (many0 m) b u at (length old)) {c to : ℕ} {new : List ℕ} (i : Writing all m b u c at old new to) {r : List ℕ} (q : Rest b u c r) where
+  module _ {p : P} {d : ℕ} (h : ReadTo f (W r) m (Ok (p, d)) c r) where
+    -- there is room for it, in the buffer as it was too
+    pub run_fits : (to + 8 * size p ≤ length old) × ((to + 8 * size p ≤ length new) × ((c < d) × (d ≤ b + length u)))
+    run_fits =
+        let s = writing_fits e.elementwise m b u at old room i e.takes (read_took h (walks e.chain) q) (size p) (e.words c d r p h.within) in
+        (omega (arith, s.0, writing_same e.elementwise m b u at old room i), s)
 
-    pub write_element : {x : Record} {new' : List ℕ} → x ≡ one a → new' ≡ put to (catalogue_bytes layout (x ∷ [])) new → Writing (map one) m b u d at old new' (to + 8 * k)
-    write_element {new' = new'} e g = writing_more (map_elementwise one) m b u at old room i w.takes t k (w.words a) new' (g ∙ ap (λ (x : Record). put to (catalogue_bytes layout (x ∷ [])) new) e)
+    pub run_few : size p ≤ 8 * (d - c)
+    run_few = e.few c d r p h.within run_fits.1.1.0
 
-  pub elements_end : {r : List ℕ} (l : Lost) → Rest b u c r → lost_reply l ≡ m c r → Written (map one) (many0 m) b u at (record { next = c; to = to }) old new
-  elements_end l q e = writing_ends (map_elementwise one) m b u at old room i w.takes l q e
+    pub run_inside : ReadInside (W r c p) (c + length r)
+    run_inside = (d, h.within, omega (arith, (read_took h (walks e.chain) q).inside, q.size))
+
+    pub run_wrote : {new' : List ℕ} → new' ≡ put to (catalogue_bytes layout (one (f c r p))) new → Writing all m b u d at old new' (to + 8 * size p)
+    run_wrote {new'} g = writing_more e.elementwise m b u at old room i e.takes (read_took h (walks e.chain) q) (size p) (e.words c d r p h.within) new' g
+
+  pub run_written : {l : Lost} → ReadTo f (W r) m (Err l) c r → Written all (many0 m) b u at (record { next = c; to = to }) old new
+  run_written {l} h = writing_ends e.elementwise m b u at old room i e.takes l q (read_lost h)

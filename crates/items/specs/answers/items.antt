@@ -1,10 +1,10 @@
 -- What the answers of the readers of items say, as replies of the definitions.
+use Rattle.lexing.specs.answers.{Read}
 use Rattle.std.specs.Prelude.{ℕ, List}
 use Rattle.lexing.specs.blanks.{Doc, whitespace0}
 use Rattle.items.specs.items.{Item, cluster_item, endpoint_item, enum_item, bitmap_item, struct_item}
 use Rattle.items.specs.records.{Record, item_records}
 use Rattle.items.specs.answers.{CountsTo}
-use Rattle.items.specs.declared.counts.Count.{Count}
 use Rattle.lexing.specs.reply.{Parser, ◌>>=◌, ◌>>◌, ◌or◌}
 use Rattle.items.specs.entries.{api_maturity, parse_enum_after_doc_maturity, parse_bitmap_after_doc_maturity}
 use Rattle.items.specs.structs.{parse_struct_after_doc_maturity}
@@ -31,5 +31,5 @@ declaration d =
     mapped (after_maturity (parse_struct_after_doc_maturity d)) struct_item
 
 -- the count of a declaration, whatever the doc comment before it
-abbrev pub DeclarationCountTo : Count → ℕ → List ℕ → Type 0
+abbrev pub DeclarationCountTo : Read ℕ → ℕ → List ℕ → Type 0
 DeclarationCountTo r b u = CountsTo {I = Doc} (λ d. unhoisted_item) declaration r b u

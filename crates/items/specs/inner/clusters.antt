@@ -1,16 +1,12 @@
 -- What the readers and writers of clusters promise.
 use Rattle.std.specs.Prelude.{ℕ, ◌-◌, List, [], ◌∷◌, ◌≡◌}
 use Rattle.lexing.specs.reply.{Parser, ret, ◌>>=◌, ◌>>◌, catch, fail_at}
-use Rattle.lexing.specs.answers.{Answer, got, lost, ReadTo, NameIn, word_between, Fail, doc_of}
-use Rattle.lexing.specs.declared.answers.Lost.{Lost}
+use Rattle.lexing.specs.answers.{ReadTo, NameIn, word_between, doc_of, Read}
 use Rattle.items.specs.clusters.{Member, Cluster, ClusterHead as ClusterHeadOf, cluster_head, cluster_after_doc_maturity, cluster_members}
 use Rattle.items.specs.records.{Record, member_records, cluster_records, at, value, documented, last_revision}
 use Rattle.lexing.specs.buffers.{each}
-use Rattle.items.specs.answers.{Front, CountsTo, Written}
-use Rattle.items.specs.declared.counts.Count.{Count}
+use Rattle.items.specs.answers.{maturity_number, Front, CountsTo, Written}
 use Rattle.items.specs.declared.clusters.ClusterHeadParts.{ClusterHeadParts}
-use Rattle.items.specs.declared.clusters.ClusterHeadRead.{ClusterHeadRead}
-use Rattle.items.specs.declared.clusters.ClusterHeadRead.TheVariants.{ClusterHead, NoClusterHead}
 use Rattle.lexing.specs.bytes.{byte}
 use Rattle.lexing.specs.words.{tag}
 use Rattle.lexing.specs.blanks.{whitespace0}
@@ -19,33 +15,21 @@ use Rattle.items.specs.declared.writing.FrontParts.{FrontParts}
 use Rattle.items.specs.declared.members.MembersWrote.{MembersWrote}
 use Rattle.items.specs.inner.members.{unhoisted, wrote_to}
 
-abbrev pub MembersCountTo : Parser (List Member) → Count → ℕ → List ℕ → Type 0
+abbrev pub MembersCountTo : Parser (List Member) → Read ℕ → ℕ → List ℕ → Type 0
 MembersCountTo m r b u = CountsTo {I = ℕ} (λ p. each (member_records (λ x. p))) (λ p. m) r b u
 
 -- a cluster up to its braces
 abbrev pub cluster_head_at : ℕ → List ℕ → ClusterHeadParts → ClusterHeadOf
 cluster_head_at b u h = record { id = word_between b u h.name h.end; number = h.code }
 
-abbrev pub cluster_head_answer : ℕ → List ℕ → ClusterHeadRead → Answer ClusterHeadOf
-cluster_head_answer b u (ClusterHead h c) = got (cluster_head_at b u h) c
-cluster_head_answer b u (NoClusterHead l) = lost l
-
-abbrev pub cluster_head_lost : ClusterHeadRead → Lost
-cluster_head_lost (ClusterHead h c) = Fail c
-cluster_head_lost (NoClusterHead l) = l
-
-abbrev pub cluster_head_within : ℕ → ClusterHeadRead → Type 0
-cluster_head_within b (ClusterHead h c) = NameIn b h.name h.end c
-cluster_head_within b (NoClusterHead l) = Unit {0}
-
-abbrev pub ClusterHeadTo : ClusterHeadRead → ℕ → List ℕ → Type 0
-ClusterHeadTo r b u = ReadTo cluster_head_answer cluster_head_within cluster_head r b u
+abbrev pub ClusterHeadTo : Read ClusterHeadParts → ℕ → List ℕ → Type 0
+ClusterHeadTo r b u = ReadTo cluster_head_at (λ b h c. NameIn b h.name h.end c) cluster_head r b u
 
 -- a cluster's records before hoisting, which alone gives a type in a cluster another place than 0
 abbrev pub unhoisted_records : Cluster → List Record
 unhoisted_records c = cluster_records (λ m. 0) c
 
-abbrev pub ClusterCountTo : Count → ℕ → List ℕ → Type 0
+abbrev pub ClusterCountTo : Read ℕ → ℕ → List ℕ → Type 0
 ClusterCountTo r b u = CountsTo {I = Front} (λ i. unhoisted_records) (λ i. cluster_after_doc_maturity i.doc i.maturity) r b u
 
 -- members after their opening brace, with the closing one
@@ -61,4 +45,4 @@ pub record MembersWritten (m : Parser (List Member)) (b : ℕ) (u : List ℕ) (a
 
 -- the first record of a cluster, by offsets
 abbrev pub cluster_first : FrontParts → ClusterHeadParts → ℕ → Record
-cluster_first f h n = documented 1 0 f.maturity (doc_of f.doc) [] (at h.name (h.end - h.name)) 0 0 (value h.code ∷ value n ∷ [])
+cluster_first f h n = documented 1 0 (maturity_number f.maturity) (doc_of f.doc) [] (at h.name (h.end - h.name)) 0 0 (value h.code ∷ value n ∷ [])

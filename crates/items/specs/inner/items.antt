@@ -1,5 +1,6 @@
 -- What the private functions of the readers of items promise.
-use Rattle.std.specs.Prelude.{ℕ, ◌+◌, ◌-◌, ◌≤◌, ◌<◌, ◌≡◌, List, [], ◌∷◌, length, drop}
+use Rattle.lexing.specs.answers.{Read}
+use Rattle.std.specs.Prelude.{ℕ, ◌+◌, ◌-◌, ◌≤◌, ◌≡◌, List, [], ◌∷◌, length, drop}
 use Rattle.lexing.specs.bytes.{ascii}
 use Rattle.lexing.specs.reply.{Parser, fail, no_nearer}
 use Rattle.lexing.specs.blanks.{Doc}
@@ -9,11 +10,10 @@ use Rattle.items.specs.clusters.{mapped, cluster_after_doc_maturity}
 use Rattle.items.specs.endpoints.{endpoint}
 use Rattle.items.specs.items.{Item, cluster_item, endpoint_item, enum_item, bitmap_item, struct_item}
 use Rattle.items.specs.answers.items.{declaration}
-use Rattle.items.specs.answers.{Front, CountsTo}
+use Rattle.items.specs.answers.{maturity_number, Front, CountsTo}
 use Rattle.items.specs.inner.choices.{ChoiceFrom}
 use Rattle.items.specs.inner.structs.{StructFrom}
 use Rattle.items.specs.answers.items.{unhoisted_item}
-use Rattle.items.specs.declared.counts.Count.{Count}
 use Rattle.items.specs.declared.member_kinds.MemberKind.{MemberKind}
 use Rattle.items.specs.declared.member_kinds.MemberKind.TheVariants.{Revision, Bitmap, Enum, Struct, Attribute, Command, Event, Unknown}
 use Rattle.items.specs.declared.items.DeclarationKind.{DeclarationKind}
@@ -54,13 +54,12 @@ DeclarationFrom StructType f b u = StructFrom f b u
 DeclarationFrom NoDeclaration f b u = Unit {0}
 
 -- its count, whatever the doc comment and the maturity before it
-abbrev pub KindCountTo : DeclarationKind → Count → ℕ → List ℕ → Type 0
+abbrev pub KindCountTo : DeclarationKind → Read ℕ → ℕ → List ℕ → Type 0
 KindCountTo k r b u = CountsTo {I = Front} (λ i. unhoisted_item) (λ i. declaration_try k i.doc i.maturity) r b u
 
 -- the tries of a declaration are that of its kind, after its maturity; the others fail, no further than at the floor
 pub record StartTo (r : DeclarationStart) (b : ℕ) (u : List ℕ) : Type 0 where
   pub from : b ≤ r.next
   pub inside : r.next ≤ b + length u
-  pub small : r.maturity < 4
-  pub leaves : (d : Doc) → declaration d b u ≡ no_nearer r.others_fail_at (declaration_try r.kind d r.maturity r.next (drop (r.next - b) u))
+  pub leaves : (d : Doc) → declaration d b u ≡ no_nearer r.others_fail_at (declaration_try r.kind d (maturity_number r.maturity) r.next (drop (r.next - b) u))
   pub goes : DeclarationFrom r.kind r.from r.next (drop (r.next - b) u)

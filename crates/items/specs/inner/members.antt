@@ -1,28 +1,21 @@
 -- What the readers and writers of members promise.
-use Rattle.std.specs.Prelude.{ℕ, List, [], ◌∷◌, ◌≡◌}
+use Rattle.std.specs.Prelude.{ℕ, List, [], ◌∷◌, ◌≡◌, Ok, Err}
 use Rattle.lexing.specs.reply.{Parser, ◌>>=◌, ◌>>◌}
-use Rattle.lexing.specs.answers.{Answer, got, lost, ReadTo}
-use Rattle.lexing.specs.declared.integers.Number.{Number}
-use Rattle.lexing.specs.declared.integers.Number.TheVariants.{Value, NoNumber}
+use Rattle.lexing.specs.answers.{ReadTo, Read}
 use Rattle.items.specs.clusters.{Member, revision, parse_revision, member_tries}
 use Rattle.items.specs.records.{Record, member_records, last_revision}
 use Rattle.items.specs.answers.{CountsTo, Written}
-use Rattle.items.specs.declared.counts.Count.{Count}
 use Rattle.lexing.specs.blanks.{Doc, whitespace0}
 use Rattle.items.specs.entries.{api_maturity}
 use Rattle.items.specs.declared.writing.Wrote.{Wrote}
 use Rattle.items.specs.declared.members.MembersWrote.{MembersWrote}
 
 -- a revision
-abbrev pub revision_answer : ℕ → List ℕ → Number → Answer Member
-revision_answer b u (Value n c) = got (revision n) c
-revision_answer b u (NoNumber l) = lost l
-
-abbrev pub RevisionTo : Number → ℕ → List ℕ → Type 0
-RevisionTo r b u = ReadTo revision_answer (λ b r. Unit {0}) parse_revision r b u
+abbrev pub RevisionTo : Read ℕ → ℕ → List ℕ → Type 0
+RevisionTo r b u = ReadTo (λ b u n. revision n) (λ b n c. Unit {0}) parse_revision r b u
 
 -- the count of a member, whatever the place of types
-abbrev pub MemberCountTo : Parser Member → Count → ℕ → List ℕ → Type 0
+abbrev pub MemberCountTo : Parser Member → Read ℕ → ℕ → List ℕ → Type 0
 MemberCountTo m r b u = CountsTo {I = ℕ} (λ p. member_records (λ x. p)) (λ p. m) r b u
 
 -- The second pass.
@@ -47,6 +40,6 @@ pub record MemberWritten (z : ℕ) (m : Parser Member) (b : ℕ) (u : List ℕ) 
   pub latest : w.revision ≡ last_revision z (written.value ∷ [])
 
 -- what a revision at b leaves, with the place p of its records and z the last one before it: no records, and it is the last one now
-abbrev pub revision_wrote : Number → (b p z : ℕ) → MembersWrote
-revision_wrote (Value n c) b p z = record { next = c; to = p; revision = n }
-revision_wrote (NoNumber l) b p z = record { next = b; to = p; revision = z }
+abbrev pub revision_wrote : Read ℕ → (b p z : ℕ) → MembersWrote
+revision_wrote (Ok r) b p z = record { next = r.1; to = p; revision = r.0 }
+revision_wrote (Err l) b p z = record { next = b; to = p; revision = z }

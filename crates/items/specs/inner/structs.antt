@@ -1,29 +1,22 @@
 -- What the readers and writers of structs promise.
-use Rattle.std.specs.Prelude.{ℕ, ◌≤◌, ◌<◌, ◌-◌, ◌≡◌, List, [], ◌∷◌, Bool, true, false}
+use Rattle.std.specs.Prelude.{ℕ, ◌≤◌, ◌<◌, ◌-◌, ◌≡◌, List, [], ◌∷◌, Bool, true, false, Ok}
 use Rattle.lexing.specs.bytes.{ascii}
 use Rattle.lexing.specs.reply.{fail, Parser, Reply, ret, opt}
 use Rattle.lexing.specs.words.{keyword, Word}
-use Rattle.lexing.specs.answers.{Answer, got, lost, word_reply, ReadTo, BlankAt, word_between, Fail, reply, doc_of}
-use Rattle.lexing.specs.declared.answers.Lost.{Lost}
-use Rattle.lexing.specs.declared.answers.Step.TheVariants.{Next}
+use Rattle.lexing.specs.answers.{Answer, got, word_reply, ReadTo, BlankAt, word_between, reply, doc_of, Read, read_answer}
 use Rattle.items.specs.structs.{StructType, regular, request, response, shared, StructHead, struct_head, parse_struct_after_doc_maturity, response_code, struct_type_of}
 use Rattle.items.specs.records.{struct_records, Record, at, bits, value, documented}
-use Rattle.items.specs.answers.{Front, CountsTo}
-use Rattle.items.specs.declared.counts.Count.{Count}
+use Rattle.items.specs.answers.{maturity_number, Front, CountsTo}
 use Rattle.items.specs.declared.structs.StructKind.{StructKind}
 use Rattle.items.specs.declared.structs.StructKind.TheVariants.{Regular, Request, Response, Shared}
 use Rattle.items.specs.declared.structs.StructHeadParts.{StructHeadParts}
-use Rattle.items.specs.declared.structs.StructHeadRead.{StructHeadRead}
-use Rattle.items.specs.declared.structs.StructHeadRead.TheVariants.{Head, NoHead}
 use Rattle.std.proofs.Math.Option.{Option}
-use Rattle.lexing.specs.declared.integers.Number.{Number}
-use Rattle.lexing.specs.declared.integers.Number.TheVariants.{Value, NoNumber}
 use Rattle.items.specs.declared.structs.StructWord.{StructWord}
 use Rattle.items.specs.declared.writing.FrontParts.{FrontParts}
 
 -- where a struct goes on: after `shared` and the blanks that may follow it, or at its start where it is not there
 pub data StructFrom (f b : ℕ) (u : List ℕ) : Type 0 where
-  after_shared : (c : ℕ) → word_reply (Next c) b u ≡ keyword (ascii "shared") b u → BlankAt f b u c → StructFrom f b u
+  after_shared : (c : ℕ) → word_reply (Ok c) b u ≡ keyword (ascii "shared") b u → BlankAt f b u c → StructFrom f b u
   not_shared : f ≡ b → keyword (ascii "shared") b u ≡ fail b → StructFrom f b u
 
 -- the type of a struct by its kind and the code of a response
@@ -38,28 +31,16 @@ type_of Shared v = shared
 abbrev pub head_at : ℕ → List ℕ → StructHeadParts → StructHead
 head_at b u h = record { head_type = type_of h.kind h.code; head_scoped = h.scoped; head_name = word_between b u h.name h.end }
 
-abbrev pub head_answer : ℕ → List ℕ → StructHeadRead → Answer StructHead
-head_answer b u (Head h c) = got (head_at b u h) c
-head_answer b u (NoHead l) = lost l
-
-abbrev pub head_lost : StructHeadRead → Lost
-head_lost (Head h c) = Fail c
-head_lost (NoHead l) = l
-
 pub record HeadBetween (b : ℕ) (h : StructHeadParts) (c : ℕ) : Type 0 where
   pub name_from : b ≤ h.name
   pub name_to : h.name ≤ h.end
   pub before : h.end ≤ c
   pub few_flags : h.scoped < 2
 
-abbrev pub head_within : ℕ → StructHeadRead → Type 0
-head_within b (Head h c) = HeadBetween b h c
-head_within b (NoHead l) = Unit {0}
+abbrev pub StructHeadTo : Read StructHeadParts → ℕ → List ℕ → Type 0
+StructHeadTo r b u = ReadTo head_at HeadBetween struct_head r b u
 
-abbrev pub StructHeadTo : StructHeadRead → ℕ → List ℕ → Type 0
-StructHeadTo r b u = ReadTo head_answer head_within struct_head r b u
-
-abbrev pub StructCountTo : Count → ℕ → List ℕ → Type 0
+abbrev pub StructCountTo : Read ℕ → ℕ → List ℕ → Type 0
 StructCountTo r b u = CountsTo {I = Front} (λ i. struct_records i.place) (λ i. parse_struct_after_doc_maturity i.doc i.maturity) r b u
 
 -- the kind that a word says
@@ -87,14 +68,13 @@ pub record StructWordTo (m : Parser Word) (r : StructWord) (b : ℕ) (u : List �
   pub blanks : BlankAt r.next b u end
 
 -- the type of a struct whose code was read
-abbrev pub code_answer : StructKind → Number → Answer StructType
-code_answer k (Value v c) = got (type_of k v) c
-code_answer k (NoNumber l) = lost l
+abbrev pub code_answer : StructKind → Read ℕ → Answer StructType
+code_answer k = read_answer (type_of k)
 
-abbrev pub code_reply : StructKind → Number → ℕ → List ℕ → Reply StructType
+abbrev pub code_reply : StructKind → Read ℕ → ℕ → List ℕ → Reply StructType
 code_reply k r b u = reply (code_answer k r) b u
 
-abbrev pub response_reply : Number → ℕ → List ℕ → Reply StructType
+abbrev pub response_reply : Read ℕ → ℕ → List ℕ → Reply StructType
 response_reply r b u = code_reply Response r b u
 
 abbrev pub struct_kind_number : StructKind → ℕ
@@ -112,5 +92,5 @@ response_number Shared v = 0
 -- the first record of a struct, by offsets
 abbrev pub struct_first : FrontParts → StructHeadParts → Record
 struct_first f h =
-    documented 5 f.place f.maturity (doc_of f.doc) (bits 2 (struct_kind_number h.kind) ∷ bits 1 h.scoped ∷ []) (at h.name (h.end - h.name)) 0 0
+    documented 5 f.place (maturity_number f.maturity) (doc_of f.doc) (bits 2 (struct_kind_number h.kind) ∷ bits 1 h.scoped ∷ []) (at h.name (h.end - h.name)) 0 0
     (value (response_number h.kind h.code) ∷ [])

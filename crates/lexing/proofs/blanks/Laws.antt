@@ -12,17 +12,12 @@ use borrow.Author.Tests.{eq-eqb, ne_eqb, eqb-true}
 use Rattle.lexing.specs.bytes.{slash, star, is_space, in_line, list_take_while}
 use Rattle.lexing.specs.reply.{ok, fail, ret, ◌>>=◌, catch, keep, position, fail_at, pick}
 use Rattle.lexing.specs.blanks.{Whitespace, white, plain, doc_comment, line_comment, Until, found, never, one_more, until_close, comment_kind, closed, block_comment, whitespace_group, Doc, no_doc, doc_at, doc_after, one_blank, whitespace0, whitespace1}
-use Rattle.lexing.specs.answers.{Rest, LacksIf, group_reply, blank_reply, BlankTo, doc_of, doc_by, RunTo}
+use Rattle.lexing.specs.answers.{Rest, LacksIf, group_reply, blank_reply, BlankTo, doc_of}
 use Rattle.lexing.specs.inner.blanks.{is_close, end_until, turn_reply}
-use Rattle.lexing.specs.declared.blanks.End.{End}
-use Rattle.lexing.specs.declared.blanks.End.TheVariants.{Closed, Open}
 use Rattle.lexing.specs.declared.blanks.Group.{Group}
-use Rattle.lexing.specs.declared.blanks.Group.TheVariants.{Nothing, White, Plain, DocComment}
-use Rattle.lexing.specs.declared.blanks.DocSpan.TheVariants.{Absent}
+use Rattle.lexing.specs.declared.blanks.Group.TheVariants.{White, Plain, DocComment}
+use Rattle.std.specs.Prelude.{Some, None}
 use Rattle.lexing.specs.declared.blanks.Blank.{Blank}
-use Rattle.lexing.specs.declared.blanks.Run.{Run}
-use Rattle.lexing.specs.declared.blanks.Turn.{Turn}
-use Rattle.lexing.specs.declared.blanks.Turn.TheVariants.{Again, Done}
 use Rattle.lexing.proofs.Onward.{group_advances}
 use Rattle.lexing.proofs.TokenLocality.{no_block, no_group, one_blank_chain, one_blank_consumes}
 use Rattle.lexing.proofs.TokenRuns.{line_text, line_nil, line_one, line_first, line_is, line_no, text_nil, text_yes, text_no, space_nil, space_yes, space_no}
@@ -193,21 +188,21 @@ module _ (b : ℕ) (u : List ℕ) (first : get_or u 0 0 ≡ slash) where
       pub line_fits : n ≤ length u
       line_fits = omega (arith, run_le in_line r, ap length er, length-drop 2 u)
 
-    module _ (second : get_or u 1 0 ≡ star) (e : End) (ee : end_until e r ≡ until_close r) where
-      is_block : whitespace_group b u ≡ closed b r (end_until e r)
-      is_block = ap (whitespace_group b) (two_bytes u 46 41 first second ∙ ap (λ (v : List ℕ). slash ∷ star ∷ v) (sym er)) ∙ block_at b r (end_until e r) (sym ee)
+    module _ (second : get_or u 1 0 ≡ star) where
+      is_block : (t : Until) → t ≡ until_close r → whitespace_group b u ≡ closed b r t
+      is_block t e = ap (whitespace_group b) (two_bytes u 46 41 first second ∙ ap (λ (v : List ℕ). slash ∷ star ∷ v) (sym er)) ∙ block_at b r t (sym e)
 
-      pub group_open : e ≡ Open → fail b ≡ whitespace_group b u
+      pub group_open : end_until None r ≡ until_close r → fail b ≡ whitespace_group b u
       unfolding closed
-      group_open q = sym (is_block ∙ ap (λ (t : End). closed b r (end_until t r)) q)
+      group_open e = sym (is_block never e)
 
-      module _ (n : ℕ) (q : e ≡ Closed n) where
+      module _ (n : ℕ) (e : end_until (Some n) r ≡ until_close r) where
         is_closed : whitespace_group b u ≡ ok (comment_kind b n r) (b + (n + 4)) (drop (n + 4) u)
         unfolding closed
         is_closed =
             let z : b + (4 + n) ≡ b + (n + 4) = omega arith in
             let w : 2 + (n + 2) ≡ n + 4 = omega arith in
-            is_block ∙ (ap (λ (t : End). closed b r (end_until t r)) q ∙ rw z (ap (λ v. ok (comment_kind b n r) (b + (n + 4)) v) (ap (drop (n + 2)) er ∙ (drop-drop (n + 2) 2 u ∙ ap (λ (i : ℕ). drop i u) w))))
+            is_block (found n (drop (n + 2) r)) e ∙ rw z (ap (λ v. ok (comment_kind b n r) (b + (n + 4)) v) (ap (drop (n + 2)) er ∙ (drop-drop (n + 2) 2 u ∙ ap (λ (i : ℕ). drop i u) w)))
 
         pub closed_fits : n + 4 ≤ length u
         closed_fits = let f = rw is_closed at (group_advances.reads b u) in omega (arith, f.1)
@@ -260,11 +255,6 @@ group_neither b (x ∷ u) s y ey ne = sym (no_group b x u (rw (ne_eqb x slash (�
 pub group_none : (b n : ℕ) (u : List ℕ) → n ≡ length (list_take_while is_space u) → n ≤ 0 → (x : ℕ) → x ≡ get_or u 0 0 → (x ≡ slash → ⊥) → fail b ≡ whitespace_group b u
 group_none b n u e h = let z : length (list_take_while is_space u) ≡ 0 = omega arith in group_neither b u (rw z at (run_stops is_space no_space u))
 
--- a doc comment's text is after its first bytes, so its offset is not 0
-pub doc_some : (o n : ℕ) → (o ≡ 0 → ⊥) → doc_at o n ≡ doc_by o n
-doc_some zero n h = absurd (h refl)
-doc_some (suc o) n h = refl
-
 -- a turn of a run
 turn_some : (d : Doc) (b c : ℕ) (u r : List ℕ) (k : Whitespace) → ok k c r ≡ whitespace_group b u → ok (doc_after k d) c r ≡ one_blank d b u
 unfolding one_blank ◌>>=◌ ret
@@ -275,8 +265,8 @@ unfolding one_blank ◌>>=◌ ret
 turn_none d b p u e = rw (sym e, one_blank, ◌>>=◌)
 
 module _ (b : ℕ) (u : List ℕ) (at : ℕ) (r : List ℕ) (q : Rest b u at r) where
-  none : (d : Doc) → fail at ≡ whitespace_group at r → fail at ≡ one_blank d at (drop (at - b) u)
-  none d e = rw (← q.same) (turn_none d at at r e)
+  pub turn_done : (d : Doc) → fail at ≡ whitespace_group at r → fail at ≡ one_blank d at (drop (at - b) u)
+  turn_done d e = rw (← q.same) (turn_none d at at r e)
 
   -- n bytes of kind k
   module _ (k : Whitespace) (n : ℕ) (e : ok k (at + n) (drop n r) ≡ whitespace_group at r) where
@@ -291,14 +281,11 @@ module _ (b : ℕ) (u : List ℕ) (at : ℕ) (r : List ℕ) (q : Rest b u at r) 
   some_white d n e = some white n e d
 
   pub turn_other : (d : Doc) → is_space (get_or u (at - b) 0) ≡ false → (x : ℕ) → x ≡ get_or r 0 0 → (x ≡ slash → ⊥) → fail at ≡ one_blank d at (drop (at - b) u)
-  turn_other d s x ex ne = none d (group_neither at r (ap is_space (ap (λ (v : List ℕ). get_or v 0 0) q.same ∙ first_of (at - b) u) ∙ s) x ex ne)
+  turn_other d s x ex ne = turn_done d (group_neither at r (ap is_space (ap (λ (v : List ℕ). get_or v 0 0) q.same ∙ first_of (at - b) u) ∙ s) x ex ne)
 
-  module _ (g : Group) (h : group_reply g at r ≡ whitespace_group at r) where
-    told : (k : Group) → g ≡ k → group_reply k at r ≡ whitespace_group at r
-    told k e = subst (λ (x : Group). group_reply x at r ≡ whitespace_group at r) e h
-
-    pub turn_done : (d : Doc) → g ≡ Nothing → fail at ≡ one_blank d at (drop (at - b) u)
-    turn_done d e = none d (told Nothing e)
+  module _ (g : Group) (h : group_reply (Some g) at r ≡ whitespace_group at r) where
+    told : (k : Group) → g ≡ k → group_reply (Some k) at r ≡ whitespace_group at r
+    told k e = subst (λ (x : Group). group_reply (Some x) at r ≡ whitespace_group at r) e h
 
     pub turn_white : (d : Doc) (n : ℕ) → g ≡ White n → ok d (at + n) (drop (at + n - at) (drop (at - b) u)) ≡ one_blank d at (drop (at - b) u)
     turn_white d n e = some_white d n (told (White n) e)
@@ -307,9 +294,9 @@ module _ (b : ℕ) (u : List ℕ) (at : ℕ) (r : List ℕ) (q : Rest b u at r) 
     unfolding doc_after
     turn_plain d n e = some plain n (told (Plain n) e) d
 
-    pub turn_doc : (d : Doc) (n : ℕ) → g ≡ DocComment n → ok (doc_by (at + 3) n) (at + (n + 5)) (drop (at + (n + 5) - at) (drop (at - b) u)) ≡ one_blank d at (drop (at - b) u)
+    pub turn_doc : (d : Doc) (n : ℕ) → g ≡ DocComment n → ok (doc_at (at + 3) n) (at + (n + 5)) (drop (at + (n + 5) - at) (drop (at - b) u)) ≡ one_blank d at (drop (at - b) u)
     unfolding doc_after
-    turn_doc d n e = rw (← doc_some (at + 3) n (λ z. omega arith)) (some (doc_comment (at + 3) n) (n + 5) (told (DocComment n) e) d)
+    turn_doc d n e = some (doc_comment (at + 3) n) (n + 5) (told (DocComment n) e) d
 
     pub white_fits : (n : ℕ) → g ≡ White n → at + n ≤ b + length u
     white_fits n e = fits white n (told (White n) e)
@@ -343,69 +330,59 @@ module _ (b : ℕ) (u : List ℕ) (c : ℕ) (d : Doc) (i : IterAt one_blank keep
       }
 
 -- the invariant of a run: no white space is after it
-pub record BlanksAt (b : ℕ) (u : List ℕ) (t : Run) : Type 0 where
-  pub run : IterAt one_blank keep no_doc b u t.next (doc_by t.doc t.size)
+pub record BlanksAt (b : ℕ) (u : List ℕ) (t : Blank) : Type 0 where
+  pub run : IterAt one_blank keep no_doc b u t.next (doc_of t.doc)
   pub following : is_space (get_or u (t.next - b) 0) ≡ false
 
-pub blanks_start : (b : ℕ) (u : List ℕ) (n : ℕ) → n ≡ b + length (list_take_while is_space u) → BlanksAt b u (record { next = n; doc = 0; size = 0 })
+pub blanks_start : (b : ℕ) (u : List ℕ) (n : ℕ) → n ≡ b + length (list_take_while is_space u) → BlanksAt b u (record { next = n; doc = None })
 blanks_start b u n e =
     let z : b - b ≡ 0 = omega arith in
     let w = white_passed b u b no_doc (iter_start one_blank keep no_doc b u) n (rw z e) in
     record { run = w.run; following = w.following }
 
-module _ (b : ℕ) (u : List ℕ) (t : Run) (i : BlanksAt b u t) (r : Turn) (h : turn_reply r t.next (drop (t.next - b) u) ≡ one_blank (doc_by t.doc t.size) t.next (drop (t.next - b) u)) where
-  turned : (k : Turn) → r ≡ k → turn_reply k t.next (drop (t.next - b) u) ≡ one_blank (doc_by t.doc t.size) t.next (drop (t.next - b) u)
-  turned k e = subst (λ (x : Turn). turn_reply x t.next (drop (t.next - b) u) ≡ one_blank (doc_by t.doc t.size) t.next (drop (t.next - b) u)) e h
-
-  module _ (c : Run) (e : r ≡ Again c) where
-    pub blanks_comment : IterAt one_blank keep no_doc b u c.next (doc_by c.doc c.size) × (t.next < c.next)
+module _ (b : ℕ) (u : List ℕ) (t : Blank) (i : BlanksAt b u t) where
+  module _ (c : Blank) (h : turn_reply (Some c) t.next (drop (t.next - b) u) ≡ one_blank (doc_of t.doc) t.next (drop (t.next - b) u)) where
+    pub blanks_comment : IterAt one_blank keep no_doc b u c.next (doc_of c.doc) × (t.next < c.next)
     blanks_comment =
         let q = rest_from b t.next u i.run.from i.run.inside in
-        iter_step one_blank_consumes i.run (took (walks (one_blank_chain (doc_by t.doc t.size))) q (turned (Again c) e))
+        iter_step one_blank_consumes i.run (took (walks (one_blank_chain (doc_of t.doc))) q h)
 
-    pub blanks_again : (n : ℕ) → n ≡ c.next + length (list_take_while is_space (drop (c.next - b) u)) → BlanksAt b u (record { next = n; doc = c.doc; size = c.size }) × (t.next < n)
+    pub blanks_again : (n : ℕ) → n ≡ c.next + length (list_take_while is_space (drop (c.next - b) u)) → BlanksAt b u (record { next = n; doc = c.doc }) × (t.next < n)
     blanks_again n k =
         let w = white_passed b u c.next _ blanks_comment.0 n k in
         (record { run = w.run; following = w.following }, omega (arith, blanks_comment.1, w.up))
 
-  pub blanks_end : r ≡ Done → RunTo t b u
+  pub blanks_end : turn_reply None t.next (drop (t.next - b) u) ≡ one_blank (doc_of t.doc) t.next (drop (t.next - b) u) → BlankTo t b u
   unfolding keep whitespace0
-  blanks_end e = record { reads = iter_ends one_blank_consumes i.run t.next (sym (turned Done e)); up = i.run.from; inside = i.run.inside }
+  blanks_end h = record { reads = iter_ends one_blank_consumes i.run t.next (sym h); up = i.run.from; inside = i.run.inside }
 
--- a run as an answer; one without a doc comment
-pub run_blank : {t : Run} {b : ℕ} {u : List ℕ} → RunTo t b u → (x : Blank) → x.next ≡ t.next → doc_of x.doc ≡ doc_by t.doc t.size → BlankTo x b u
-run_blank h x n d = record { reads = rw (n, d) h.reads; up = rw n h.up; inside = rw n h.inside }
-
-pub run_self : {t : Run} {b : ℕ} {u : List ℕ} → RunTo t b (drop (b - b) u) → RunTo t b u
-run_self {b = b} h = let z : b - b ≡ 0 = omega arith in rw z at h
-
-without_doc : {n b : ℕ} {u : List ℕ} → RunTo (record { next = n; doc = 0; size = 0 }) b u → BlankTo (record { next = n; doc = Absent }) b u
-without_doc {n} h = run_blank h (record { next = n; doc = Absent }) refl refl
+pub blank_self : {t : Blank} {b : ℕ} {u : List ℕ} → BlankTo t b (drop (b - b) u) → BlankTo t b u
+blank_self {b = b} h = let z : b - b ≡ 0 = omega arith in rw z at h
 
 -- white space alone
-pub blanks_alone : (b : ℕ) (u : List ℕ) (n : ℕ) → n ≡ length (list_take_while is_space u) → (x : ℕ) → x ≡ get_or u n 0 → (x ≡ slash → ⊥) → RunTo (record { next = b + n; doc = 0; size = 0 }) b u
+pub blanks_alone : (b : ℕ) (u : List ℕ) (n : ℕ) → n ≡ length (list_take_while is_space u) → (x : ℕ) → x ≡ get_or u n 0 → (x ≡ slash → ⊥) → BlankTo (record { next = b + n; doc = None }) b u
 blanks_alone b u n e x ex ne =
     let i = blanks_start b u (b + n) (ap (λ (m : ℕ). b + m) e) in
     let q = rest_from b (b + n) u i.run.from i.run.inside in
     let z : b + n - b ≡ n = omega arith in
     let y : x ≡ get_or (drop (b + n - b) u) 0 0 = ex ∙ sym (first_of (b + n - b) u ∙ ap (λ (m : ℕ). get_or u m 0) z) in
-    blanks_end b u (record { next = b + n; doc = 0; size = 0 }) i Done (turn_other b u (b + n) (drop (b + n - b) u) q no_doc i.following x y ne) refl
+    blanks_end b u (record { next = b + n; doc = None }) i (turn_other b u (b + n) (drop (b + n - b) u) q no_doc i.following x y ne)
 
 -- no byte above the slash starts a blank, and after a single space none ends the run
 above_slash : (x : ℕ) → slash < x → is_space x ≡ false
 unfolding is_space
 above_slash x h = rw (ne_eqb x 32 (λ e. omega (arith, e)), ne_eqb x 9 (λ e. omega (arith, e)), ne_eqb x 10 (λ e. omega (arith, e)), ne_eqb x 13 (λ e. omega (arith, e))) refl
 
-pub blanks_none : (b : ℕ) (u : List ℕ) (x : ℕ) → x ≡ get_or u 0 0 → slash < x → BlankTo (record { next = b; doc = Absent }) b u
-blanks_none b u x e h = let z : b + 0 ≡ b = omega arith in rw z at (without_doc (blanks_alone b u 0 (no_run u (rw e at h)) x e (λ q. omega arith)))
+pub blanks_none : (b : ℕ) (u : List ℕ) (x : ℕ) → x ≡ get_or u 0 0 → slash < x → BlankTo (record { next = b; doc = None }) b u
+blanks_none b u x e h = let z : b + 0 ≡ b = omega arith in rw z at (blanks_alone b u 0 (no_run u (rw e at h)) x e (λ q. omega arith))
   where
     no_run : (u : List ℕ) → slash < get_or u 0 0 → 0 ≡ length (list_take_while is_space u)
     no_run [] h = absurd (omega arith)
     no_run (y ∷ u) h = sym (ap length (run_none is_space y u (above_slash y h)))
 
-pub blanks_one : (b : ℕ) (u : List ℕ) (x y : ℕ) → x ≡ get_or u 0 0 → y ≡ get_or u 1 0 → x ≡ 32 → slash < y → BlankTo (record { next = b + 1; doc = Absent }) b u
+pub blanks_one : (b : ℕ) (u : List ℕ) (x y : ℕ) → x ≡ get_or u 0 0 → y ≡ get_or u 1 0 → x ≡ 32 → slash < y → BlankTo (record { next = b + 1; doc = None }) b u
 unfolding is_space
-blanks_one b u x y ex ey e h = without_doc (blanks_alone b u 1 (one_space u (sym ex ∙ e) (rw ey at h)) y ey (λ q. omega arith))
+blanks_one b u x y ex ey e h = blanks_alone b u 1 (one_space u (sym ex ∙ e) (rw ey at h)) y ey (λ q. omega arith)
   where
     one_space : (u : List ℕ) → get_or u 0 0 ≡ 32 → slash < get_or u 1 0 → 1 ≡ length (list_take_while is_space u)
     one_space [] e h = absurd (omega arith)

@@ -1,12 +1,14 @@
 -- Words as bytes, and words written over a buffer, one after the other.
 use mathlib.Core.Path.{◌≡◌, refl, sym, ap, ◌∙◌}
 use mathlib.Core.List.{List, [], ◌∷◌, ◌++◌, append_assoc, append-nil}
-use Prim.Native.Nat.{ℕ, zero, suc, ◌+◌, ◌*◌, ◌/◌, ◌%◌, ◌≤◌}
+use Prim.Native.Nat.{ℕ, zero, suc, ◌+◌, ◌-◌, ◌*◌, ◌/◌, ◌%◌, ◌≤◌, ◌<◌}
 use native.Mathlib.Omega.{arith}
-use native.Mathlib.Numerals.{towards_suc}
 use native.Mathlib.Nat.{add_assoc, add-zero, div-div-eq-div-mul}
-use lib.ListN.{length, drop, take, set, length-drop, length-append, take-append-drop}
-use lib.Seq.{sets, sets-eq, take_at, length-take-le, drop-append-add, drop-drop}
+use Rattle.std.proofs.lemmas.List.{take_more}
+use lib.ListN.{length, get_or, drop, take, length-drop, length-append, take-append-drop}
+use lib.Seq.{take_at, length-take-le, drop-append-add, drop-drop}
+use Rattle.std.specs.Int.{to_be_bytes, w64}
+use borrow.Rule.Slice.PartMut.{put_mid}
 use Rattle.lexing.specs.buffers.{put, each, big_endian, words_bytes}
 
 pub each_append : {A B : Type 0} (f : A → List B) (k l : List A) → each f (k ++ l) ≡ each f k ++ each f l
@@ -37,22 +39,14 @@ unfolding words_bytes each
 words_bytes_length [] = refl
 words_bytes_length (w ∷ l) = omega (arith, length-append (big_endian 8 w) (each (big_endian 8) l), big_endian_length 8 w, words_bytes_length l)
 
-put_8 : (l : List ℕ) (i a b c d e f g h : ℕ) → i + 8 ≤ length l
-    → set (set (set (set (set (set (set (set l i a) (i + 1) b) (i + 2) c) (i + 3) d) (i + 4) e) (i + 5) f) (i + 6) g) (i + 7) h ≡ put i (a ∷ b ∷ c ∷ d ∷ e ∷ f ∷ g ∷ h ∷ []) l
-unfolding put
-put_8 l i a b c d e f g h hl =
-    let q : set (set (set (set (set (set (set (set l i a) (i + 1) b) (i + 2) c) (i + 3) d) (i + 4) e) (i + 5) f) (i + 6) g) (i + 7) h ≡ sets l i (a ∷ b ∷ c ∷ d ∷ e ∷ f ∷ g ∷ h ∷ []) = simp towards_suc in
-    q ∙ (sets-eq (a ∷ b ∷ c ∷ d ∷ e ∷ f ∷ g ∷ h ∷ []) l i hl ∙ append_assoc (take i l) (a ∷ b ∷ c ∷ d ∷ e ∷ f ∷ g ∷ h ∷ []) (drop (i + 8) l))
-
 big_endian_8 : (w : ℕ) → big_endian 8 w ≡ w / 72057594037927936 % 256 ∷ w / 281474976710656 % 256 ∷ w / 1099511627776 % 256 ∷ w / 4294967296 % 256 ∷ w / 16777216 % 256 ∷ w / 65536 % 256 ∷ w / 256 % 256 ∷ w % 256 ∷ []
 unfolding big_endian
 big_endian_8 w = simp div-div-eq-div-mul
 
--- the eight stores of the code
-pub put_word : (l : List ℕ) (i w : ℕ) → i + 8 ≤ length l
-    → set (set (set (set (set (set (set (set l i (w / 72057594037927936 % 256)) (i + 1) (w / 281474976710656 % 256)) (i + 2) (w / 1099511627776 % 256)) (i + 3) (w / 4294967296 % 256)) (i + 4) (w / 16777216 % 256)) (i + 5) (w / 65536 % 256)) (i + 6) (w / 256 % 256)) (i + 7) (w % 256)
-    ≡ put i (big_endian 8 w) l
-put_word l i w h = rw (big_endian_8 w) (put_8 l i _ _ _ _ _ _ _ _ h)
+-- a word's bytes copied to a part of a buffer
+pub put_part : (at w : ℕ) (l xs : List ℕ) → xs ≡ to_be_bytes w64 w → put_mid at (at + 8 - at) l xs ≡ put at (big_endian 8 w) l
+unfolding put
+put_part at w l xs e = let z : at + 8 - at ≡ 8 = omega arith in rw (z, big_endian_8 w, e) (rw (drop-drop 8 at l) refl)
 
 pub put_length : (at : ℕ) (xs l : List ℕ) → at + length xs ≤ length l → length (put at xs l) ≡ length l
 unfolding put
@@ -81,7 +75,7 @@ put_put at xs ys l h =
 pub put_on : (at to : ℕ) (xs ys l₀ l l' : List ℕ) → to ≡ at + length xs → to + length ys ≤ length l₀ → l ≡ put at xs l₀ → l' ≡ put to ys l → l' ≡ put at (xs ++ ys) l₀
 put_on at to xs ys l₀ l l' z h e e' = e' ∙ rw (e, z) (put_put at xs ys l₀ (omega arith))
 
--- a word, words after words, and two words
+-- a word, and words after words
 pub put_one : (at w : ℕ) (l l' : List ℕ) → l' ≡ put at (big_endian 8 w) l → l' ≡ put at (words_bytes (w ∷ [])) l
 put_one at w l l' e = rw words_bytes_one e
 
@@ -89,5 +83,9 @@ pub put_further : (at to : ℕ) (ws vs l₀ l l' : List ℕ) → to ≡ at + 8 *
 put_further at to ws vs l₀ l l' z h e e' =
     rw (words_bytes_append ws vs) (put_on at to (words_bytes ws) (words_bytes vs) l₀ l l' (omega (arith, words_bytes_length ws)) (omega (arith, words_bytes_length vs)) e e')
 
-pub put_two : (at a b : ℕ) (l l₁ l₂ : List ℕ) → at + 16 ≤ length l → l₁ ≡ put at (big_endian 8 a) l → l₂ ≡ put (at + 8) (big_endian 8 b) l₁ → l₂ ≡ put at (words_bytes (a ∷ b ∷ [])) l
-put_two at a b l l₁ l₂ h e₁ e₂ = put_further at (at + 8) (a ∷ []) (b ∷ []) l l₁ l₂ (omega arith) (omega arith) (put_one at a l l₁ e₁) (put_one (at + 8) b l₁ l₂ e₂)
+-- one word more
+pub put_more : (at k : ℕ) (words l₀ l l' : List ℕ) → k < length words → at + 8 * (k + 1) ≤ length l₀ → l ≡ put at (words_bytes (take k words)) l₀ → l' ≡ put (at + 8 * k) (big_endian 8 (get_or words k 0)) l
+    → l' ≡ put at (words_bytes (take (k + 1) words)) l₀
+put_more at k words l₀ l l' h r e e' =
+    rw (take_more words k 0 h)
+    (put_further at (at + 8 * k) (take k words) (get_or words k 0 ∷ []) l₀ l l' (omega (arith, length-take-le k words (omega arith))) (omega arith) e (put_one (at + 8 * k) (get_or words k 0) l l' e'))

@@ -14,8 +14,7 @@ use Rattle.lexing.specs.bytes.{plus, minus, within, is_digit, is_hex, list_take_
 use Rattle.lexing.specs.reply.{ok, fail, stop, Parser, catch}
 use Rattle.lexing.specs.integers.{u64_max, fitting, hex_integer, decimal_integer, positive_integer, signed, largest, in_range, after_sign, signed_integer}
 use Rattle.lexing.specs.inner.integers.{digit_test, radix, digits_are, is_hex_ahead}
-use Rattle.lexing.specs.declared.integers.Digits.{Digits}
-use Rattle.lexing.specs.declared.integers.Digits.TheVariants.{Count, Over}
+use Rattle.std.specs.Prelude.{Option, Some, None}
 use Rattle.lexing.proofs.Tests.{and_right, within_of}
 use Rattle.lexing.proofs.Scans.{drop_run, run_cons, run_none, run_le, RunAt, runs_start, runs_more, runs_stop, runs_out}
 use Rattle.lexing.proofs.TokenRuns.{digits_nil, digits_yes, digits_no, hex_nil, hex_one, hex_two, hex_yes, hex_else}
@@ -107,11 +106,11 @@ module _ (h : Bool) (v d r : ℕ) (er : r ≡ radix h) where
     without_room e = rw er (leb-false _ _ (sym et ∙ e))
 
 module _ (h : Bool) (u : List ℕ) (v i : ℕ) (a : DigitsAt h u v i) where
-  pub digits_out : length u ≤ i → digits_are h u (Count v i)
+  pub digits_out : length u ≤ i → digits_are h u (Some (v, i))
   digits_out le = (sym (at_end (digit_test h) (radix h) v u i le) ∙ a.left, (runs_out _ u i a.run le, a.fits))
 
   module _ (lt : i < length u) where
-    pub digits_stop : digit_test h (get_or u i 0) ≡ false → digits_are h u (Count v i)
+    pub digits_stop : digit_test h (get_or u i 0) ≡ false → digits_are h u (Some (v, i))
     digits_stop e = (sym (no_more (digit_test h) (radix h) v u i lt e) ∙ a.left, (runs_stop _ u i a.run lt e, a.fits))
 
     module _ (is : digit_test h (get_or u i 0) ≡ true) (r d : ℕ) (er : r ≡ radix h) (ed : d ≡ digit (get_or u i 0)) where
@@ -121,7 +120,7 @@ module _ (h : Bool) (u : List ℕ) (v i : ℕ) (a : DigitsAt h u v i) where
       pub digits_more : v * r + d ≤ u64_max → DigitsAt h u (v * r + d) (i + 1)
       digits_more le = record { fits = le; run = runs_more _ u i a.run lt is; left = next }
 
-      pub digits_over : u64_max < v * r + d → digits_are h u Over
+      pub digits_over : u64_max < v * r + d → digits_are h u None
       digits_over gt = omega (arith, rw next at (number_grows (radix h) (v * r + d) (list_take_while (digit_test h) (drop (i + 1) u)) (radix_pos h)))
 
 -- the front of a hexadecimal number
@@ -180,28 +179,28 @@ integer_as false b (x ∷ u) e =
     rw z (digits_yes b x u e)
 
 -- digits that were counted
-module _ (h : Bool) (k b : ℕ) (u r : List ℕ) (er : r ≡ drop k u) (v n : ℕ) (a : digits_are h r (Count v n)) where
+module _ (h : Bool) (k b : ℕ) (u r : List ℕ) (er : r ≡ drop k u) (v n : ℕ) (a : digits_are h r (Some (v, n))) where
   run_after : drop (b + (k + n) - b) u ≡ list_drop_while (digit_test h) r
   run_after =
       let z : b + (k + n) - b ≡ k + n = omega arith in
       rw (z, ← drop-drop, ← er, a.1.0) (drop_run (digit_test h) r)
 
-module _ (h : Bool) (r : List ℕ) (d : Digits) (a : digits_are h r d) where
-  counted : {v n : ℕ} → d ≡ Count v n → digits_are h r (Count v n)
-  counted e = subst (λ (x : Digits). digits_are h r x) e a
+module _ (h : Bool) (r : List ℕ) (d : Option (ℕ × ℕ)) (a : digits_are h r d) where
+  counted : {v n : ℕ} → d ≡ Some (v, n) → digits_are h r (Some (v, n))
+  counted e = subst (λ (x : Option (ℕ × ℕ)). digits_are h r x) e a
 
-  overflows : d ≡ Over → u64_max < number (radix h) 0 (list_take_while (digit_test h) r)
-  overflows e = subst (λ (x : Digits). digits_are h r x) e a
+  overflows : d ≡ None → u64_max < number (radix h) 0 (list_take_while (digit_test h) r)
+  overflows e = subst (λ (x : Option (ℕ × ℕ)). digits_are h r x) e a
 
-  pub digits_inside : {v n : ℕ} → d ≡ Count v n → (k : ℕ) (u : List ℕ) → k ≤ length u → r ≡ drop k u → k + n ≤ length u
+  pub digits_inside : {v n : ℕ} → d ≡ Some (v, n) → (k : ℕ) (u : List ℕ) → k ≤ length u → r ≡ drop k u → k + n ≤ length u
   digits_inside {v} {n} e k u le er = omega (arith, (counted e).1.0, run_le (digit_test h) r, ap length er, length-drop k u)
 
-module _ (h : Bool) (b : ℕ) (u r : List ℕ) (ahead : Ahead h u) (er : r ≡ drop (start h) u) (d : Digits) (a : digits_are h r d) where
-  pub integer_over : d ≡ Over → stop 4 b ≡ integer h b u
+module _ (h : Bool) (b : ℕ) (u r : List ℕ) (ahead : Ahead h u) (er : r ≡ drop (start h) u) (d : Option (ℕ × ℕ)) (a : digits_are h r d) where
+  pub integer_over : d ≡ None → stop 4 b ≡ integer h b u
   unfolding fitting
   integer_over e = sym (integer_as h b u ahead ∙ rw (← er) (rw (lt-leb _ _ (overflows h r d a e), fitting)))
 
-  pub integer_value : {v n : ℕ} → d ≡ Count v n → (c : ℕ) → c ≡ b + (start h + n) → ok v c (drop (c - b) u) ≡ integer h b u
+  pub integer_value : {v n : ℕ} → d ≡ Some (v, n) → (c : ℕ) → c ≡ b + (start h + n) → ok v c (drop (c - b) u) ≡ integer h b u
   unfolding fitting
   integer_value {v} {n} e c ec =
       let l = counted h r d a e in
@@ -291,7 +290,7 @@ module _ (b : ℕ) (u : List ℕ) where
         let ahead : is_digit (get_or u 0 0) ≡ true = ap is_digit (sym ex) ∙ d in
         let z = lone_digit u ahead (ap is_digit (sym ey) ∙ n) in
         let w : v ≡ number 10 0 (list_take_while is_digit u) = ev ∙ (ap digit ex ∙ sym (ap (number 10 0) z ∙ lone_value (get_or u 0 0))) in
-        integer_value false b u u ahead refl (Count v 1) (w, (sym (ap length z), digit_fits x v d ev)) refl (b + 1) (omega arith) ∙ no_second_x (sym et ∙ e)
+        integer_value false b u u ahead refl (Some (v, 1)) (w, (sym (ap length z), digit_fits x v d ev)) refl (b + 1) (omega arith) ∙ no_second_x (sym et ∙ e)
 
 -- signed numbers
 largest_fits : (m : Bool) → largest m ≤ u64_max
@@ -321,11 +320,11 @@ module _ (m : Bool) (b : ℕ) where
     pub sign_alone : is_digit (get_or r 0 0) ≡ false → fail b ≡ after_sign m b (drop 1 u)
     sign_alone e = rw (← er) (alone r e)
 
-    module _ (some : is_digit (get_or r 0 0) ≡ true) (d : Digits) (a : digits_are false r d) where
-      pub signed_over : d ≡ Over → fail b ≡ after_sign m b (drop 1 u)
+    module _ (some : is_digit (get_or r 0 0) ≡ true) (d : Option (ℕ × ℕ)) (a : digits_are false r d) where
+      pub signed_over : d ≡ None → fail b ≡ after_sign m b (drop 1 u)
       signed_over e = rw (← er) (beyond r some (omega (arith, overflows false r d a e, largest_fits m)))
 
-      module _ {v n : ℕ} (e : d ≡ Count v n) (l : ℕ) (el : l ≡ largest m) where
+      module _ {v n : ℕ} (e : d ≡ Some (v, n)) (l : ℕ) (el : l ≡ largest m) where
         pub signed_beyond : l < v → fail b ≡ after_sign m b (drop 1 u)
         signed_beyond lt = rw (← er) (beyond r some (omega (arith, (counted false r d a e).0)))
 

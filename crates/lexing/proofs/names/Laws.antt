@@ -1,5 +1,5 @@
 -- Names and codes as steps of a sequence.
-use mathlib.Core.Path.{◌≡◌, refl, sym, ap, ◌∙◌, subst}
+use mathlib.Core.Path.{◌≡◌, refl, sym, ap, ◌∙◌}
 use mathlib.Core.List.{List}
 use Prim.Native.Nat.{ℕ, ◌-◌, ◌≤◌, ◌<◌}
 use native.Mathlib.Omega.{arith}
@@ -8,18 +8,16 @@ use Rattle.lexing.specs.reply.{Parser, ok, ◌>>◌}
 use Rattle.lexing.specs.words.{Word, parse_id}
 use Rattle.lexing.specs.integers.{positive_integer}
 use Rattle.lexing.specs.blanks.{whitespace0}
-use Rattle.lexing.specs.answers.{Rest, lost_reply, number_lost, number_reply, NameIn, NumberAt, word_at, word_between}
+use Rattle.std.specs.Prelude.{Ok, Err}
+use Rattle.lexing.specs.answers.{Rest, Read, lost_reply, number_reply, NameIn, NumberAt, word_at, word_between}
 use Rattle.lexing.specs.declared.answers.Lost.{Lost}
-use Rattle.lexing.specs.declared.integers.Number.{Number}
-use Rattle.lexing.specs.declared.integers.Number.TheVariants.{Value, NoNumber}
 use Rattle.lexing.proofs.Onward.{Onward, advances_onward, parse_id_advances, tag_advances, integer_advances}
 use Rattle.lexing.proofs.TokenLocality.{keyword_chain, whitespace0_chain, whitespace1_chain}
-use Rattle.lexing.proofs.Slicing.{Took, took, on, walks, rebase, told_value, integer_lost}
+use Rattle.lexing.proofs.Slicing.{Took, took, on, walks, rebase}
 use Rattle.lexing.specs.names.{two_keywords_name, named_after}
-use Rattle.lexing.specs.answers.names.{NamedIn, NamedTo, NamedAt, named_lost, blank_word, gap_word, keyword_name, keyword_number, type_after, equals_code}
+use Rattle.lexing.specs.answers.names.{NamedIn, NamedTo, NamedAt, word_of, blank_word, gap_word, keyword_name, keyword_number, type_after, equals_code}
 use Rattle.lexing.specs.declared.names.Named.{Named}
-use Rattle.lexing.specs.declared.names.Named.TheVariants.{Name, NoName}
-use Rattle.lexing.proofs.AnswerLaws.{read_is, read_not, read_within, read_took, read_lost}
+use Rattle.lexing.proofs.AnswerLaws.{read_is, read_not, read_took}
 use Rattle.lexing.proofs.Composed.{onward_ret, onward_bind, onward_then}
 use Rattle.lexing.proofs.WordBetween.{word_moved}
 
@@ -62,60 +60,52 @@ code_after_on = after_on equals_code_on
 pub name_more : {b n : ℕ} {u : List ℕ} {a : Word} {c : ℕ} → Took parse_id b u n a c → n < c
 name_more {b} {n} {u} {a} {c} t = (rw t.goes at (parse_id_advances.reads n (drop (n - b) u))).2
 
-module _ {m : Parser Word} {n : ℕ} {r : List ℕ} {a : Named} {x e c : ℕ} (h : NamedTo m a n r) (d : a ≡ Name x e c) where
-  pub named_in : NameIn n x e c
-  named_in = (read_within h d).0
+module _ {m : Parser Word} {n : ℕ} {r : List ℕ} {x : Named} {c : ℕ} (h : NamedTo m (Ok (x, c)) n r) where
+  pub named_in : NameIn n x.start x.end c
+  named_in = h.within.0
 
-  pub named_more : x < e
-  named_more = (read_within h d).1
+  pub named_more : x.start < x.end
+  named_more = h.within.1
 
   -- in more that was read
-  pub named_wider : {b d : ℕ} → b ≤ n → c ≤ d → NamedIn b (Name x e d)
+  pub named_wider : {b d : ℕ} → b ≤ n → c ≤ d → NamedIn b x d
   named_wider p q = (record { from = omega (arith, p, named_in.from); up = named_in.up; inside = omega (arith, q, named_in.inside) }, named_more)
 
-  pub named_took : (w : Onward m) {b : ℕ} {u : List ℕ} → Rest b u n r → Took m b u n (word_between b u x e) c
-  named_took w {b} {u} q = rw (← word_moved b n u r x e q named_in.from) (read_took h d w q refl)
+  pub named_took : (w : Onward m) {b : ℕ} {u : List ℕ} → Rest b u n r → Took m b u n (word_of b u x) c
+  named_took w {b} {u} q = rw (← word_moved b n u r x.start x.end q named_in.from) (read_took h w q)
 
 -- a number that another reader than that of integers gives
-pub number_took : {m : Parser ℕ} (w : Onward m) {b n : ℕ} {u r : List ℕ} {a : Number} {v c : ℕ} → Rest b u n r → a ≡ Value v c → number_reply a n r ≡ m n r → Took m b u n v c
-number_took w {n = n} {r = r} q e h = took w q (told_value n r _ e h)
+pub number_took : {m : Parser ℕ} (w : Onward m) {b n : ℕ} {u r : List ℕ} {v c : ℕ} → Rest b u n r → number_reply (Ok (v, c)) n r ≡ m n r → Took m b u n v c
+number_took w q h = took w q h
 
 -- a number from an offset of a part: after a step that was read, taken and lost
 module _ {b n : ℕ} {u : List ℕ} {m : Parser ℕ} where
-  pub number_after : {A : Type 0} {k : Parser A} → Onward m → (r : Number) {a : A} {c : ℕ} → Rest b u n (drop (n - b) u) → Took k b u n a c → NumberAt m r b u c → NumberAt (k >> m) r b u n
-  number_after w (Value v e) q t h =
+  pub number_after : {A : Type 0} {k : Parser A} → Onward m → (r : Read ℕ) {a : A} {c : ℕ} → Rest b u n (drop (n - b) u) → Took k b u n a c → NumberAt m r b u c → NumberAt (k >> m) r b u n
+  number_after w (Ok (v, e)) q t h =
       let s : Took m b u _ v e = took w h.at h.reads in
       record { at = q; reads = ap (λ z. ok v e z) (rebase b n e u q.from (omega (arith, t.up, s.up))) ∙ on m t (sym s.goes) }
-  number_after w (NoNumber l) q t h = record { at = q; reads = on m t h.reads }
+  number_after w (Err l) q t h = record { at = q; reads = on m t h.reads }
 
-  module _ {a : Number} (h : NumberAt m a b u n) where
-    pub number_at_took : Onward m → {v c : ℕ} → a ≡ Value v c → Took m b u n v c
-    number_at_took w e = took w h.at (told_value n _ _ e h.reads)
+  pub number_at_took : {v c : ℕ} → NumberAt m (Ok (v, c)) b u n → Onward m → Took m b u n v c
+  number_at_took h w = took w h.at h.reads
 
-    pub number_at_lost : {l l' : Lost} → l' ≡ number_lost a → a ≡ NoNumber l → lost_reply l' ≡ m n (drop (n - b) u)
-    number_at_lost e d = integer_lost e d n (drop (n - b) u) (m n (drop (n - b) u)) h.reads
-
-    -- the same answer, taken apart and put together again
-    pub number_at_is : {v c : ℕ} → a ≡ Value v c → NumberAt m (Value v c) b u n
-    number_at_is e = subst (λ (x : Number). NumberAt m x b u n) e h
-
-    pub number_at_not : {l l' : Lost} → l' ≡ number_lost a → a ≡ NoNumber l → NumberAt m (NoNumber l') b u n
-    number_at_not e d = record { at = h.at; reads = number_at_lost e d }
+  pub number_at_lost : {l : Lost} → NumberAt m (Err l) b u n → lost_reply l ≡ m n (drop (n - b) u)
+  number_at_lost h = h.reads
 
 -- a name from an offset of a part: taken, and lost
-module _ {b n : ℕ} {u : List ℕ} {m : Parser Word} {a : Named} (h : NamedAt m a b u n) where
-  pub named_at_took : {x e c : ℕ} → a ≡ Name x e c → Onward m → Took m b u n (word_between b u x e) c
-  named_at_took d w = named_took h.named d w h.at
+module _ {b n : ℕ} {u : List ℕ} {m : Parser Word} where
+  pub named_at_took : {x : Named} {c : ℕ} → NamedAt m (Ok (x, c)) b u n → Onward m → Took m b u n (word_of b u x) c
+  named_at_took h w = named_took h.named w h.at
 
-  pub named_at_lost : {l l' : Lost} → l' ≡ named_lost a → a ≡ NoName l → lost_reply l' ≡ m n (drop (n - b) u)
-  named_at_lost e d = read_lost h.named d named_lost e refl
+  pub named_at_lost : {l : Lost} → NamedAt m (Err l) b u n → lost_reply l ≡ m n (drop (n - b) u)
+  named_at_lost h = h.named.reads
 
 -- read there: a word after a step that was read
 module _ {b n : ℕ} {u : List ℕ} (q : Rest b u n (drop (n - b) u)) {A : Type 0} where
-  pub name_missed : (k : Parser A) (l : Lost) → lost_reply l ≡ (k >> parse_id) n (drop (n - b) u) → NamedAt (k >> parse_id) (NoName l) b u n
-  name_missed k l e = record { at = q; named = read_not l refl tt e }
+  pub name_missed : (k : Parser A) (l : Lost) → lost_reply l ≡ (k >> parse_id) n (drop (n - b) u) → NamedAt (k >> parse_id) (Err l) b u n
+  name_missed k l e = record { at = q; named = read_not l e }
 
-  pub name_read : {k : Parser A} {a : A} {c e : ℕ} → Took k b u n a c → Took parse_id b u c (word_at c (drop (c - b) u) e) e → NamedAt (k >> parse_id) (Name c e e) b u n
+  pub name_read : {k : Parser A} {a : A} {c e : ℕ} → Took k b u n a c → Took parse_id b u c (word_at c (drop (c - b) u) e) e → NamedAt (k >> parse_id) (Ok (record { start = c; end = e }, e)) b u n
   name_read {c = c} {e = e} t s =
       let w = ap (λ (x : Word). ok x e (drop (e - n) (drop (n - b) u))) (word_moved b n u (drop (n - b) u) c e q t.up) in
       let r = ap (λ (v : List ℕ). ok (word_between b u c e) e v) (rebase b n e u q.from (omega (arith, t.up, s.up))) in

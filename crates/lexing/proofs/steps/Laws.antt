@@ -12,32 +12,30 @@ use Rattle.lexing.specs.reply.{ok, Parser, ret, ◌>>=◌, ◌>>◌, position, f
 use Rattle.lexing.specs.words.{keyword, tag}
 use Rattle.lexing.specs.integers.{positive_integer}
 use Rattle.lexing.specs.blanks.{Doc, no_doc, whitespace0, whitespace1}
-use Rattle.lexing.specs.answers.{Rest, BlankTo, doc_of, doc_by, RunTo, lost_of, lost_reply, number_answer, number_lost, number_reply, tag_reply, word_reply, Skips, SkipsAt, BlankAt, NumberAt, Fail}
+use Rattle.lexing.specs.answers.{Rest, BlankTo, doc_of, lost_reply, number_reply, read_answer, tag_reply, word_reply, Skips, SkipsAt, BlankAt, NumberAt}
 use Rattle.lexing.specs.declared.answers.Lost.{Lost}
-use Rattle.lexing.specs.declared.answers.Step.{Step}
-use Rattle.lexing.specs.declared.answers.Step.TheVariants.{Next, Not}
+use Rattle.std.specs.Prelude.{Ok, Err, None}
+use Rattle.lexing.specs.answers.{Step, Read}
+use Rattle.lexing.specs.declared.answers.Lost.TheVariants.{Fail}
 use Rattle.lexing.specs.declared.blanks.Blank.{Blank}
-use Rattle.lexing.specs.declared.blanks.Run.{Run}
-use Rattle.lexing.specs.declared.blanks.DocSpan.TheVariants.{Absent}
-use Rattle.lexing.specs.declared.integers.Number.{Number}
-use Rattle.lexing.specs.declared.integers.Number.TheVariants.{Value, NoNumber}
+use Rattle.std.specs.Prelude.{None}
 use Rattle.lexing.proofs.Onward.{Onward, advances_onward, tag_advances, integer_advances}
-use Rattle.lexing.proofs.Slicing.{Took, took, walks, rebase, rest_from, rest_self, told_value, integer_lost}
+use Rattle.lexing.proofs.Slicing.{Took, took, walks, rebase, rest_from, rest_self}
 use Rattle.lexing.proofs.FirstWord.{blank_clear}
 use Rattle.lexing.proofs.TokenLocality.{keyword_chain, whitespace0_chain, whitespace1_chain}
 use Rattle.lexing.proofs.Dropping.{following, skip_after, tag_skips, keyword_skips}
 use Rattle.lexing.proofs.blanks.Laws.{blanks_none, blanks_one}
 use Rattle.lexing.proofs.Composed.{onward_then}
-use Rattle.lexing.proofs.answers.Laws.{skip_took, skip_lost}
+use Rattle.lexing.proofs.answers.Laws.{skip_took}
 
 blank_on : Onward whitespace0
 blank_on = walks whitespace0_chain
 
-pub blank_bounds : {n b : ℕ} {u : List ℕ} → Skips whitespace0 (Next n) b u → (b ≤ n) × (n ≤ b + length u)
-blank_bounds {n} {b} {u} h = let t = skip_took blank_on (rest_self b u) refl h in (t.up, t.inside)
+pub blank_bounds : {n b : ℕ} {u : List ℕ} → Skips whitespace0 (Ok n) b u → (b ≤ n) × (n ≤ b + length u)
+blank_bounds {n} {b} {u} h = let t = skip_took blank_on (rest_self b u) h in (t.up, t.inside)
 
 -- a run of blanks, for its offset
-pub blank_skips : {t : Blank} {b : ℕ} {u : List ℕ} → BlankTo t b u → Skips whitespace0 (Next t.next) b u
+pub blank_skips : {t : Blank} {b : ℕ} {u : List ℕ} → BlankTo t b u → Skips whitespace0 (Ok t.next) b u
 blank_skips {t} h = record { value = doc_of t.doc; reads = h.reads }
 
 module _ {b c : ℕ} {u r : List ℕ} (q : Rest b u c r) where
@@ -50,25 +48,22 @@ module _ {b c : ℕ} {u r : List ℕ} (q : Rest b u c r) where
   pub blank_is : {t : Blank} → BlankTo t c r → BlankAt t.next b u c
   blank_is h = skips_at (blank_skips h)
 
-  pub run_is : {t : Run} → RunTo t c r → BlankAt t.next b u c
-  run_is {t} h = skips_at (record { value = doc_by t.doc t.size; reads = h.reads })
-
-  module _ {n : ℕ} (h : Skips whitespace0 (Next n) c r) where
-    pub gap_is : (n ≡ c → ⊥) → SkipsAt whitespace1 (Next n) b u c
+  module _ {n : ℕ} (h : Skips whitespace0 (Ok n) c r) where
+    pub gap_is : (n ≡ c → ⊥) → SkipsAt whitespace1 (Ok n) b u c
     unfolding whitespace1 ◌>>=◌ position pick ret
     gap_is e = skips_at (record { value = h.value; reads = rw (sym h.reads, whitespace1, ◌>>=◌) (rw (ne_eqb c n (λ z. e (sym z)), pick)) })
 
-    pub gap_not : n ≡ c → SkipsAt whitespace1 (Not (Fail c)) b u c
+    pub gap_not : n ≡ c → SkipsAt whitespace1 (Err (Fail c)) b u c
     unfolding whitespace1 ◌>>=◌ position pick fail_at
     gap_not e = skips_at (record { value = no_doc; reads = rw (sym h.reads, whitespace1, ◌>>=◌) (rw (eq-eqb c n (sym e), pick)) })
 
   -- a token after blanks
-  module _ {n : ℕ} (h : Skips whitespace0 (Next n) c r) {v : List ℕ} (z : Rest b u n v) where
+  module _ {n : ℕ} (h : Skips whitespace0 (Ok n) c r) {v : List ℕ} (z : Rest b u n v) where
     p : Rest c r n v
     p = let k = blank_bounds h in record { from = k.0; same = z.same ∙ (sym (rebase b c n u q.from k.0) ∙ ap (drop (n - c)) (sym q.same)); size = z.size ∙ sym q.size }
 
     blanks : Took whitespace0 c r c h.value n
-    blanks = skip_took blank_on (rest_self c r) refl h
+    blanks = skip_took blank_on (rest_self c r) h
 
     pub tag_after_is : (k : ℕ) (a : Step) → tag_reply a n v ≡ tag k n v → SkipsAt (whitespace0 >> tag k) a b u c
     tag_after_is k a e = skips_at (skip_after (advances_onward (tag_advances k)) p blanks (tag_skips k a e))
@@ -76,9 +71,9 @@ module _ {b c : ℕ} {u r : List ℕ} (q : Rest b u c r) where
     pub keyword_after_is : (k : List ℕ) (a : Step) → word_reply a n v ≡ keyword k n v → SkipsAt (whitespace0 >> keyword k) a b u c
     keyword_after_is k a e = skips_at (skip_after (walks (keyword_chain k)) p blanks (keyword_skips k a e))
 
-    pub integer_after_is : (a : Number) → number_reply a n v ≡ positive_integer n v → NumberAt (whitespace0 >> positive_integer) a b u c
+    pub integer_after_is : (a : Read ℕ) → number_reply a n v ≡ positive_integer n v → NumberAt (whitespace0 >> positive_integer) a b u c
     integer_after_is a e =
-        let x = following (advances_onward integer_advances) (number_answer a) p blanks e in
+        let x = following (advances_onward integer_advances) (read_answer (λ v. v) a) p blanks e in
         record { at = rest_here; reads = subst (λ w. number_reply a c w ≡ (whitespace0 >> positive_integer) c w) q.same x }
 
 -- blanks that the bytes at an offset tell
@@ -96,7 +91,7 @@ module _ (b c : ℕ) (u : List ℕ) (at : (b ≤ c) × (c ≤ b + length u)) {x 
   blank_none h = blank_is rest (blanks_none c (drop (c - b) u) x first h)
 
   module _ {y : ℕ} (q : y ≡ get_or u (c - b + 1) 0) (h : x ≡ space) (k : slash < y) where
-    single : BlankTo (record { next = c + 1; doc = Absent }) c (drop (c - b) u)
+    single : BlankTo (record { next = c + 1; doc = None }) c (drop (c - b) u)
     single = blanks_one c (drop (c - b) u) x y first (q ∙ ahead 1) h k
 
     pub blank_one : BlankAt (c + 1) b u c
@@ -112,23 +107,22 @@ rest_clear {b} {n} {c} {u} {v} {d} t q = subst (λ (x : List ℕ). whitespace0 c
 -- as steps of a sequence
 module _ {b n : ℕ} {u : List ℕ} where
   pub blank_at_took : {c : ℕ} (h : BlankAt c b u n) → Took whitespace0 b u n h.skips.value c
-  blank_at_took h = skip_took blank_on h.at refl h.skips
+  blank_at_took h = skip_took blank_on h.at h.skips
 
-  pub gap_at_took : {a : Step} {c : ℕ} → a ≡ Next c → (h : SkipsAt whitespace1 a b u n) → Took whitespace1 b u n h.skips.value c
-  gap_at_took e h = skip_took (walks whitespace1_chain) h.at e h.skips
+  pub gap_at_took : {c : ℕ} → (h : SkipsAt whitespace1 (Ok c) b u n) → Took whitespace1 b u n h.skips.value c
+  gap_at_took h = skip_took (walks whitespace1_chain) h.at h.skips
 
-  pub tag_after_took : (t : ℕ) {a : Step} {c : ℕ} → a ≡ Next c → (h : SkipsAt (whitespace0 >> tag t) a b u n) → Took (whitespace0 >> tag t) b u n h.skips.value c
-  tag_after_took t e h = skip_took (onward_then blank_on (advances_onward (tag_advances t))) h.at e h.skips
+  pub tag_after_took : (t : ℕ) {c : ℕ} → (h : SkipsAt (whitespace0 >> tag t) (Ok c) b u n) → Took (whitespace0 >> tag t) b u n h.skips.value c
+  tag_after_took t h = skip_took (onward_then blank_on (advances_onward (tag_advances t))) h.at h.skips
 
-  pub keyword_after_took : (k : List ℕ) {a : Step} {c : ℕ} → a ≡ Next c → (h : SkipsAt (whitespace0 >> keyword k) a b u n) → Took (whitespace0 >> keyword k) b u n h.skips.value c
-  keyword_after_took k e h = skip_took (onward_then blank_on (walks (keyword_chain k))) h.at e h.skips
+  pub keyword_after_took : (k : List ℕ) {c : ℕ} → (h : SkipsAt (whitespace0 >> keyword k) (Ok c) b u n) → Took (whitespace0 >> keyword k) b u n h.skips.value c
+  keyword_after_took k h = skip_took (onward_then blank_on (walks (keyword_chain k))) h.at h.skips
 
-  pub skips_lost : {A : Type 0} {m : Parser A} {a : Step} {l l' : Lost} → l' ≡ lost_of a → a ≡ Not l → SkipsAt m a b u n → lost_reply l' ≡ m n (drop (n - b) u)
-  skips_lost e d h = skip_lost e d n (drop (n - b) u) h.skips
+  pub skips_lost : {A : Type 0} {m : Parser A} {l : Lost} → SkipsAt m (Err l) b u n → lost_reply l ≡ m n (drop (n - b) u)
+  skips_lost h = h.skips.reads
 
-  module _ {a : Number} (h : NumberAt (whitespace0 >> positive_integer) a b u n) where
-    pub integer_after_took : {v c : ℕ} → a ≡ Value v c → Took (whitespace0 >> positive_integer) b u n v c
-    integer_after_took e = took (onward_then blank_on (advances_onward integer_advances)) h.at (told_value n _ _ e h.reads)
+  pub integer_after_took : {v c : ℕ} → NumberAt (whitespace0 >> positive_integer) (Ok (v, c)) b u n → Took (whitespace0 >> positive_integer) b u n v c
+  integer_after_took h = took (onward_then blank_on (advances_onward integer_advances)) h.at h.reads
 
-    pub integer_after_lost : {l l' : Lost} → l' ≡ number_lost a → a ≡ NoNumber l → lost_reply l' ≡ (whitespace0 >> positive_integer) n (drop (n - b) u)
-    integer_after_lost e d = integer_lost e d n (drop (n - b) u) ((whitespace0 >> positive_integer) n (drop (n - b) u)) h.reads
+  pub integer_after_lost : {l : Lost} → NumberAt (whitespace0 >> positive_integer) (Err l) b u n → lost_reply l ≡ (whitespace0 >> positive_integer) n (drop (n - b) u)
+  integer_after_lost h = h.reads

@@ -2,7 +2,6 @@
 use Prim.Native.Nat.{ℕ, suc, ◌+◌, ◌-◌, ◌<◌, ◌≤◌}
 use mathlib.Core.Path.{◌≡◌, refl, sym, ◌∙◌, ap}
 use mathlib.Core.Bool.{Bool, true, false}
-use mathlib.Core.Option.{Option, none, some}
 use mathlib.Core.List.{List, [], ◌∷◌, ◌++◌, append_assoc, append-nil}
 use native.Mathlib.Omega.{arith}
 use native.Mathlib.Numerals.{add-one}
@@ -13,16 +12,11 @@ use lib.Seq.{drop-cons, set_at}
 use Rattle.lexing.specs.bytes.{quote, backslash}
 use Rattle.lexing.specs.unescaping.{lookup, escaped, Unescaped, gives, fault_at, first, unescape_from, escape_from, unescape, into, outcome}
 use Rattle.lexing.specs.outcomes.{fitted, Outcome, refused, written, returned, afterwards}
-use Rattle.lexing.specs.inner.unescaping.{size_of, meant, PieceAt}
-use Rattle.lexing.specs.declared.unescaping.Size.{Size}
-use Rattle.lexing.specs.declared.unescaping.Size.TheVariants.{Needs, Faulty}
-use Rattle.lexing.specs.declared.unescaping.Meaning.{Meaning}
-use Rattle.lexing.specs.declared.unescaping.Meaning.TheVariants.{Byte, Nothing}
-use Rattle.lexing.specs.declared.unescaping.Piece.{Piece}
-use Rattle.lexing.specs.declared.unescaping.Piece.TheVariants.{Makes, Wrong}
+use Rattle.lexing.specs.inner.unescaping.{size_of, PieceAt}
+use Rattle.std.specs.Prelude.{Option, Some, None, Ok, Err}
 
 -- a table: its first line, the lines after it, its end
-pub found : (y k z : ℕ) (l : List (ℕ × ℕ)) → y ≡ k → some z ≡ lookup y ((k, z) ∷ l)
+pub found : (y k z : ℕ) (l : List (ℕ × ℕ)) → y ≡ k → Some z ≡ lookup y ((k, z) ∷ l)
 unfolding lookup
 found y k z l e = rw (eq-eqb y k e, lookup)
 
@@ -30,7 +24,7 @@ pub missed : (y k z : ℕ) (l : List (ℕ × ℕ)) {o : Option ℕ} → (y ≡ k
 unfolding lookup
 missed y k z l n e = rw (ne_eqb y k n, lookup) e
 
-pub missing : (y : ℕ) → none ≡ lookup y []
+pub missing : (y : ℕ) → None ≡ lookup y []
 unfolding lookup
 missing y = refl
 
@@ -49,11 +43,11 @@ module _ (b x : ℕ) (u : List ℕ) where
   starts q s = rw (ne_eqb x quote q, eq-eqb x backslash s, unescape_from)
 
 -- the byte after a backslash: no escape, or an escape
-bad : (b y : ℕ) (u : List ℕ) → escaped y ≡ none → escape_from b (y ∷ u) ≡ fault_at b
+bad : (b y : ℕ) (u : List ℕ) → escaped y ≡ None → escape_from b (y ∷ u) ≡ fault_at b
 unfolding unescape_from
 bad b y u e = rw (e, escape_from)
 
-good : (b y z : ℕ) (u : List ℕ) → escaped y ≡ some z → escape_from b (y ∷ u) ≡ first z (unescape_from (b + 2) u)
+good : (b y z : ℕ) (u : List ℕ) → escaped y ≡ Some z → escape_from b (y ∷ u) ≡ first z (unescape_from (b + 2) u)
 unfolding unescape_from
 good b y z u e = rw (e, escape_from)
 
@@ -66,35 +60,35 @@ module _ (u : List ℕ) (b : ℕ) (h : b < length u) where
   out_is : {o : Unescaped} → unescape_from b (get_or u b 0 ∷ drop (b + 1) u) ≡ o → unescape_from b (drop b u) ≡ o
   out_is e = ap (unescape_from b) (at_byte u b h) ∙ e
 
-  wrong : unescape_from b (get_or u b 0 ∷ drop (b + 1) u) ≡ fault_at b → PieceAt u b Wrong
+  wrong : unescape_from b (get_or u b 0 ∷ drop (b + 1) u) ≡ fault_at b → PieceAt u b None
   wrong e = record { out = out_is e; onward = omega arith; inside = omega arith }
 
-  pub piece_bare : get_or u b 0 ≡ quote → PieceAt u b Wrong
+  pub piece_bare : get_or u b 0 ≡ quote → PieceAt u b None
   piece_bare e = wrong (bare b (get_or u b 0) (drop (b + 1) u) e)
 
   module _ (q : get_or u b 0 ≡ quote → ⊥) where
-    pub piece_passes : (get_or u b 0 ≡ backslash → ⊥) → PieceAt u b (Makes (get_or u b 0) (b + 1))
+    pub piece_passes : (get_or u b 0 ≡ backslash → ⊥) → PieceAt u b (Some (get_or u b 0, b + 1))
     piece_passes s = record { out = out_is (passes b (get_or u b 0) (drop (b + 1) u) q s); onward = omega arith; inside = omega arith }
 
     module _ (s : get_or u b 0 ≡ backslash) where
       starts_at : unescape_from b (get_or u b 0 ∷ drop (b + 1) u) ≡ escape_from b (drop (b + 1) u)
       starts_at = starts b (get_or u b 0) (drop (b + 1) u) q s
 
-      pub piece_lone : length u ≤ b + 1 → PieceAt u b Wrong
+      pub piece_lone : length u ≤ b + 1 → PieceAt u b None
       unfolding unescape_from
       piece_lone l = wrong (starts_at ∙ ap (escape_from b) (drop_of_length-le u l))
 
-      module _ (l : b + 1 < length u) (m : Meaning) (e : meant m ≡ escaped (get_or u (b + 1) 0)) where
+      module _ (l : b + 1 < length u) where
         -- the byte after the backslash, and the rest
         second : {o : Unescaped} → escape_from b (get_or u (b + 1) 0 ∷ drop (b + 1 + 1) u) ≡ o → unescape_from b (get_or u b 0 ∷ drop (b + 1) u) ≡ o
         second q = starts_at ∙ ap (escape_from b) (at_byte u (b + 1) l) ∙ q
 
-        pub piece_bad : m ≡ Nothing → PieceAt u b Wrong
-        piece_bad n = wrong (second (bad b (get_or u (b + 1) 0) (drop (b + 1 + 1) u) (sym e ∙ ap meant n)))
+        pub piece_bad : None ≡ escaped (get_or u (b + 1) 0) → PieceAt u b None
+        piece_bad e = wrong (second (bad b (get_or u (b + 1) 0) (drop (b + 1 + 1) u) (sym e)))
 
-        pub piece_good : (z : ℕ) → m ≡ Byte z → PieceAt u b (Makes z (b + 1 + 1))
-        piece_good z n =
-            let g = good b (get_or u (b + 1) 0) z (drop (b + 1 + 1) u) (sym e ∙ ap meant n) in
+        pub piece_good : (z : ℕ) → Some z ≡ escaped (get_or u (b + 1) 0) → PieceAt u b (Some (z, b + 1 + 1))
+        piece_good z e =
+            let g = good b (get_or u (b + 1) 0) z (drop (b + 1 + 1) u) (sym e) in
             let w : b + 2 ≡ b + 1 + 1 = omega arith in
             record {
               out = out_is (second (g ∙ ap (λ (i : ℕ). first z (unescape_from i (drop (b + 1 + 1) u))) w));
@@ -103,9 +97,8 @@ module _ (u : List ℕ) (b : ℕ) (h : b < length u) where
             }
 
 -- a piece takes a byte or more of the part
-pub piece_less : {u : List ℕ} {b : ℕ} (p : Piece) (z n : ℕ) → PieceAt u b p → p ≡ Makes z n → length u - n < length u - b
-piece_less (Makes y m) z n a e = let w : m ≡ n = cc in omega (arith, a.onward, a.inside)
-piece_less Wrong z n a e = absurd (let w : ◌≡◌ {A = ℕ} 0 1 = cc in omega arith)
+pub piece_less : {u : List ℕ} {b z n : ℕ} → PieceAt u b (Some (z, n)) → length u - n < length u - b
+piece_less a = omega (arith, a.onward, a.inside)
 
 -- the bytes l, then what comes out after them
 unfoldable pub before : List ℕ → Unescaped → Unescaped
@@ -133,21 +126,17 @@ unfolding unescape
 seen_start u = record { inside = omega arith; few = omega arith; left = before_nothing (unescape_from 0 u) }
 
 module _ {u : List ℕ} {i : ℕ} {l : List ℕ} (s : Seen u i l) where
-  seen_more : (p : Piece) (z n : ℕ) → PieceAt u i p → p ≡ Makes z n → Seen u n (l ++ (z ∷ []))
-  seen_more (Makes y m) z n a e =
-      let ez : y ≡ z = cc in
-      let en : m ≡ n = cc in
+  seen_more : {z n : ℕ} → PieceAt u i (Some (z, n)) → Seen u n (l ++ (z ∷ []))
+  seen_more {z} {n} a =
       record {
-        inside = omega (arith, a.inside);
+        inside = a.inside;
         few = omega (arith, a.onward, s.few, length-append l (z ∷ []));
-        left = s.left ∙ ap (before l) a.out ∙ rw (ez, en) (before_first l z (unescape_from n (drop n u)));
+        left = s.left ∙ ap (before l) a.out ∙ before_first l z (unescape_from n (drop n u));
       }
-  seen_more Wrong z n a e = absurd (let w : ◌≡◌ {A = ℕ} 0 1 = cc in omega arith)
 
-  seen_fault : (p : Piece) → PieceAt u i p → p ≡ Wrong → unescape u ≡ fault_at i
+  seen_fault : PieceAt u i None → unescape u ≡ fault_at i
   unfolding before
-  seen_fault (Makes y m) a e = absurd (let w : ◌≡◌ {A = ℕ} 0 1 = cc in omega arith)
-  seen_fault Wrong a e = s.left ∙ ap (before l) a.out
+  seen_fault a = s.left ∙ ap (before l) a.out
 
   seen_end : length u ≤ i → unescape u ≡ gives l
   unfolding before unescape_from
@@ -163,21 +152,16 @@ pub counting_start : (u : List ℕ) → Counting u 0 0
 counting_start u = record { so_far = []; seen = seen_start u; count = refl }
 
 module _ {u : List ℕ} {i n : ℕ} (c : Counting u i n) where
-  pub counting_more : (p : Piece) (z j : ℕ) → PieceAt u i p → p ≡ Makes z j → Counting u j (n + 1)
-  counting_more p z j a e =
-      record {
-        so_far = c.so_far ++ (z ∷ []);
-        seen = seen_more c.seen p z j a e;
-        count = omega (arith, c.count, length-append c.so_far (z ∷ []));
-      }
+  pub counting_more : {z j : ℕ} → PieceAt u i (Some (z, j)) → Counting u j (n + 1)
+  counting_more {z} a = record { so_far = c.so_far ++ (z ∷ []); seen = seen_more c.seen a; count = omega (arith, c.count, length-append c.so_far (z ∷ [])) }
 
-  pub counting_fault : (p : Piece) → PieceAt u i p → p ≡ Wrong → Faulty i ≡ size_of (unescape u)
+  pub counting_fault : PieceAt u i None → Err i ≡ size_of (unescape u)
   unfolding size_of
-  counting_fault p a e = sym (ap size_of (seen_fault c.seen p a e))
+  counting_fault a = sym (ap size_of (seen_fault c.seen a))
 
-  pub counting_end : length u ≤ i → Needs n ≡ size_of (unescape u)
+  pub counting_end : length u ≤ i → Ok n ≡ size_of (unescape u)
   unfolding size_of
-  counting_end h = ap Needs c.count ∙ sym (ap size_of (seen_end c.seen h))
+  counting_end h = ap Ok c.count ∙ sym (ap size_of (seen_end c.seen h))
 
 -- nothing is refused: the bytes come out, and m bytes of output hold them
 pub record Accepted (m : ℕ) (x : Unescaped) : Type 0 where
@@ -242,41 +226,40 @@ module _ (u out₀ : List ℕ) (a : (returned (outcome u (length out₀))).0 ≡
         let e : outcome u (length out₀) ≡ written l = ap (into (length out₀)) (seen_end s h) ∙ accepted_into (length out₀) l (seen_fits s) in
         w.holds ∙ sym (ap (λ (o : Outcome). afterwards o out₀) e)
 
-    module _ (p : Piece) (t : PieceAt u i p) where
-      pub writing_fault : p ≡ Wrong → ⊥
-      writing_fault e =
-          let f = seen_fault w.counting.seen p t e in
-          let o = all_fits.out in
-          let z : ◌≡◌ {A = ℕ} 0 1 = cc in
-          omega arith
+    pub writing_fault : PieceAt u i None → ⊥
+    writing_fault t =
+        let f = seen_fault w.counting.seen t in
+        let o = all_fits.out in
+        let z : ◌≡◌ {A = ℕ} 0 1 = cc in
+        omega arith
 
-      module _ (z j : ℕ) (e : p ≡ Makes z j) where
-        next_fits : length w.counting.so_far < length out₀
-        next_fits = omega (arith, seen_fits (seen_more w.counting.seen p z j t e), length-append w.counting.so_far (z ∷ []))
+    module _ {z j : ℕ} (t : PieceAt u i (Some (z, j))) where
+      next_fits : length w.counting.so_far < length out₀
+      next_fits = omega (arith, seen_fits (seen_more w.counting.seen t), length-append w.counting.so_far (z ∷ []))
 
-        pub writing_fits : n < length out
-        writing_fits = omega (arith, next_fits, w.counting.count, writing_same)
+      pub writing_fits : n < length out
+      writing_fits = omega (arith, next_fits, w.counting.count, writing_same)
 
-        pub writing_more : Writing u out₀ j (set out n z) (n + 1)
-        unfolding counting_more
-        writing_more =
-            record {
-              counting = counting_more w.counting p z j t e;
-              holds = ap (λ (o : List ℕ). set o n z) w.holds ∙ set_next w.counting.so_far out₀ n z w.counting.count next_fits;
-            }
+      pub writing_more : Writing u out₀ j (set out n z) (n + 1)
+      unfolding counting_more
+      writing_more =
+          record {
+            counting = counting_more w.counting t;
+            holds = ap (λ (o : List ℕ). set o n z) w.holds ∙ set_next w.counting.so_far out₀ n z w.counting.count next_fits;
+          }
 
 -- the outcome, by what the first pass counts
-into_fault : (m k : ℕ) (x : Unescaped) → Faulty k ≡ size_of x → into m x ≡ refused 9 k
+into_fault : (m k : ℕ) (x : Unescaped) → Err k ≡ size_of x → into m x ≡ refused 9 k
 unfolding size_of into fitted
 into_fault m k (fault_at j) e = let z : k ≡ j = cc in rw z
 into_fault m k (gives l) e = absurd (let z : ◌≡◌ {A = ℕ} 0 1 = cc in omega arith)
 
-into_short : (m n : ℕ) (x : Unescaped) → Needs n ≡ size_of x → m < n → into m x ≡ refused 10 n
+into_short : (m n : ℕ) (x : Unescaped) → Ok n ≡ size_of x → m < n → into m x ≡ refused 10 n
 unfolding size_of into fitted
 into_short m n (fault_at j) e h = absurd (let z : ◌≡◌ {A = ℕ} 0 1 = cc in omega arith)
 into_short m n (gives l) e h = let z : n ≡ length l = cc in rw (lt-leb (length l) m (omega arith), fitted, z)
 
-into_fits : (m n : ℕ) (x : Unescaped) → Needs n ≡ size_of x → n ≤ m → returned (into m x) ≡ (0, n)
+into_fits : (m n : ℕ) (x : Unescaped) → Ok n ≡ size_of x → n ≤ m → returned (into m x) ≡ (0, n)
 unfolding size_of into fitted returned
 into_fits m n (fault_at j) e h = absurd (let z : ◌≡◌ {A = ℕ} 0 1 = cc in omega arith)
 into_fits m n (gives l) e h = let z : n ≡ length l = cc in rw (accepted_into m l (omega arith), returned, z)
@@ -285,24 +268,24 @@ into_fits m n (gives l) e h = let z : n ≡ length l = cc in rw (accepted_into m
 abbrev pub Ends : List ℕ → List ℕ → ℕ × ℕ → List ℕ → Type 0
 Ends u out r left = (r ≡ returned (outcome u (length out))) × (left ≡ afterwards (outcome u (length out)) out)
 
-module _ (u out : List ℕ) (s : Size) (e : s ≡ size_of (unescape u)) where
+module _ (u out : List ℕ) where
   ends_refused : (k v : ℕ) → outcome u (length out) ≡ refused k v → Ends u out (k, v) out
   unfolding returned afterwards
   ends_refused k v o = (sym (ap returned o), sym (ap (λ (x : Outcome). afterwards x out) o))
 
-  pub ends_fault : (k : ℕ) → s ≡ Faulty k → Ends u out (9, k) out
+  pub ends_fault : (k : ℕ) → Err k ≡ size_of (unescape u) → Ends u out (9, k) out
   unfolding outcome
-  ends_fault k f = ends_refused 9 k (into_fault (length out) k (unescape u) (sym f ∙ e))
+  ends_fault k e = ends_refused 9 k (into_fault (length out) k (unescape u) e)
 
-  module _ (n : ℕ) (f : s ≡ Needs n) where
+  module _ (n : ℕ) (e : Ok n ≡ size_of (unescape u)) where
     pub ends_short : length out < n → Ends u out (10, n) out
     unfolding outcome
-    ends_short h = ends_refused 10 n (into_short (length out) n (unescape u) (sym f ∙ e) h)
+    ends_short h = ends_refused 10 n (into_short (length out) n (unescape u) e h)
 
     module _ (h : n ≤ length out) where
       all_written : returned (outcome u (length out)) ≡ (0, n)
       unfolding outcome
-      all_written = into_fits (length out) n (unescape u) (sym f ∙ e) h
+      all_written = into_fits (length out) n (unescape u) e h
 
       pub may_write : (returned (outcome u (length out))).0 ≡ 0
       may_write = ap (λ (r : ℕ × ℕ). r.0) all_written
@@ -340,8 +323,8 @@ escape_bounded : (b y : ℕ) (u : List ℕ) → Bounded (b + 2) (length u) (unes
 escape_bounded b y u p = go (escaped y) refl
   where
     go : (o : Option ℕ) → escaped y ≡ o → Bounded b (suc (suc (length u))) (escape_from b (y ∷ u))
-    go none q = rw (bad b y u q) (fault_bounded b (suc (length u)))
-    go (some z) q = rw (good b y z u q) (first_bounded b 2 (length u) (suc (suc (length u))) z (unescape_from (b + 2) u) (omega arith) (omega arith) p)
+    go None q = rw (bad b y u q) (fault_bounded b (suc (length u)))
+    go (Some z) q = rw (good b y z u q) (first_bounded b 2 (length u) (suc (suc (length u))) z (unescape_from (b + 2) u) (omega arith) (omega arith) p)
 
 mutual
   unfolding Bounded unescape_from
@@ -354,7 +337,7 @@ mutual
   after_bounded [] b = fault_bounded b 0
   after_bounded (y ∷ u) b = escape_bounded b y u (from_bounded u (b + 2))
 
--- What a caller may count on, which no proof here needs: what comes out is never longer than the part
+-- what comes out is never longer than the part
 pub never_longer : (u l : List ℕ) → unescape u ≡ gives l → length l ≤ length u
 unfolding Bounded unescape
 never_longer u l e = rw e at (from_bounded u 0)

@@ -1,23 +1,24 @@
 -- Laws of well-formed UTF-8: texts one after the other, moved offsets, where a fault can be; then the laws of the sequences that the code reads.
 use mathlib.Core.Path.{◌≡◌, refl, sym, ap, ◌∙◌}
 use mathlib.Core.Bool.{Bool, true, false, ◌&&◌, false≢true}
-use mathlib.Core.Option.{Option, none, some}
+use Rattle.std.specs.Prelude.{Option, None, Some}
 use mathlib.Core.List.{List, [], ◌∷◌, ◌++◌}
 use mathlib.Core.Logic.{◌⊎◌, inl, inr, ⊎_elim}
 use Prim.Native.Nat.{ℕ, zero, suc, ◌+◌, ◌-◌, ◌/◌, ◌≤◌, ◌<◌}
 use native.Mathlib.Omega.{arith}
-use native.Mathlib.Numerals.{add-one}
 use lib.Count.{count_trailing_zeros, trailing_le}
 use lib.Bits.{bit_or, and_le_l, and_le_r, or_add_and}
-use lib.ListN.{length, take, drop, get_or, replicate, length-drop, length-replicate, drop_of_length-le}
+use lib.ListN.{length, take, drop, get_or, replicate, length-drop, length-take, length-replicate, drop_of_length-le}
 use lib.Seq.{drop-cons, drop-drop, take_all}
 use borrow.Author.Count.{below_none, below_more}
-use borrow.Author.Tests.{le-leb, lt-leb, lt-ltb, ltb-true}
+use borrow.Author.Tests.{le-leb, lt-ltb, ltb-true}
 use Rattle.lexing.specs.bytes.{within}
 use Rattle.lexing.specs.utf8.{Range, ◌to◌, has, Row, row, table, following, State, between, inside, ill, awaiting, begun, step, run, fault, utf8_error}
 use Rattle.lexing.specs.inner.utf8.{fits, size_of, sequence_size, later, Bounds, AsciiAt}
 use Rattle.lexing.specs.inner.eights.{pack, bytes_from, failing, is_ascii}
-use Rattle.lexing.proofs.Scans.{both_runs}
+use Rattle.std.proofs.lemmas.List.{get_or-take, get_or-drop}
+use Rattle.std.proofs.lemmas.Option.{none-some, same_Some}
+use Rattle.lexing.proofs.Tests.{within_of}
 use Rattle.lexing.proofs.eights.Laws.{Bytes, no_bits, passing, some_passing}
 
 -- texts one after the other
@@ -26,21 +27,21 @@ unfolding run
 run_append b t [] s = let z : b + 0 ≡ b = omega arith in rw z
 run_append b t (x ∷ u) s = let z : suc b + length u ≡ b + suc (length u) = omega arith in (rw z at (run_append (suc b) (step b t x) u s))
 
-between_of : (t : State) → fault t ≡ none → t ≡ between
+between_of : (t : State) → fault t ≡ None → t ≡ between
 unfolding fault
 between_of between e = refl
 between_of (inside r rs a) e = let z : ◌≡◌ {A = ℕ} 0 1 = cc in absurd (omega arith)
 between_of (ill a) e = let z : ◌≡◌ {A = ℕ} 0 1 = cc in absurd (omega arith)
 
-pub utf8_append : (b : ℕ) (u s : List ℕ) → utf8_error b u ≡ none → utf8_error b (u ++ s) ≡ utf8_error (b + length u) s
+pub utf8_append : (b : ℕ) (u s : List ℕ) → utf8_error b u ≡ None → utf8_error b (u ++ s) ≡ utf8_error (b + length u) s
 unfolding utf8_error
 utf8_append b u s e =
     ap fault (run_append b between u s ∙ ap (λ t. run (b + length u) t s) (between_of (run b between u) e))
 
 -- moved offsets
 unfoldable pub shift_place : ℕ → Option ℕ → Option ℕ
-shift_place d none = none
-shift_place d (some p) = some (d + p)
+shift_place d None = None
+shift_place d (Some p) = Some (d + p)
 
 unfoldable shifted : ℕ → State → State
 shifted d between = between
@@ -54,8 +55,8 @@ awaiting_shift d a (r ∷ rs) = refl
 
 begun_shift : (d a : ℕ) (o : Option (List Range)) → begun o (d + a) ≡ shifted d (begun o a)
 unfolding begun shifted
-begun_shift d a none = refl
-begun_shift d a (some rs) = awaiting_shift d a rs
+begun_shift d a None = refl
+begun_shift d a (Some rs) = awaiting_shift d a rs
 
 step_shift : (d b : ℕ) (t : State) (x : ℕ) → step (d + b) (shifted d t) x ≡ shifted d (step b t x)
 unfolding step shifted
@@ -84,35 +85,35 @@ unfolding utf8_error shifted
 utf8_shift d b u = ap fault (run_shift d b between u) ∙ fault_shift d (run b between u)
 
 -- where a fault can be
-awaiting_fault : (rs : List Range) (a p : ℕ) → fault (awaiting rs a) ≡ some p → p ≡ a
+awaiting_fault : (rs : List Range) (a p : ℕ) → fault (awaiting rs a) ≡ Some p → p ≡ a
 unfolding awaiting fault
 awaiting_fault [] a p e = let z : ◌≡◌ {A = ℕ} 0 1 = cc in absurd (omega arith)
 awaiting_fault (r ∷ rs) a p e = cc
 
-begun_fault : (o : Option (List Range)) (a p : ℕ) → fault (begun o a) ≡ some p → p ≡ a
+begun_fault : (o : Option (List Range)) (a p : ℕ) → fault (begun o a) ≡ Some p → p ≡ a
 unfolding begun fault
-begun_fault none a p e = cc
-begun_fault (some rs) a p e = awaiting_fault rs a p e
+begun_fault None a p e = cc
+begun_fault (Some rs) a p e = awaiting_fault rs a p e
 
-step_fault : (b : ℕ) (t : State) (x p : ℕ) → fault (step b t x) ≡ some p → (fault t ≡ some p) ⊎ (p ≡ b)
+step_fault : (b : ℕ) (t : State) (x p : ℕ) → fault (step b t x) ≡ Some p → (fault t ≡ Some p) ⊎ (p ≡ b)
 unfolding step fault
 step_fault b between x p e = inr (begun_fault (following table x) b p e)
 step_fault b (inside r rs a) x p e = inl (go (has r x) refl)
   where
-    go : (z : Bool) → has r x ≡ z → some a ≡ some p
-    go true h = ap some (sym (awaiting_fault rs a p (rw (h, step) at e)))
+    go : (z : Bool) → has r x ≡ z → Some a ≡ Some p
+    go true h = ap Some (sym (awaiting_fault rs a p (rw (h, step) at e)))
     go false h = rw (h, step) at e
 step_fault b (ill a) x p e = inl e
 
-run_fault : (b : ℕ) (t : State) (u : List ℕ) (p : ℕ) → fault (run b t u) ≡ some p → (fault t ≡ some p) ⊎ ((b ≤ p) × (p < b + length u))
+run_fault : (b : ℕ) (t : State) (u : List ℕ) (p : ℕ) → fault (run b t u) ≡ Some p → (fault t ≡ Some p) ⊎ ((b ≤ p) × (p < b + length u))
 unfolding run
 run_fault b t [] p e = inl e
 run_fault b t (x ∷ u) p e = ⊎_elim here (λ h. inr (omega arith, omega arith)) (run_fault (suc b) (step b t x) u p e)
   where
-    here : fault (step b t x) ≡ some p → (fault t ≡ some p) ⊎ ((b ≤ p) × (p < b + length (x ∷ u)))
+    here : fault (step b t x) ≡ Some p → (fault t ≡ Some p) ⊎ ((b ≤ p) × (p < b + length (x ∷ u)))
     here h = ⊎_elim (λ k. inl k) (λ k. inr (omega arith, omega arith)) (step_fault b t x p h)
 
-pub utf8_inside : (b : ℕ) (u : List ℕ) (p : ℕ) → utf8_error b u ≡ some p → (b ≤ p) × (p < b + length u)
+pub utf8_inside : (b : ℕ) (u : List ℕ) (p : ℕ) → utf8_error b u ≡ Some p → (b ≤ p) × (p < b + length u)
 unfolding utf8_error fault
 utf8_inside b u p e =
     ⊎_elim (λ h. let z : ◌≡◌ {A = ℕ} 0 1 = cc in absurd (omega arith)) (λ h. h) (run_fault b between u p e)
@@ -133,13 +134,13 @@ fits_run b a (r ∷ rs) (x ∷ u) e = go (has r x) refl e (fits_run (suc b) a rs
     go true h k ih = let z : suc b + length rs ≡ b + suc (length rs) = omega arith in rw (h, step) (rw z at (ih k))
     go false h k ih = absurd (false≢true k)
 
-fits_ill : (b a : ℕ) (rs : List Range) (u : List ℕ) → fits rs u ≡ false → fault (run b (awaiting rs a) u) ≡ some a
+fits_ill : (b a : ℕ) (rs : List Range) (u : List ℕ) → fits rs u ≡ false → fault (run b (awaiting rs a) u) ≡ Some a
 unfolding fits run awaiting step fault
 fits_ill b a [] u e = absurd (false≢true (sym e))
 fits_ill b a (r ∷ rs) [] e = refl
 fits_ill b a (r ∷ rs) (x ∷ u) e = go (has r x) refl e (fits_ill (suc b) a rs u)
   where
-    go : (z : Bool) → has r x ≡ z → (z && fits rs u) ≡ false → (fits rs u ≡ false → fault (run (suc b) (awaiting rs a) u) ≡ some a) → fault (run b (inside r rs a) (x ∷ u)) ≡ some a
+    go : (z : Bool) → has r x ≡ z → (z && fits rs u) ≡ false → (fits rs u ≡ false → fault (run (suc b) (awaiting rs a) u) ≡ Some a) → fault (run b (inside r rs a) (x ∷ u)) ≡ Some a
     go true h k ih = rw (h, step) (ih k)
     go false h k ih = rw (h, step) (rw (ill_stays (suc b) a u))
 
@@ -154,42 +155,42 @@ fits_length (r ∷ rs) (x ∷ u) e = go (has r x) e (fits_length rs u)
     go false k ih = absurd (false≢true k)
 
 -- a sequence by its size
-size_no : (rs : List Range) (u : List ℕ) → fits rs u ≡ false → 0 ≡ size_of (some rs) u
+size_no : (rs : List Range) (u : List ℕ) → fits rs u ≡ false → None ≡ size_of (Some rs) u
 unfolding size_of
 size_no rs u e = rw (e, size_of)
 
-size_yes : (rs : List Range) (u : List ℕ) → fits rs u ≡ true → suc (length rs) ≡ size_of (some rs) u
+size_yes : (rs : List Range) (u : List ℕ) → fits rs u ≡ true → Some (suc (length rs)) ≡ size_of (Some rs) u
 unfolding size_of
 size_yes rs u e = rw (e, size_of)
 
-size_ill : (b a : ℕ) (o : Option (List Range)) (u : List ℕ) → size_of o u ≡ 0 → fault (run b (begun o a) u) ≡ some a
+size_ill : (b a : ℕ) (o : Option (List Range)) (u : List ℕ) → size_of o u ≡ None → fault (run b (begun o a) u) ≡ Some a
 unfolding begun fault
-size_ill b a none u e = rw (ill_stays b a u)
-size_ill b a (some rs) u e = go (fits rs u) refl
+size_ill b a None u e = rw (ill_stays b a u)
+size_ill b a (Some rs) u e = go (fits rs u) refl
   where
-    go : (z : Bool) → fits rs u ≡ z → fault (run b (awaiting rs a) u) ≡ some a
-    go true h = absurd (omega (arith, size_yes rs u h, e))
+    go : (z : Bool) → fits rs u ≡ z → fault (run b (awaiting rs a) u) ≡ Some a
+    go true h = absurd (let z : Some (suc (length rs)) ≡ None = size_yes rs u h ∙ e in none-some _ (sym z))
     go false h = fits_ill b a rs u h
 
-size_run : (b a n : ℕ) (o : Option (List Range)) (u : List ℕ) → size_of o u ≡ suc n → (n ≤ length u) × (run b (begun o a) u ≡ run (b + n) between (drop n u))
+size_run : (b a n : ℕ) (o : Option (List Range)) (u : List ℕ) → size_of o u ≡ Some (suc n) → (n ≤ length u) × (run b (begun o a) u ≡ run (b + n) between (drop n u))
 unfolding begun size_of
-size_run b a n none u e = absurd (omega arith)
-size_run b a n (some rs) u e = go (fits rs u) refl
+size_run b a n None u e = absurd (none-some _ e)
+size_run b a n (Some rs) u e = go (fits rs u) refl
   where
     go : (z : Bool) → fits rs u ≡ z → (n ≤ length u) × (run b (awaiting rs a) u ≡ run (b + n) between (drop n u))
     go true h =
-        let z : n ≡ length rs = omega (arith, size_yes rs u h, e) in
+        let z : n ≡ length rs = omega (arith, same_Some _ _ (size_yes rs u h ∙ e)) in
         (omega (arith, fits_length rs u h), rw z (fits_run b a rs u h))
-    go false h = absurd (omega (arith, size_no rs u h, e))
+    go false h = absurd (none-some _ (size_no rs u h ∙ e))
 
-sequence_ill : (b : ℕ) (u : List ℕ) → 0 < length u → sequence_size u ≡ 0 → utf8_error b u ≡ some b
+sequence_ill : (b : ℕ) (u : List ℕ) → 0 < length u → sequence_size u ≡ None → utf8_error b u ≡ Some b
 unfolding utf8_error run step sequence_size
 sequence_ill b [] h e = absurd (omega arith)
 sequence_ill b (x ∷ u) h e = size_ill (suc b) b (following table x) u e
 
-sequence_more : (b n : ℕ) (u : List ℕ) → sequence_size u ≡ suc n → (n < length u) × (utf8_error b u ≡ utf8_error (b + suc n) (drop (suc n) u))
+sequence_more : (b n : ℕ) (u : List ℕ) → sequence_size u ≡ Some (suc n) → (n < length u) × (utf8_error b u ≡ utf8_error (b + suc n) (drop (suc n) u))
 unfolding utf8_error run step sequence_size
-sequence_more b n [] e = absurd (omega arith)
+sequence_more b n [] e = absurd (none-some _ e)
 sequence_more b n (x ∷ u) e =
     let m = size_run (suc b) b n (following table x) u e in
     let z : suc b + n ≡ b + suc n = omega arith in
@@ -197,34 +198,52 @@ sequence_more b n (x ∷ u) e =
 
 -- the rows of the table, one after the other
 module _ (lo hi x : ℕ) (rs : List Range) (rows : List Row) where
-  pub this_row : within lo hi x ≡ true → following (row (lo to hi) rs ∷ rows) x ≡ some rs
-  unfolding following has
-  this_row e = rw (e, following)
+  pub this_row : lo ≤ x → x ≤ hi → following (row (lo to hi) rs ∷ rows) x ≡ Some rs
+  unfolding following has within
+  this_row a b = rw (le-leb lo x a, le-leb x hi b, following)
 
-  pub next_row : within lo hi x ≡ false → {o : Option (List Range)} → following rows x ≡ o → following (row (lo to hi) rs ∷ rows) x ≡ o
+  pub next_row : (lo ≤ x → x ≤ hi → ⊥) → {o : Option (List Range)} → following rows x ≡ o → following (row (lo to hi) rs ∷ rows) x ≡ o
   unfolding following has
-  next_row e h = rw (e, following) h
+  next_row f {o} h = go (within lo hi x) refl
+    where
+      go : (t : Bool) → within lo hi x ≡ t → following (row (lo to hi) rs ∷ rows) x ≡ o
+      go true e = let w = within_of lo hi x e in absurd (f (omega (arith, w)) (omega (arith, w)))
+      go false e = rw (e, following) h
 
-pub no_row : (x : ℕ) → following [] x ≡ none
+pub no_row : (x : ℕ) → following [] x ≡ None
 unfolding following
 no_row x = refl
 
-pub not_ascii : (x : ℕ) → 0x80 ≤ x → within 0 0x7f x ≡ false
-unfolding within
-not_ascii x h = rw (lt-leb x 0x7f (omega arith), le-leb 0 x (omega arith))
-
-ascii_row : (x : ℕ) → x < 0x80 → following table x ≡ some []
-unfolding table within
-ascii_row x h = this_row 0 0x7f x [] _ (rw (le-leb x 0x7f (omega arith), le-leb 0 x (omega arith)))
+ascii_row : (x : ℕ) → x < 0x80 → following table x ≡ Some []
+unfolding table
+ascii_row x h = this_row 0 0x7f x [] _ (omega arith) (omega arith)
 
 pub sequence_by : (u : List ℕ) (o : Option (List Range)) → 0 < length u → following table (get_or u 0 0) ≡ o → size_of o (drop 1 u) ≡ sequence_size u
 unfolding sequence_size
 sequence_by [] o h e = absurd (omega arith)
 sequence_by (x ∷ u) o h e = ap (λ p. size_of p u) (sym e)
 
-pub sequence_none : (u : List ℕ) → 0 < length u → following table (get_or u 0 0) ≡ none → 0 ≡ sequence_size u
+pub sequence_none : (u : List ℕ) → 0 < length u → following table (get_or u 0 0) ≡ None → None ≡ sequence_size u
 unfolding size_of
-sequence_none u h e = sequence_by u none h e
+sequence_none u h e = sequence_by u None h e
+
+-- a sequence has bytes
+no_zero : (u : List ℕ) → sequence_size u ≡ Some 0 → ⊥
+unfolding sequence_size size_of
+no_zero [] e = none-some _ e
+no_zero (x ∷ u) e = go (following table x) refl
+  where
+    go : (o : Option (List Range)) → following table x ≡ o → ⊥
+    go None f = none-some _ (rw f at e)
+    go (Some rs) f = by (fits rs u) refl
+      where
+        by : (t : Bool) → fits rs u ≡ t → ⊥
+        by true g = omega (arith, same_Some _ _ (size_yes rs u g ∙ rw f at e))
+        by false g = none-some _ (size_no rs u g ∙ rw f at e)
+
+pub positive : (n : ℕ) (u : List ℕ) → Some n ≡ sequence_size u → 0 < n
+positive zero u e = absurd (no_zero u (sym e))
+positive (suc n) u e = omega arith
 
 -- the first i bytes are whole characters
 pub record Passed (b : ℕ) (u : List ℕ) (i : ℕ) : Type 0 where
@@ -238,9 +257,9 @@ rest_all : (u : List ℕ) (i : ℕ) → take (length u - i) (drop i u) ≡ drop 
 rest_all u i = take_all (length u - i) (drop i u) (omega (arith, length-drop i u))
 
 module _ (b : ℕ) (u : List ℕ) (i : ℕ) (h : Passed b u i) where
-  pub passed_more : (n : ℕ) → n ≡ sequence_size (take (length u - i) (drop i u)) → (n ≡ 0 → ⊥) → Passed b u (i + n)
-  passed_more zero e k = absurd (k refl)
-  passed_more (suc n) e k =
+  pub passed_more : (n : ℕ) → Some n ≡ sequence_size (take (length u - i) (drop i u)) → Passed b u (i + n)
+  passed_more zero e = absurd (no_zero (take (length u - i) (drop i u)) (sym e))
+  passed_more (suc n) e =
       let m = sequence_more (b + i) n (drop i u) (rw rest_all at (sym e)) in
       let z : b + i + suc n ≡ b + (i + suc n) = omega arith in
       record {
@@ -248,7 +267,7 @@ module _ (b : ℕ) (u : List ℕ) (i : ℕ) (h : Passed b u i) where
         left = h.left ∙ (rw (z, drop-drop (suc n) i u) at m.1);
       }
 
-  pub passed_end : length u ≤ i → none ≡ utf8_error b u
+  pub passed_end : length u ≤ i → None ≡ utf8_error b u
   unfolding utf8_error run fault
   passed_end e = sym (h.left ∙ rw (drop_of_length-le u e))
 
@@ -258,11 +277,10 @@ module _ (b : ℕ) (u : List ℕ) (i : ℕ) (h : Passed b u i) where
 
     passed_ascii : get_or u i 0 < 0x80 → Passed b u (i + 1)
     unfolding sequence_size size_of fits
-    passed_ascii k = passed_more 1 (rw (rest_cons, ascii_row _ k)) (λ e. omega arith)
+    passed_ascii k = passed_more 1 (rw (rest_cons, ascii_row _ k))
 
-    pub passed_ill : (n : ℕ) → n ≡ sequence_size (take (length u - i) (drop i u)) → n ≡ 0 → some (b + i) ≡ utf8_error b u
-    passed_ill n e k =
-        sym (h.left ∙ sequence_ill (b + i) (drop i u) (omega (arith, length-drop i u)) ((rw rest_all at (sym e)) ∙ k))
+    pub passed_ill : None ≡ sequence_size (take (length u - i) (drop i u)) → Some (b + i) ≡ utf8_error b u
+    passed_ill e = sym (h.left ∙ sequence_ill (b + i) (drop i u) (omega (arith, length-drop i u)) (rw rest_all at (sym e)))
 
     pub rest_first : 0x80 ≤ get_or u i 0 → (0 < length (take (length u - i) (drop i u))) × (0x80 ≤ get_or (take (length u - i) (drop i u)) 0 0)
     rest_first k = rw rest_cons (omega arith, k)
@@ -287,16 +305,12 @@ or_left x y = omega (arith, or_add_and x y, and_le_r x y)
 or_right : (x y : ℕ) → y ≤ bit_or x y
 or_right x y = omega (arith, or_add_and x y, and_le_l x y)
 
-pub or_one : (u : List ℕ) (i : ℕ) → Bounds (get_or u i 0) u i 1
-or_one u i = record { each = below_more _ 0 (below_none _) (let z : i + 0 ≡ i = omega arith in rw z (omega arith)) }
+pub or_none : {u : List ℕ} {i : ℕ} → Bounds 0 u i 0
+or_none = record { each = below_none _ }
 
--- two runs of bytes, the second after the first
-or_join : (n m : ℕ) {r s : ℕ} {u : List ℕ} {i : ℕ} → Bounds r u i n → Bounds s u (i + n) m → Bounds (bit_or r s) u i (n + m)
-or_join n m {r} {s} {u} {i} p q = record { each = both_runs (λ k. get_or u k 0 ≤ bit_or r s) i n m (λ j h. omega (arith, p.each j h, or_left r s)) (λ j h. omega (arith, q.each j h, or_right r s)) }
-
--- four runs of n bytes
-pub or_four : (n : ℕ) {r s t v : ℕ} {u : List ℕ} {i : ℕ} → Bounds r u i n → Bounds s u (i + n) n → Bounds t u (i + (n + n)) n → Bounds v u (i + (n + n + n)) n → Bounds (bit_or (bit_or (bit_or r s) t) v) u i (n + n + n + n)
-or_four n p q a b = or_join (n + n + n) n (or_join (n + n) n (or_join n n p q) a) b
+-- one more byte after a run
+pub or_more : {r : ℕ} {u : List ℕ} {i n : ℕ} → Bounds r u i n → Bounds (bit_or r (get_or u (i + n) 0)) u i (n + 1)
+or_more {r} {u} {i} {n} p = record { each = below_more _ n (λ j h. omega (arith, p.each j h, or_left r (get_or u (i + n) 0))) (or_right r (get_or u (i + n) 0)) }
 
 -- an ASCII byte with n others after it
 pub ascii_run : (n : ℕ) {u : List ℕ} {i r : ℕ} → get_or u i 0 < 0x80 → i + (n + 1) ≤ length u → Bounds r u (i + 1) n → r < 0x80 → AsciiAt u i (n + 1)
@@ -337,10 +351,10 @@ fits_at lo hi rs u i h = rw (drop-cons u i 0 h)
 replicate_less : (n i : ℕ) (r : Range) → i < n → replicate (n - i) r ≡ r ∷ replicate (n - (i + 1)) r
 replicate_less n i r h = let z : n - i ≡ suc (n - (i + 1)) = omega arith in rw z
 
-pub size_cut : (u : List ℕ) (n lo hi : ℕ) → 2 ≤ n → length u < n → 0 ≡ size_of (some (later n lo hi)) (drop 1 u)
+pub size_cut : (u : List ℕ) (n lo hi : ℕ) → 2 ≤ n → length u < n → None ≡ size_of (Some (later n lo hi)) (drop 1 u)
 size_cut u n lo hi h lt = go (fits (later n lo hi) (drop 1 u)) refl
   where
-    go : (z : Bool) → fits (later n lo hi) (drop 1 u) ≡ z → 0 ≡ size_of (some (later n lo hi)) (drop 1 u)
+    go : (z : Bool) → fits (later n lo hi) (drop 1 u) ≡ z → None ≡ size_of (Some (later n lo hi)) (drop 1 u)
     go true e = absurd (omega (arith, fits_length _ _ e, later_length n lo hi h, length-drop 1 u))
     go false e = size_no _ _ e
 
@@ -352,22 +366,32 @@ module _ (u : List ℕ) (n lo hi : ℕ) (h : 2 ≤ n) (k : n ≤ length u) where
   pub second_in : within lo hi (get_or u 1 0) ≡ true → Tails u n lo hi 2
   second_in e = record { upto = h; long = k; two = h; left = second ∙ rw e }
 
-  pub second_out : within lo hi (get_or u 1 0) ≡ false → 0 ≡ size_of (some (later n lo hi)) (drop 1 u)
+  pub second_out : within lo hi (get_or u 1 0) ≡ false → None ≡ size_of (Some (later n lo hi)) (drop 1 u)
   second_out e = size_no _ _ (second ∙ rw e)
 
-module _ (u : List ℕ) (n lo hi i : ℕ) (h : Tails u n lo hi i) where
-  module _ (lt : i < n) where
-    next : fits (later n lo hi) (drop 1 u) ≡ (within 0x80 0xbf (get_or u i 0) && fits (replicate (n - (i + 1)) (0x80 to 0xbf)) (drop (suc i) u))
-    next = h.left ∙ rw (replicate_less n i (0x80 to 0xbf) lt) (fits_at 0x80 0xbf _ u i (omega (arith, h.long)))
+-- k of the bytes after the second have been looked at
+module _ (u : List ℕ) (n lo hi k : ℕ) (h : Tails u n lo hi (2 + k)) where
+  module _ (lt : k < length (take (n - 2) (drop 2 u))) where
+    item : get_or (take (n - 2) (drop 2 u)) k 0 ≡ get_or u (2 + k) 0
+    item = get_or-take (n - 2) (drop 2 u) k 0 (omega (arith, length-take (n - 2) (drop 2 u))) ∙ get_or-drop 2 u k 0
 
-    pub tail_in : within 0x80 0xbf (get_or u i 0) ≡ true → Tails u n lo hi (i + 1)
-    tail_in e = record { upto = omega arith; long = h.long; two = h.two; left = rw add-one (next ∙ rw (e, add-one)) }
+    next : fits (later n lo hi) (drop 1 u) ≡ (within 0x80 0xbf (get_or (take (n - 2) (drop 2 u)) k 0) && fits (replicate (n - (2 + k + 1)) (0x80 to 0xbf)) (drop (suc (2 + k)) u))
+    next =
+        let z : 2 + k < n = omega (arith, length-take (n - 2) (drop 2 u)) in
+        rw item (h.left ∙ rw (replicate_less n (2 + k) (0x80 to 0xbf) z) (fits_at 0x80 0xbf _ u (2 + k) (omega (arith, h.long))))
 
-    pub tail_out : within 0x80 0xbf (get_or u i 0) ≡ false → 0 ≡ size_of (some (later n lo hi)) (drop 1 u)
+    pub tail_in : within 0x80 0xbf (get_or (take (n - 2) (drop 2 u)) k 0) ≡ true → Tails u n lo hi (2 + (k + 1))
+    tail_in e =
+        let z : suc (2 + k) ≡ 2 + (k + 1) = omega arith in
+        let y : 2 + k + 1 ≡ 2 + (k + 1) = omega arith in
+        let q : fits (later n lo hi) (drop 1 u) ≡ fits (replicate (n - (2 + k + 1)) (0x80 to 0xbf)) (drop (suc (2 + k)) u) = next ∙ rw e in
+        record { upto = omega (arith, length-take (n - 2) (drop 2 u)); long = h.long; two = h.two; left = rw (z, y) at q }
+
+    pub tail_out : within 0x80 0xbf (get_or (take (n - 2) (drop 2 u)) k 0) ≡ false → None ≡ size_of (Some (later n lo hi)) (drop 1 u)
     tail_out e = size_no _ _ (next ∙ rw e)
 
-  pub tails_end : n ≤ i → n ≡ size_of (some (later n lo hi)) (drop 1 u)
+  pub tails_end : length (take (n - 2) (drop 2 u)) ≤ k → Some n ≡ size_of (Some (later n lo hi)) (drop 1 u)
   unfolding fits
   tails_end le =
-      let z : n - i ≡ 0 = omega (arith, h.upto) in
-      sym (later_length n lo hi h.two) ∙ size_yes _ _ (h.left ∙ rw z)
+      let z : n - (2 + k) ≡ 0 = omega (arith, h.long, length-take (n - 2) (drop 2 u), length-drop 2 u) in
+      ap Some (sym (later_length n lo hi h.two)) ∙ size_yes _ _ (h.left ∙ rw z)

@@ -7,37 +7,42 @@ use Prim.Native.Nat.{ℕ, zero, suc, ◌+◌, ◌*◌, ◌-◌, ◌/◌, ◌%◌
 use native.Mathlib.Omega.{arith}
 use native.Mathlib.Numerals.{add-one}
 use native.Mathlib.Nat.{mul_assoc, mul_comm, pow-suc, one-le-pow, pow-le-pow_right, mul-add-div_right, div-eq_of_lt, mul-add-mod_self_right, max-eq_left}
+use lib.Bits.{bit_or}
 use lib.Dec.{eqb, leb, ltb}
-use lib.ListN.{length, drop, take, get_or, length-drop, drop_of_length-le, get_or-eq_default}
+use denote.Ref.{Bor}
+use lib.ListN.{length, drop, take, get_or, length-map, length-drop, drop_of_length-le, get_or-eq_default}
 use lib.Seq.{drop-cons, get_or-take, get_or-drop, length-take-le}
 use borrow.Author.Tests.{eq-eqb, ne_eqb, eqb-true, eqb-false, leb-true, ltb-true, ltb-false, not-true}
+use Rattle.std.proofs.lemmas.List.{get_or-map, drop-take}
+use Rattle.std.specs.List.{list_all}
 use Rattle.lexing.specs.bytes.{slash, underscore, is_letter, is_digit, is_word, within, lower}
 use Rattle.lexing.specs.reply.{Reply, ok, fail, stop, ret, ◌>>=◌, ◌>>◌, ◌or◌, no_nearer, keep}
 use Rattle.lexing.specs.words.{Word, bytes_of, is_key_letter, is_key, is_keyword, is_lower, keyword, any_keyword}
 use Rattle.lexing.specs.blanks.{Doc, whitespace1}
 use Rattle.lexing.specs.word_sets.{next_word, set_step, keywords_set, same_bytes, contains, bit, flags, set_flags, field_set, struct_set, event_set, command_set, attribute_set}
-use Rattle.lexing.specs.answers.{Rest, lost_reply, word_at, word_reply, doc_of, BlankTo, sets, set_of, WordSetTo, Fail}
+use Rattle.lexing.specs.answers.{Rest, lost_reply, word_at, word_reply, doc_of, BlankTo, set_of, WordSetTo}
 use Rattle.lexing.specs.inner.word_sets.{KeywordEnd, there, missing, set_gap, start_reply, with_flag, initial, LowerAt, IsEight, EightFlag, some, none}
 use Rattle.lexing.specs.inner.words.{KeyAt}
 use Rattle.lexing.specs.inner.eights.{pack, bytes_from, failing, is_capital}
 use Rattle.lexing.specs.declared.answers.Lost.{Lost}
 use Rattle.lexing.specs.declared.word_sets.WordSet.{WordSet}
-use Rattle.lexing.specs.declared.answers.Step.{Step}
-use Rattle.lexing.specs.declared.answers.Step.TheVariants.{Next, Not}
+use Rattle.std.specs.Prelude.{Ok, Err, Option, Some, None}
+use Rattle.lexing.specs.declared.answers.Lost.TheVariants.{Fail}
 use Rattle.lexing.specs.declared.blanks.Blank.{Blank}
-use Rattle.lexing.specs.declared.blanks.DocSpan.TheVariants.{Absent}
-use Rattle.lexing.specs.declared.word_sets.Start.{Start}
-use Rattle.lexing.specs.declared.word_sets.Start.TheVariants.{Here, Nowhere}
+use Rattle.lexing.specs.declared.word_sets.KeywordSet.{KeywordSet}
+use Rattle.lexing.specs.declared.word_sets.KeywordSet.TheVariants.{Field, Struct, Event, Command, Attribute}
+use Rattle.std.specs.Prelude.{map}
 use Rattle.lexing.proofs.Losses.{by_lost}
 use Rattle.lexing.proofs.Tests.{and_left, and_right, or_false, or_true, false_if}
 use Rattle.lexing.proofs.Locality.{OnChain, chain_ret, chain_then}
 use Rattle.lexing.proofs.TokenLocality.{whitespace1_chain, keyword_chain, keyword_consumes, any_keyword_chain, set_step_consumes}
-use Rattle.lexing.proofs.Slicing.{Took, took, walks, rest_self, rest_from, reads_in, told_next, told_not, on, fall}
+use Rattle.lexing.proofs.Slicing.{Took, took, walks, rest_self, rest_from, reads_in, on, fall}
 use Rattle.lexing.proofs.Repetition.{IterAt, iter_start, iter_step, iter_ends}
 use Rattle.lexing.proofs.FirstWord.{starts_of, other_keyword, free_keywords, no_initial}
 use Rattle.lexing.proofs.words.Laws.{Says, keyword_says, key_letter, key_eight, key_read}
 use Rattle.lexing.proofs.blanks.Laws.{blanks_one, gap_none, gap_some}
 use Rattle.lexing.proofs.Scans.{first_of, turns}
+use Rattle.lexing.proofs.EveryByte.{every, every_at}
 use Rattle.lexing.proofs.eights.Laws.{Bytes, pack_alike, all_failing}
 
 -- the same bytes
@@ -86,35 +91,42 @@ apart_of k ks e =
     let h = and_left (is_lower k && not (among k ks)) (apart ks) e in
     (and_left (is_lower k) (not (among k ks)) h, (not-true (among k ks) (and_right (is_lower k) (not (among k ks)) h), and_right (is_lower k && not (among k ks)) (apart ks) e))
 
-unfoldable all_apart : List (List (List ℕ)) → Bool
-all_apart [] = true
-all_apart (s ∷ l) = (apart s && leb (length s) 4) && all_apart l
+set_apart : (n : KeywordSet) → apart (set_of n) ≡ true
+unfolding apart among field_set struct_set event_set command_set attribute_set is_keyword same_bytes lower within
+set_apart Field = refl
+set_apart Struct = refl
+set_apart Event = refl
+set_apart Command = refl
+set_apart Attribute = refl
 
-table_apart : all_apart sets ≡ true
-unfolding all_apart apart among field_set struct_set event_set command_set attribute_set is_keyword same_bytes lower within
-table_apart = refl
+pub set_most : (n : KeywordSet) → length (set_of n) ≤ 4
+unfolding field_set struct_set event_set command_set attribute_set
+set_most Field = omega arith
+set_most Struct = omega arith
+set_most Event = omega arith
+set_most Command = omega arith
+set_most Attribute = omega arith
 
-one_apart : (l : List (List (List ℕ))) (n : ℕ) → all_apart l ≡ true → (apart (get_or l n []) && leb (length (get_or l n [])) 4) ≡ true
-unfolding all_apart apart
-one_apart [] n e = refl
-one_apart (s ∷ l) zero e = and_left (apart s && leb (length s) 4) (all_apart l) e
-one_apart (s ∷ l) (suc n) e = one_apart l n (and_right (apart s && leb (length s) 4) (all_apart l) e)
+unfoldable all_keys : List (List ℕ) → Bool
+all_keys [] = true
+all_keys (k ∷ ks) = is_key k && all_keys ks
 
-set_apart : (n : ℕ) → apart (set_of n) ≡ true
-set_apart n = and_left (apart (get_or sets n [])) (leb (length (get_or sets n [])) 4) (one_apart sets n table_apart)
+set_all_keys : (n : KeywordSet) → all_keys (set_of n) ≡ true
+unfolding all_keys field_set struct_set event_set command_set attribute_set
+set_all_keys Field = refl
+set_all_keys Struct = refl
+set_all_keys Event = refl
+set_all_keys Command = refl
+set_all_keys Attribute = refl
 
-pub set_most : (n : ℕ) → length (set_of n) ≤ 4
-set_most n = leb-true (length (get_or sets n [])) 4 (and_right (apart (get_or sets n [])) (leb (length (get_or sets n [])) 4) (one_apart sets n table_apart))
+key_of : (ks : List (List ℕ)) (k : ℕ) → k < length ks → all_keys ks ≡ true → is_key (get_or ks k []) ≡ true
+unfolding all_keys
+key_of [] k l e = absurd (omega arith)
+key_of (x ∷ ks) zero l e = and_left (is_key x) (all_keys ks) e
+key_of (x ∷ ks) (suc k) l e = key_of ks k (omega arith) (and_right (is_key x) (all_keys ks) e)
 
-pub set_past : (n : ℕ) → 5 ≤ n → 0 ≡ length (set_of n)
-set_past n h = ap length (sym (get_or-eq_default sets [] h))
-
-pub set_below : (n k : ℕ) → k < length (set_of n) → n < 5
-set_below n k h = go (ltb n 5) refl
-  where
-    go : (t : Bool) → ltb n 5 ≡ t → n < 5
-    go true e = ltb-true n 5 e
-    go false e = absurd (omega (arith, set_past n (ltb-false n 5 e)))
+set_key : (n : KeywordSet) (k : ℕ) → k < length (set_of n) → is_key (get_or (set_of n) k []) ≡ true
+set_key n k l = key_of (set_of n) k l (set_all_keys n)
 
 -- the flags of one more word that is like no keyword
 flags_kept : (ks : List (List ℕ)) (w : Word) (ws : List Word) → among (bytes_of w) ks ≡ false → flags ks (w ∷ ws) ≡ flags ks ws
@@ -165,7 +177,7 @@ flags_less (k ∷ ks) ws = go (contains ws k) (flags_less ks ws)
     go true h = rw (pow-suc 2 (length ks)) (omega arith)
     go false h = rw (pow-suc 2 (length ks)) (omega arith)
 
-set_small : (n : ℕ) (ws : List Word) → flags (set_of n) ws < 16
+set_small : (n : KeywordSet) (ws : List Word) → flags (set_of n) ws < 16
 set_small n ws = let p : 2 ^ length (set_of n) ≤ 2 ^ 4 = pow-le-pow_right (omega arith) (set_most n) in omega (arith, p, flags_less (set_of n) ws)
 
 flag_none : (p f : ℕ) → with_flag false p f ≡ f
@@ -226,12 +238,10 @@ word_flag ks k j w ws a e h = go (is_lower (bytes_of w)) refl
     go false q = rw q (flag_none (2 ^ j) (flags ks ws) ∙ sym (flags_kept ks w ws (not_among ks (bytes_of w) a q)))
 
 -- a flag in code
-pub bit_at : {o m : ℕ} → o ≡ m → 2 ^ m ≡ 2 ^ o
-bit_at e = rw e
-
 pub flag_off : (t : Bool) (p f : ℕ) → t ≡ false → f ≡ with_flag t p f
 flag_off t p f e = rw e (sym (flag_none p f))
 
+-- a flag as a number that is there or is added
 module _ (t : Bool) (o p f : ℕ) (e : t ≡ true) (h : p ≡ 2 ^ o) where
   pub flag_there : f / p % 2 ≡ 1 → f ≡ with_flag t (2 ^ o) f
   unfolding with_flag
@@ -244,40 +254,12 @@ module _ (t : Bool) (o p f : ℕ) (e : t ≡ true) (h : p ≡ 2 ^ o) where
   pub flag_bit : o < 4 → (0 < p) × (p ≤ 8)
   flag_bit l = let d : o ≤ 3 = omega arith in let m : 2 ^ o ≤ 2 ^ 3 = pow-le-pow_right (omega arith) d in (rw h (pow_up o), rw h m)
 
--- the keyword of a number
-pub keyword_at : {n m k j b : ℕ} {u : List ℕ} {r : ℕ} → n ≡ m → k ≡ j → KeywordEnd (get_or (set_of m) j []) b u r → KeywordEnd (get_or (set_of n) k []) b u r
-keyword_at d e h = rw (d, e) h
+flag_bits : every 4 (λ o. every 16 (λ f. eqb (bit_or f (1 * 2 ^ o % 256)) (with_flag true (2 ^ o) f))) ≡ true
+unfolding every with_flag
+flag_bits = refl
 
-pub count_at : {n m : ℕ} → n ≡ m → length (set_of m) ≡ length (set_of n)
-count_at e = rw e
-
-pub below_count : {n m : ℕ} (k : ℕ) → n ≡ m → k < length (set_of n) → k < length (set_of m)
-below_count k e h = rw e at h
-
--- the first bytes of keywords
-pub initial_at : (x : ℕ) {n m : ℕ} {t : Bool} → n ≡ m → t ≡ initial x (set_of m) → t ≡ initial x (set_of n)
-initial_at x e h = rw e h
-
-module _ (k : List ℕ) (ks : List (List ℕ)) {x y : ℕ} where
-  pub initial_here : x ≡ y → true ≡ initial x ((y ∷ k) ∷ ks)
-  unfolding initial
-  initial_here e = rw (eq-eqb x y e)
-
-  pub initial_later : (x ≡ y → ⊥) → {t : Bool} → t ≡ initial x ks → t ≡ initial x ((y ∷ k) ∷ ks)
-  unfolding initial
-  initial_later e h = rw (ne_eqb x y e) h
-
-pub initial_last : (k : List ℕ) (x y : ℕ) → eqb x y ≡ initial x ((y ∷ k) ∷ [])
-unfolding initial
-initial_last k x y = go (eqb x y)
-  where
-    go : (t : Bool) → t ≡ (t || false)
-    go true = refl
-    go false = refl
-
-pub initial_past : (x n : ℕ) → 5 ≤ n → false ≡ initial x (set_of n)
-unfolding initial
-initial_past x n h = rw (get_or-eq_default sets [] h)
+pub flag_on : (t : Bool) (o f : ℕ) → t ≡ true → f < 16 → o < 4 → bit_or f (1 * 2 ^ o % 256) ≡ with_flag t (2 ^ o) f
+flag_on t o f e h l = rw e (eqb-true _ _ (every_at 16 (λ f. eqb (bit_or f (1 * 2 ^ o % 256)) (with_flag true (2 ^ o) f)) (every_at 4 (λ o. every 16 (λ f. eqb (bit_or f (1 * 2 ^ o % 256)) (with_flag true (2 ^ o) f))) flag_bits o l) f h))
 
 -- the test for lower case
 pub lower_start : (u : List ℕ) (n : ℕ) → LowerAt u n 0
@@ -291,6 +273,13 @@ lower_nil : is_lower [] ≡ true
 unfolding is_keyword
 lower_nil = refl
 
+pub lower_all : (u : List ℕ) → list_all (λ x. eqb (lower x) x) u ≡ is_lower u
+lower_all [] = sym lower_nil
+lower_all (x ∷ u) = ap (λ t. eqb (lower x) x && t) (lower_all u) ∙ sym (lower_cons x u)
+
+pub lower_rest : (u : List ℕ) (n i : ℕ) → LowerAt u n i → is_lower (take (n - i) (drop i u)) ≡ is_lower (take n u)
+lower_rest u n i h = let z : i + (n - i) ≡ n = omega (arith, h.inside) in ap (λ v. is_lower v) (sym (drop-take i (n - i) u) ∙ ap (λ (m : ℕ). drop i (take m u)) z) ∙ h.left
+
 module _ (u : List ℕ) (n i : ℕ) (h : LowerAt u n i) (fits : n ≤ length u) where
   module _ (lt : i < n) where
     lower_here : is_lower (take n u) ≡ (eqb (lower (get_or u i 0)) (get_or u i 0) && is_lower (drop (suc i) (take n u)))
@@ -300,9 +289,6 @@ module _ (u : List ℕ) (n i : ℕ) (h : LowerAt u n i) (fits : n ≤ length u) 
 
     pub lower_more : lower (get_or u i 0) ≡ get_or u i 0 → LowerAt u n (i + 1)
     lower_more e = record { inside = omega arith; left = rw add-one (sym (lower_here ∙ rw (eq-eqb _ _ e))) }
-
-    pub lower_not : (lower (get_or u i 0) ≡ get_or u i 0 → ⊥) → false ≡ is_lower (take n u)
-    lower_not e = sym (lower_here ∙ rw (ne_eqb _ _ e))
 
   pub lower_end : n ≤ i → true ≡ is_lower (take n u)
   lower_end le = let l : length (take n u) ≤ i = rw (length-take-le n u fits) le in sym (sym h.left ∙ rw (drop_of_length-le (take n u) l) lower_nil)
@@ -384,14 +370,12 @@ pub lost_here : (k : List ℕ) (b : ℕ) (u : List ℕ) (l : Lost) → lost_repl
 lost_here k b u = by_lost (λ l. lost_reply l ≡ keyword k b u → fail b ≡ keyword k b u) (λ p e. ap fail (sym (rw (← e) at (keyword_says k b u))) ∙ e) (λ n p e. absurd (rw (← e) at (keyword_says k b u)))
 
 -- the offset after a keyword, from the step over it
-module _ {k : List ℕ} {b : ℕ} {u : List ℕ} {a : Step} (h : word_reply a b u ≡ keyword k b u) where
-  pub end_missing : {l : Lost} → a ≡ Not l → KeywordEnd k b u b
-  end_missing {l} e = missing refl (lost_here k b u l (told_not (word_at b u) a l b u (keyword k b u) e h))
+module _ {k : List ℕ} {b : ℕ} {u : List ℕ} where
+  pub end_missing : (l : Lost) → word_reply (Err l) b u ≡ keyword k b u → KeywordEnd k b u b
+  end_missing l h = missing refl (lost_here k b u l h)
 
-  pub end_there : {c : ℕ} → a ≡ Next c → KeywordEnd k b u c
-  end_there {c} e =
-      let f = told_next (word_at b u) a c b u (keyword k b u) e h in
-      there (omega (arith, rw (← f) at ((keyword_consumes k).consumes b u), length-drop (c - b) u)) f
+  pub end_there : {c : ℕ} → word_reply (Ok c) b u ≡ keyword k b u → KeywordEnd k b u c
+  end_there {c} h = there (omega (arith, rw (← h) at ((keyword_consumes k).consumes b u), length-drop (c - b) u)) h
 
 -- and what it tells
 module _ {k : List ℕ} {b : ℕ} {u : List ℕ} {r : ℕ} where
@@ -466,7 +450,7 @@ module _ (ks : List (List ℕ)) (ws : List Word) (t : Bool) (e : t ≡ none_yet 
   step_fail p h = let z : next_word ks ws c v ≡ fail p = word_is ks ws c v ∙ (rw (← e) (sym h)) in rw (z, ◌>>=◌)
 
 -- the invariant of the run over the words: the words so far, their flags, and whether there is none yet
-pub record SetAt (n b : ℕ) (u : List ℕ) (f c : ℕ) (t : Bool) : Type 0 where
+pub record SetAt (n : KeywordSet) (b : ℕ) (u : List ℕ) (f c : ℕ) (t : Bool) : Type 0 where
   pub words : List Word
   pub at : IterAt (set_step (set_of n)) keep [] b u c words
   pub flags_are : f ≡ flags (set_of n) words
@@ -478,41 +462,41 @@ unfolding flags contains bit
 no_flags [] = refl
 no_flags (k ∷ ks) = omega (arith, no_flags ks)
 
-pub set_start : (n b : ℕ) (u : List ℕ) → SetAt n b u 0 b true
+pub set_start : (n : KeywordSet) (b : ℕ) (u : List ℕ) → SetAt n b u 0 b true
 unfolding none_yet
 set_start n b u = record { words = []; at = iter_start (set_step (set_of n)) keep [] b u; flags_are = no_flags (set_of n); first_is = refl; small = omega arith }
 
-flags_reply : (n b : ℕ) (u : List ℕ) (ws : List Word) (c : ℕ) (r : List ℕ) → ok ws c r ≡ keywords_set (set_of n) b u → ok (flags (set_of n) ws) c r ≡ set_flags (set_of n) b u
+flags_reply : (n : KeywordSet) (b : ℕ) (u : List ℕ) (ws : List Word) (c : ℕ) (r : List ℕ) → ok ws c r ≡ keywords_set (set_of n) b u → ok (flags (set_of n) ws) c r ≡ set_flags (set_of n) b u
 unfolding set_flags ◌>>=◌ ret
 flags_reply n b u ws c r e = rw (sym e, ◌>>=◌)
 
-module _ {n b : ℕ} {u : List ℕ} {f c : ℕ} {t : Bool} (i : SetAt n b u f c t) where
+module _ {n : KeywordSet} {b : ℕ} {u : List ℕ} {f c : ℕ} {t : Bool} (i : SetAt n b u f c t) where
   ended : (p : ℕ) → fail p ≡ (set_gap t >> any_keyword (set_of n)) c (drop (c - b) u) → WordSetTo (record { flags = f; next = c }) n b u
   unfolding keywords_set keep
   ended p h =
       let e = iter_ends (set_step_consumes (set_of n)) i.at p (step_fail (set_of n) i.words t i.first_is c (drop (c - b) u) p h) in
       record { reads = rw i.flags_are (flags_reply n b u i.words c (drop (c - b) u) e); up = i.at.from; inside = i.at.inside; small = i.small }
 
-  pub set_no_start : {q : List ℕ} (s : Start) → Rest b u c q → start_reply s c q ≡ set_gap t c q → s ≡ Nowhere → WordSetTo (record { flags = f; next = c }) n b u
-  set_no_start {q} s d h e = ended c (fall (set_gap t) (any_keyword (set_of n)) (Fail c) d (subst (λ (x : Start). start_reply x c q ≡ set_gap t c q) e h))
+  pub set_no_start : {q : List ℕ} (s : Option ℕ) → Rest b u c q → start_reply s c q ≡ set_gap t c q → s ≡ None → WordSetTo (record { flags = f; next = c }) n b u
+  set_no_start {q} s d h e = ended c (fall (set_gap t) (any_keyword (set_of n)) (Fail c) d (subst (λ (x : Option ℕ). start_reply x c q ≡ set_gap t c q) e h))
 
-pub start_took : {b c : ℕ} {u q : List ℕ} (t : Bool) (s : Start) (m : ℕ) → Rest b u c q → start_reply s c q ≡ set_gap t c q → s ≡ Here m → Took (set_gap t) b u c tt m
-start_took {b} {c} {u} {q} t s m d h e = took (walks (set_gap_chain t)) d (subst (λ (x : Start). start_reply x c q ≡ set_gap t c q) e h)
+pub start_took : {b c : ℕ} {u q : List ℕ} (t : Bool) (s : Option ℕ) (m : ℕ) → Rest b u c q → start_reply s c q ≡ set_gap t c q → s ≡ Some m → Took (set_gap t) b u c tt m
+start_took {b} {c} {u} {q} t s m d h e = took (walks (set_gap_chain t)) d (subst (λ (x : Option ℕ). start_reply x c q ≡ set_gap t c q) e h)
 
 first_took : (b : ℕ) (u : List ℕ) → Took (set_gap true) b u b tt b
-first_took b u = start_took true (Here b) b (rest_self b u) (start_first b u true refl) refl
+first_took b u = start_took true (Some b) b (rest_self b u) (start_first b u true refl) refl
 
 -- the invariant of the walk inside the run: the next word may start at m
-pub record WalkAt (n b : ℕ) (u : List ℕ) (f c : ℕ) (t : Bool) (m : ℕ) (r : List ℕ) (k : ℕ) : Type 0 where
+pub record WalkAt (n : KeywordSet) (b : ℕ) (u : List ℕ) (f c : ℕ) (t : Bool) (m : ℕ) (r : List ℕ) (k : ℕ) : Type 0 where
   pub set : SetAt n b u f c t
   pub start : Took (set_gap t) b u c tt m
   pub rest : Rest b u m r
   pub keys : KeysAt (set_of n) m r k
 
-pub walk_start : {n b : ℕ} {u : List ℕ} {f c : ℕ} {t : Bool} {m : ℕ} {r : List ℕ} → SetAt n b u f c t → Took (set_gap t) b u c tt m → Rest b u m r → WalkAt n b u f c t m r 0
+pub walk_start : {n : KeywordSet} {b : ℕ} {u : List ℕ} {f c : ℕ} {t : Bool} {m : ℕ} {r : List ℕ} → SetAt n b u f c t → Took (set_gap t) b u c tt m → Rest b u m r → WalkAt n b u f c t m r 0
 walk_start {n} {b} {u} {f} {c} {t} {m} {r} i s d = record { set = i; start = s; rest = d; keys = keys_start (set_of n) m r }
 
-module _ {n b : ℕ} {u : List ℕ} {f c : ℕ} {t : Bool} {m : ℕ} {r : List ℕ} {k : ℕ} (i : WalkAt n b u f c t m r k) {count : ℕ} (size : count ≡ length (set_of n)) where
+module _ {n : KeywordSet} {b : ℕ} {u : List ℕ} {f c : ℕ} {t : Bool} {m : ℕ} {r : List ℕ} {k : ℕ} (i : WalkAt n b u f c t m r k) {count : ℕ} (size : count ≡ length (set_of n)) where
   pub walk_end : count ≤ k → WordSetTo (record { flags = f; next = c }) n b u
   walk_end le = ended i.set m (on (any_keyword (set_of n)) i.start (sym (rw i.rest.same at (keys_end (set_of n) m r k i.keys (omega arith)))))
 
@@ -534,11 +518,26 @@ module _ {n b : ℕ} {u : List ℕ} {f c : ℕ} {t : Bool} {m : ℕ} {r : List �
         let v : f' ≡ flags (set_of n) (w ∷ i.set.words) = rw (ef, el, i.set.flags_are) (word_flag (set_of n) k o w i.set.words (set_apart n) g.is (omega arith)) in
         (record { words = w ∷ i.set.words; at = x.0; flags_are = v; first_is = refl; small = rw v (set_small n (w ∷ i.set.words)) }, x.1)
 
+-- the keywords as the code has them
+module _ (n : KeywordSet) (l : List (Bor (List ℕ))) (table : map (λ k. k.now) l ≡ set_of n) where
+  pub table_size : length l ≡ length (set_of n)
+  table_size = sym (length-map l (λ k. k.now)) ∙ ap length table
+
+  module _ (k : ℕ) (d : Bor (List ℕ)) (lt : k < length l) where
+    table_at : get_or (set_of n) k [] ≡ (get_or l k d).now
+    table_at = rw (← table) (get_or-map (λ (r : Bor (List ℕ)). r.now) l k d [] lt)
+
+    pub table_key : is_key (get_or l k d).now ≡ true
+    table_key = ap (λ v. is_key v) (sym table_at) ∙ set_key n k (omega (arith, table_size))
+
+    pub table_end : {b : ℕ} {u : List ℕ} {r : ℕ} → KeywordEnd (get_or l k d).now b u r → KeywordEnd (get_or (set_of n) k []) b u r
+    table_end h = rw table_at h
+
 -- no word of the set begins like the one that may start at m
-pub set_no_initial : {n b : ℕ} {u : List ℕ} {f c : ℕ} {t : Bool} {m : ℕ} {r : List ℕ} → SetAt n b u f c t → Took (set_gap t) b u c tt m → Rest b u m r → initial (lower (get_or r 0 0)) (set_of n) ≡ false → WordSetTo (record { flags = f; next = c }) n b u
+pub set_no_initial : {n : KeywordSet} {b : ℕ} {u : List ℕ} {f c : ℕ} {t : Bool} {m : ℕ} {r : List ℕ} → SetAt n b u f c t → Took (set_gap t) b u c tt m → Rest b u m r → initial (lower (get_or r 0 0)) (set_of n) ≡ false → WordSetTo (record { flags = f; next = c }) n b u
 set_no_initial {n} {m = m} {r = r} i s d e = ended i m (on (any_keyword (set_of n)) s (sym (rw d.same at (free_keywords m r (set_of n) (no_initial m r (set_of n) e)))))
 
-pub set_none : (n b : ℕ) (u : List ℕ) → initial (lower (get_or u 0 0)) (set_of n) ≡ false → WordSetTo (record { flags = 0; next = b }) n b u
+pub set_none : (n : KeywordSet) (b : ℕ) (u : List ℕ) → initial (lower (get_or u 0 0)) (set_of n) ≡ false → WordSetTo (record { flags = 0; next = b }) n b u
 set_none n b u e = set_no_initial (set_start n b u) (first_took b u) (rest_self b u) e
 
 -- the bytes of a keyword
@@ -555,10 +554,6 @@ key_small k e j = go (ltb j (length k)) refl
     go : (t : Bool) → ltb j (length k) ≡ t → get_or k j 0 < 256
     go true l = letter_small (get_or k j 0) (key_letter k e j (ltb-true j (length k) l))
     go false l = rw (get_or-eq_default k 0 (ltb-false j (length k) l)) (omega arith)
-
--- the flag of a keyword of eight bytes, by the set's number
-pub flag_at : {n m r w : ℕ} → n ≡ m → EightFlag r m w → EightFlag r n w
-flag_at e h = rw e h
 
 -- a set of one word: a keyword of eight bytes that is at the front as it is, and a word after it that is none of the set
 not_word : is_word 32 ≡ false
@@ -579,7 +574,7 @@ module _ (b : ℕ) (u : List ℕ) {w : ℕ} (long : 10 ≤ length u) (p : Bytes 
     eight_read : ok (word_at b u (b + 8)) (b + 8) (drop (b + 8 - b) u) ≡ keyword k b u
     eight_read = rw q.eight at (key_read k u q.key (rw q.eight eight_key) (rw q.eight (ap is_word space ∙ not_word)) b)
 
-  eight_set : {f n : ℕ} → EightFlag f n w → (f ≡ 0 → ⊥) → SetAt n b u f (b + 8) false
+  eight_set : {f : ℕ} {n : KeywordSet} → EightFlag f n w → (f ≡ 0 → ⊥) → SetAt n b u f (b + 8) false
   eight_set {f} {n} (none h) x = absurd (x h)
   eight_set {f} {n} (some k j size q h) x =
       let key = get_or (set_of n) k [] in
@@ -596,15 +591,15 @@ module _ (b : ℕ) (u : List ℕ) {w : ℕ} (long : 10 ≤ length u) (p : Bytes 
         let r = rest_from b (b + 8) u (omega arith) (omega arith) in
         let v = drop (b + 8 - b) u in
         let o = blanks_one (b + 8) v 32 y (sym (first_of (b + 8 - b) u ∙ rw z space)) (ey ∙ sym (get_or-drop (b + 8 - b) u 1 0 ∙ rw z refl)) refl above in
-        start_took false (Here (b + 8 + 1)) (b + 8 + 1) r (start_next (b + 8) v false refl (record { next = b + 8 + 1; doc = Absent }) o (λ t. omega arith)) refl
+        start_took false (Some (b + 8 + 1)) (b + 8 + 1) r (start_next (b + 8) v false refl (record { next = b + 8 + 1; doc = None }) o (λ t. omega arith)) refl
 
-    pub eight_alone : {f n : ℕ} → EightFlag f n w → (f ≡ 0 → ⊥) → initial (lower y) (set_of n) ≡ false → WordSetTo (record { flags = f; next = b + 8 }) n b u
+    pub eight_alone : {f : ℕ} {n : KeywordSet} → EightFlag f n w → (f ≡ 0 → ⊥) → initial (lower y) (set_of n) ≡ false → WordSetTo (record { flags = f; next = b + 8 }) n b u
     eight_alone {f} {n} g x t =
         let z : b + 8 + 1 - b ≡ 9 = omega arith in
         set_no_initial (eight_set g x) eight_gap (rest_from b (b + 8 + 1) u (omega arith) (omega arith)) (ap (λ (c : ℕ). initial (lower c) (set_of n)) (first_of (b + 8 + 1 - b) u ∙ (rw z (sym ey))) ∙ t)
 
 -- the flags of a set, by its size
-pub set_fits : {r : WordSet} {n b : ℕ} {u : List ℕ} → WordSetTo r n b u → r.flags < 2 ^ length (set_of n)
+pub set_fits : {r : WordSet} {n : KeywordSet} {b : ℕ} {u : List ℕ} → WordSetTo r n b u → r.flags < 2 ^ length (set_of n)
 unfolding set_flags ◌>>=◌ ret
 set_fits {r} {n} {b} {u} h = go (keywords_set (set_of n) b u) refl
   where

@@ -1,7 +1,7 @@
 -- Words, keywords and tags: one law for each way through a reader.
 use mathlib.Core.Path.{◌≡◌, refl, sym, ap, ◌∙◌}
 use mathlib.Core.List.{List, [], ◌∷◌}
-use mathlib.Core.Bool.{Bool, true, false, ◌||◌, not, false≢true}
+use mathlib.Core.Bool.{Bool, true, false, ◌&&◌, ◌||◌, not, false≢true}
 use mathlib.Core.Logic.{◌⊎◌, inl, inr}
 use Prim.Native.Nat.{ℕ, zero, suc, ◌+◌, ◌-◌, ◌/◌, ◌≤◌, ◌<◌, zero-le}
 use native.Mathlib.Omega.{arith}
@@ -10,19 +10,21 @@ use lib.Count.{count_trailing_zeros, trailing_le}
 use lib.Dec.{eqb, ltb}
 use lib.ListN.{length, drop, get_or}
 use borrow.Author.Count.{below_none, below_more}
-use borrow.Author.Tests.{eq-eqb, ne_eqb, lt-ltb, ltb-true, ltb-false}
+use borrow.Author.Tests.{eq-eqb, ne_eqb, ltb-true, ltb-false}
+use Rattle.std.specs.List.{list_all}
 use Rattle.lexing.specs.bytes.{within, is_letter, is_digit, is_word, lower, list_take_while, list_drop_while}
 use Rattle.lexing.specs.reply.{Reply, ok, fail, stop, Parser, ret, ◌>>=◌, position, fail_at, pick}
 use Rattle.lexing.specs.words.{Word, word, bytes_of, parse_id, is_key_letter, are_key_letters, is_key, is_keyword, keyword, tag}
-use Rattle.lexing.specs.answers.{Rest, lost_of, lost_reply, word_at, word_reply, WordAt, Fail}
+use Rattle.lexing.specs.answers.{Rest, lost_reply, word_at, word_reply, WordAt}
 use Rattle.lexing.specs.inner.eights.{pack, bytes_from, failing, is_alpha}
 use Rattle.lexing.specs.inner.words.{word_end, is_key_byte, Agree, KeyAt, HasKey}
 use Rattle.lexing.specs.declared.answers.Lost.{Lost}
-use Rattle.lexing.specs.declared.answers.Step.{Step}
-use Rattle.lexing.specs.declared.answers.Step.TheVariants.{Next, Not}
+use Rattle.std.specs.Prelude.{Ok, Err}
+use Rattle.lexing.specs.answers.{Step}
+use Rattle.lexing.specs.declared.answers.Lost.TheVariants.{Fail}
 use Rattle.lexing.proofs.Scans.{first_of, take_run, drop_run, run_le, run_byte, run_stops, run_passes, RunAt, turns, runs_on}
 use Rattle.lexing.proofs.TokenRuns.{id_nil, id_yes, id_no}
-use Rattle.lexing.proofs.Slicing.{Took, rest_from, word_took, step_lost}
+use Rattle.lexing.proofs.Slicing.{Took, rest_from, word_took}
 use Rattle.lexing.proofs.eights.Laws.{Bytes, pack_alike, no_bits, passing}
 use Rattle.lexing.proofs.EveryByte.{every, every_at, same, alike_at}
 use Rattle.lexing.proofs.Tests.{eq_of, and_left, and_right, false_if, digit_no_letter, letter_word}
@@ -206,23 +208,13 @@ key_some : (k : List ℕ) → is_key k ≡ true → 0 < length k
 key_some [] e = absurd (false≢true e)
 key_some (x ∷ k) e = omega arith
 
--- all of the first i bytes are a keyword's
-abbrev pub KeyLetters : List ℕ → ℕ → Type 0
-KeyLetters k i = (i ≤ length k) × ((j : ℕ) → j < i → is_key_letter (get_or k j 0) ≡ true)
+letters_all_are : (k : List ℕ) → list_all is_key_letter k ≡ are_key_letters k
+letters_all_are [] = refl
+letters_all_are (x ∷ k) = ap (λ t. is_key_letter x && t) (letters_all_are k)
 
-letters_are : (k : List ℕ) → ((j : ℕ) → j < length k → is_key_letter (get_or k j 0) ≡ true) → are_key_letters k ≡ true
-letters_are [] h = refl
-letters_are (x ∷ k) h = rw (h 0 (omega arith)) (letters_are k (λ j l. h (suc j) (omega arith)))
-
-pub is_key_not : (k : List ℕ) (i : ℕ) → i < length k → is_key_letter (get_or k i 0) ≡ false → false ≡ is_key k
-is_key_not k i h e = sym (false_if (is_key k) (λ q. false≢true (sym e ∙ key_letter k q i h)))
-
-pub is_key_end : (k : List ℕ) (i : ℕ) → KeyLetters k i → length k ≤ i → ltb 0 i ≡ is_key k
-is_key_end k i h le = let z : i ≡ length k = omega (arith, h.0) in rw z (all k (λ j l. h.1 j (omega arith)))
-  where
-    all : (k : List ℕ) → ((j : ℕ) → j < length k → is_key_letter (get_or k j 0) ≡ true) → ltb 0 (length k) ≡ is_key k
-    all [] h = refl
-    all (x ∷ k) h = lt-ltb 0 (length (x ∷ k)) (omega arith) ∙ sym (letters_are (x ∷ k) h)
+pub is_key_all : (k : List ℕ) → 0 < length k → list_all is_key_letter k ≡ is_key k
+is_key_all [] h = absurd (omega arith)
+is_key_all (x ∷ k) h = letters_all_are (x ∷ k)
 
 -- the letters at the front of eight bytes, told by the number of the bytes
 module _ (u : List ℕ) (i w m : ℕ) (b : Bytes (λ j. get_or u j 0)) (e : w ≡ pack 8 (bytes_from u i)) (d : m ≡ failing is_alpha w) (le : i + 8 ≤ length u) {to : ℕ} (r : RunAt is_word u to i) where
@@ -252,19 +244,19 @@ module _ (b c : ℕ) (u : List ℕ) (at : (b ≤ c) × (c ≤ b + length u)) (e 
   rest : Rest b u c (drop (c - b) u)
   rest = rest_from b c u at.0 at.1
 
-  none : is_letter (get_or u (c - b) 0) ≡ false → WordAt parse_id (Not (Fail c)) b u c
+  none : is_letter (get_or u (c - b) 0) ≡ false → WordAt parse_id (Err (Fail c)) b u c
   none d = record { at = rest; reads = parse_id_no c (drop (c - b) u) (ap is_letter (first_of (c - b) u) ∙ d) }
 
   pub word_inside : e ≤ length u
   word_inside = omega (arith, run_le is_word (drop (c - b) u), rest.size)
 
-  pub word_empty : e ≡ c - b → WordAt parse_id (Not (Fail c)) b u c
+  pub word_empty : e ≡ c - b → WordAt parse_id (Err (Fail c)) b u c
   word_empty z = none (false_if _ (λ d. omega (arith, run_longer (drop (c - b) u) 0 zero-le (letter_word _ (ap is_letter (first_of (c - b) u) ∙ d)))))
 
-  pub word_digit : is_digit (get_or u (c - b) 0) ≡ true → WordAt parse_id (Not (Fail c)) b u c
+  pub word_digit : is_digit (get_or u (c - b) 0) ≡ true → WordAt parse_id (Err (Fail c)) b u c
   word_digit d = none (digit_no_letter _ d)
 
-  pub word_some : (e ≡ c - b → ⊥) → is_digit (get_or u (c - b) 0) ≡ false → WordAt parse_id (Next (b + e)) b u c
+  pub word_some : (e ≡ c - b → ⊥) → is_digit (get_or u (c - b) 0) ≡ false → WordAt parse_id (Ok (b + e)) b u c
   word_some some d =
       let n = length (list_take_while is_word (drop (c - b) u)) in
       let z : b + e ≡ c + n = omega (arith, at.0) in
@@ -280,12 +272,12 @@ pub word_self : {m : Parser Word} (r : Step) (b : ℕ) (u : List ℕ) → WordAt
 word_self r b u h = let z : b - b ≡ 0 = omega arith in rw z at h.reads
 
 -- as a step of a sequence: taken, and lost
-module _ {b n : ℕ} {u : List ℕ} {a : Step} where
-  pub word_at_took : {c : ℕ} → a ≡ Next c → WordAt parse_id a b u n → Took parse_id b u n (word_at n (drop (n - b) u) c) c
-  word_at_took e h = word_took h.at e h.reads
+module _ {b n : ℕ} {u : List ℕ} where
+  pub word_at_took : {c : ℕ} → WordAt parse_id (Ok c) b u n → Took parse_id b u n (word_at n (drop (n - b) u) c) c
+  word_at_took h = word_took h.at h.reads
 
-  pub word_at_lost : {m : Parser Word} {l l' : Lost} → l' ≡ lost_of a → a ≡ Not l → WordAt m a b u n → lost_reply l' ≡ m n (drop (n - b) u)
-  word_at_lost e d h = step_lost (word_at _ _) e d _ _ _ h.reads
+  pub word_at_lost : {m : Parser Word} {l : Lost} → WordAt m (Err l) b u n → lost_reply l ≡ m n (drop (n - b) u)
+  word_at_lost h = h.reads
 
 -- the comparison
 pub key_start : (k u : List ℕ) → length k ≤ length u → KeyAt k u 0
@@ -297,9 +289,6 @@ key_more k u i h lt e =
     let l = eq_of _ _ (and_left (eqb (lower (get_or u i 0)) (get_or k i 0)) (is_word (get_or u i 0)) e) in
     let w = and_right (eqb (lower (get_or u i 0)) (get_or k i 0)) (is_word (get_or u i 0)) e in
     record { inside = omega arith; enough = h.enough; agree = below_more _ i h.agree l; word = omega (arith, run_longer u i h.word w) }
-
-pub key_end : (k u : List ℕ) (i : ℕ) → KeyAt k u i → length k ≤ i → KeyAt k u (length k)
-key_end k u i h le = let z : i ≡ length k = omega (arith, h.inside) in rw z at h
 
 -- eight bytes at once
 pub key_eight : (k u : List ℕ) → is_key k ≡ true → length k ≤ length u → 8 ≤ length k → Bytes (λ j. get_or u j 0) → Bytes (λ j. get_or k j 0) → pack 8 (bytes_from u 0) ≡ pack 8 (bytes_from k 0) → KeyAt k u 8

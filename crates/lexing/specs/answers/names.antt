@@ -5,10 +5,8 @@ use Rattle.lexing.specs.reply.{Parser, ◌>>◌}
 use Rattle.lexing.specs.words.{Word, parse_id, keyword, tag}
 use Rattle.lexing.specs.integers.{positive_integer}
 use Rattle.lexing.specs.blanks.{whitespace0, whitespace1}
-use Rattle.lexing.specs.answers.{Rest, Answer, got, lost, ReadTo, NameIn, word_between, Fail}
-use Rattle.lexing.specs.declared.answers.Lost.{Lost}
+use Rattle.lexing.specs.answers.{Rest, Read, ReadTo, NameIn, word_between}
 use Rattle.lexing.specs.declared.names.Named.{Named}
-use Rattle.lexing.specs.declared.names.Named.TheVariants.{Name, NoName}
 
 -- blanks and a name; at least one blank and a name
 abbrev pub blank_word : Parser Word
@@ -50,23 +48,17 @@ equals_code = do
   whitespace0
   positive_integer
 
-abbrev pub named_answer : ℕ → List ℕ → Named → Answer Word
-named_answer b u (Name n e c) = got (word_between b u n e) c
-named_answer b u (NoName l) = lost l
-
-abbrev pub named_lost : Named → Lost
-named_lost (Name n e c) = Fail c
-named_lost (NoName l) = l
+abbrev pub word_of : ℕ → List ℕ → Named → Word
+word_of b u n = word_between b u n.start n.end
 
 -- a name has a byte or more
-abbrev pub NamedIn : ℕ → Named → Type 0
-NamedIn b (Name n e c) = NameIn b n e c × (n < e)
-NamedIn b (NoName l) = Unit {0}
+abbrev pub NamedIn : ℕ → Named → ℕ → Type 0
+NamedIn b n c = NameIn b n.start n.end c × (n.start < n.end)
 
-abbrev pub NamedTo : Parser Word → Named → ℕ → List ℕ → Type 0
-NamedTo m r b u = ReadTo named_answer NamedIn m r b u
+abbrev pub NamedTo : Parser Word → Read Named → ℕ → List ℕ → Type 0
+NamedTo m r b u = ReadTo word_of NamedIn m r b u
 
 -- the same from an offset c of a part
-pub record NamedAt (m : Parser Word) (r : Named) (b : ℕ) (u : List ℕ) (c : ℕ) : Type 0 where
+pub record NamedAt (m : Parser Word) (r : Read Named) (b : ℕ) (u : List ℕ) (c : ℕ) : Type 0 where
   pub at : Rest b u c (drop (c - b) u)
   pub named : NamedTo m r c (drop (c - b) u)

@@ -1,9 +1,7 @@
 -- What the private functions of the readers of integers promise.
-use Rattle.std.specs.Prelude.{ℕ, ◌≤◌, ◌<◌, ◌≡◌, Bool, true, false, ◌&&◌, ◌||◌, List, eqb, length, get_or}
+use Rattle.std.specs.Prelude.{ℕ, ◌≤◌, ◌<◌, ◌≡◌, Bool, true, false, ◌&&◌, ◌||◌, List, eqb, length, get_or, Option, Some, None}
 use Rattle.lexing.specs.bytes.{is_digit, is_hex, list_take_while, number}
 use Rattle.lexing.specs.integers.{u64_max}
-use Rattle.lexing.specs.declared.integers.Digits.{Digits}
-use Rattle.lexing.specs.declared.integers.Digits.TheVariants.{Count, Over}
 
 -- by the base: hexadecimal or not
 abbrev pub digit_test : Bool → ℕ → Bool
@@ -15,9 +13,9 @@ radix true = 16
 radix false = 10
 
 -- the digits at the front of u, and their value where it fits
-abbrev pub digits_are : Bool → List ℕ → Digits → Type 0
-digits_are h u (Count v n) = (v ≡ number (radix h) 0 (list_take_while (digit_test h) u)) × ((n ≡ length (list_take_while (digit_test h) u)) × (v ≤ u64_max))
-digits_are h u Over = u64_max < number (radix h) 0 (list_take_while (digit_test h) u)
+abbrev pub digits_are : Bool → List ℕ → Option (ℕ × ℕ) → Type 0
+digits_are h u (Some d) = (d.0 ≡ number (radix h) 0 (list_take_while (digit_test h) u)) × ((d.1 ≡ length (list_take_while (digit_test h) u)) × (d.0 ≤ u64_max))
+digits_are h u None = u64_max < number (radix h) 0 (list_take_while (digit_test h) u)
 
 -- `0x` or `0X` and a hexadecimal digit
 unfoldable pub is_hex_ahead : List ℕ → Bool

@@ -1,36 +1,24 @@
 -- What the private functions of unescaping promise.
-use Rattle.std.specs.Prelude.{ℕ, ◌+◌, ◌≤◌, ◌<◌, ◌≡◌, List, length, drop}
-use Rattle.std.proofs.Math.Option.{Option, none, some}
+use Rattle.std.specs.Prelude.{ℕ, ◌+◌, ◌≤◌, ◌<◌, ◌≡◌, Option, Some, None, Result, Ok, Err, List, length, drop}
 use Rattle.lexing.specs.unescaping.{Unescaped, gives, fault_at, first, unescape_from}
-use Rattle.lexing.specs.declared.unescaping.Size.{Size}
-use Rattle.lexing.specs.declared.unescaping.Size.TheVariants.{Needs, Faulty}
-use Rattle.lexing.specs.declared.unescaping.Meaning.{Meaning}
-use Rattle.lexing.specs.declared.unescaping.Meaning.TheVariants.{Byte, Nothing}
-use Rattle.lexing.specs.declared.unescaping.Piece.{Piece}
-use Rattle.lexing.specs.declared.unescaping.Piece.TheVariants.{Makes, Wrong}
 
 -- the count of the bytes that come out, or the first fault
-unfoldable pub size_of : Unescaped → Size
-size_of (gives l) = Needs (length l)
-size_of (fault_at k) = Faulty k
+unfoldable pub size_of : Unescaped → Result ℕ ℕ
+size_of (gives l) = Ok (length l)
+size_of (fault_at k) = Err k
 
--- what an escape means
-abbrev pub meant : Meaning → Option ℕ
-meant (Byte z) = some z
-meant Nothing = none
-
--- what comes out of the part u from offset b on, by the piece that is there
-abbrev pub out_of : List ℕ → ℕ → Piece → Unescaped
-out_of u b (Makes z n) = first z (unescape_from n (drop n u))
-out_of u b Wrong = fault_at b
+-- what comes out of the part u from offset b on, by the piece that is there: its byte and the offset after it
+abbrev pub out_of : List ℕ → ℕ → Option (ℕ × ℕ) → Unescaped
+out_of u b (Some p) = first p.0 (unescape_from p.1 (drop p.1 u))
+out_of u b None = fault_at b
 
 -- the offset after the piece at b, or after the byte at fault
-abbrev pub after : ℕ → Piece → ℕ
-after b (Makes z n) = n
-after b Wrong = b + 1
+abbrev pub after : ℕ → Option (ℕ × ℕ) → ℕ
+after b (Some p) = p.1
+after b None = b + 1
 
 -- p is the piece of the part u at offset b
-pub record PieceAt (u : List ℕ) (b : ℕ) (p : Piece) : Type 0 where
+pub record PieceAt (u : List ℕ) (b : ℕ) (p : Option (ℕ × ℕ)) : Type 0 where
   pub out : unescape_from b (drop b u) ≡ out_of u b p
   pub onward : b < after b p
   pub inside : after b p ≤ length u

@@ -1,6 +1,5 @@
 -- What the private functions of the test for well-formed UTF-8 promise.
-use Rattle.std.specs.Prelude.{ℕ, suc, ◌+◌, ◌-◌, ◌≤◌, ◌<◌, Bool, true, false, ◌&&◌, List, [], ◌∷◌, length, get_or, replicate}
-use Rattle.std.proofs.Math.Option.{Option, none, some}
+use Rattle.std.specs.Prelude.{ℕ, suc, ◌+◌, ◌-◌, ◌≤◌, ◌<◌, Bool, true, false, ◌&&◌, List, [], ◌∷◌, length, get_or, replicate, Option, Some, None}
 use Rattle.lexing.specs.utf8.{Range, ◌to◌, has, following, table}
 
 -- whether the bytes at the front are in the ranges, one in each
@@ -9,14 +8,14 @@ fits [] u = true
 fits (r ∷ rs) [] = false
 fits (r ∷ rs) (x ∷ u) = has r x && fits rs u
 
--- the length of a sequence with these ranges after its first byte, 0 where the bytes after that do not fit
-unfoldable pub size_of : Option (List Range) → List ℕ → ℕ
-size_of none u = 0
-size_of (some rs) u = elim (fits rs u) [ true ↦ suc (length rs) | false ↦ 0 ]
+-- the length of a sequence with these ranges after its first byte, none where the bytes after that do not fit
+unfoldable pub size_of : Option (List Range) → List ℕ → Option ℕ
+size_of None u = None
+size_of (Some rs) u = elim (fits rs u) [ true ↦ Some (suc (length rs)) | false ↦ None ]
 
--- the length of the well-formed sequence at the front, 0 where there is none
-unfoldable pub sequence_size : List ℕ → ℕ
-sequence_size [] = 0
+-- the length of the well-formed sequence at the front, if any
+unfoldable pub sequence_size : List ℕ → Option ℕ
+sequence_size [] = None
 sequence_size (x ∷ u) = size_of (following table x) u
 
 -- the ranges after the first byte of a sequence of n bytes, 2 or more, whose second byte is from lo to hi

@@ -1,12 +1,11 @@
 -- What the private functions of the reader of word sets promise.
-use Rattle.std.specs.Prelude.{ℕ, suc, ◌+◌, ◌-◌, ◌/◌, ◌%◌, ◌^◌, ◌≤◌, ◌<◌, ◌≡◌, Bool, true, false, ◌||◌, List, [], ◌∷◌, eqb, length, take, drop, get_or}
+use Rattle.std.specs.Prelude.{ℕ, suc, ◌+◌, ◌-◌, ◌/◌, ◌%◌, ◌^◌, ◌≤◌, ◌<◌, ◌≡◌, Bool, true, false, ◌||◌, List, [], ◌∷◌, Option, Some, None, eqb, length, take, drop, get_or}
 use Rattle.lexing.specs.reply.{Reply, ok, fail, Parser, ret, ◌>>◌}
 use Rattle.lexing.specs.words.{is_key, is_lower, keyword}
 use Rattle.lexing.specs.blanks.{whitespace1}
 use Rattle.lexing.specs.answers.{word_at, set_of}
 use Rattle.lexing.specs.inner.eights.{pack, bytes_from}
-use Rattle.lexing.specs.declared.word_sets.Start.{Start}
-use Rattle.lexing.specs.declared.word_sets.Start.TheVariants.{Here, Nowhere}
+use Rattle.lexing.specs.declared.word_sets.KeywordSet.{KeywordSet}
 
 -- the offset after the keyword k, or b where it is not there
 pub data KeywordEnd (k : List ℕ) (b : ℕ) (u : List ℕ) (r : ℕ) : Type 0 where
@@ -19,9 +18,9 @@ set_gap true = ret tt
 set_gap false = whitespace1 >> ret tt
 
 -- where the next word may start
-abbrev pub start_reply : Start → ℕ → List ℕ → Reply (Unit {0})
-start_reply (Here c) b u = ok tt c (drop (c - b) u)
-start_reply Nowhere b u = fail b
+abbrev pub start_reply : Option ℕ → ℕ → List ℕ → Reply (Unit {0})
+start_reply (Some c) b u = ok tt c (drop (c - b) u)
+start_reply None b u = fail b
 
 -- flags with the bit p, where the word counts
 unfoldable pub with_flag : Bool → ℕ → ℕ → ℕ
@@ -46,6 +45,6 @@ pub record IsEight (w : ℕ) (k : List ℕ) : Type 0 where
   pub same : w ≡ pack 8 (bytes_from k 0)
 
 -- the flag of a set's keyword with the eight bytes of w, which j others follow, or 0
-pub data EightFlag (r set w : ℕ) : Type 0 where
+pub data EightFlag (r : ℕ) (set : KeywordSet) (w : ℕ) : Type 0 where
   some : (k j : ℕ) → suc (k + j) ≡ length (set_of set) → IsEight w (get_or (set_of set) k []) → r ≡ 2 ^ j → EightFlag r set w
   none : r ≡ 0 → EightFlag r set w

@@ -1,29 +1,18 @@
 -- Laws of bits: a byte's bits, one bit of an array set, and an array of clear bits.
-use Prim.Native.Nat.{ℕ, zero, suc, ◌^◌, ◌/◌, ◌%◌, ◌<◌}
+use Prim.Native.Nat.{ℕ, zero, suc, ◌*◌, ◌^◌, ◌/◌, ◌%◌, ◌<◌}
 use mathlib.Core.Path.{◌≡◌, refl, ap, ◌∙◌}
 use mathlib.Core.Bool.{false}
-use mathlib.Core.List.{List, [], ◌∷◌}
+use mathlib.Core.List.{List}
 use native.Mathlib.Omega.{arith}
 use native.Mathlib.Decide.{ℕ_discrete}
 use native.Mathlib.Nat.{div_self, div-eq_of_lt, zero-div, mod-lt, mul-div-mul_right, one-le-pow, pow-suc}
 use lib.Bits.{bit_or, or_shr, or_mod, or_zero_r}
 use lib.Dec.{eqb}
-use lib.ListN.{length, get_or, set, replicate, length-set}
+use lib.ListN.{length, get_or, set, replicate}
 use lib.Seq.{get_or-set_same, get_or-set_other}
 use borrow.Author.Tests.{eq-eqb}
+use Rattle.std.proofs.lemmas.Nat.{one_shl}
 use Rattle.matter_idl.specs.inner.bits.{bits_size, has_bit, BitSet}
-
--- the powers of two in a byte
-pub power_at : (i : ℕ) → i < 8 → get_or (1 ∷ 2 ∷ 4 ∷ 8 ∷ 16 ∷ 32 ∷ 64 ∷ 128 ∷ []) i 0 ≡ 2 ^ i
-power_at zero h = refl
-power_at (suc zero) h = refl
-power_at (suc (suc zero)) h = refl
-power_at (suc (suc (suc zero))) h = refl
-power_at (suc (suc (suc (suc zero)))) h = refl
-power_at (suc (suc (suc (suc (suc zero))))) h = refl
-power_at (suc (suc (suc (suc (suc (suc zero)))))) h = refl
-power_at (suc (suc (suc (suc (suc (suc (suc zero))))))) h = refl
-power_at (suc (suc (suc (suc (suc (suc (suc (suc i)))))))) h = absurd (omega arith)
 
 -- a power of two has its own bit and no other
 own_bit : (k : ℕ) → 2 ^ k / 2 ^ k % 2 ≡ 1
@@ -62,9 +51,13 @@ module _ (f : List ℕ) (i : ℕ) (z : length f ≡ bits_size) (l : i < 2 ^ 19) 
   other j h (yes e) = rw (e, byte_is, or_bit (get_or f (i / 8) 0) (2 ^ (i % 8)) (j % 8), other_bit (i % 8) (j % 8) (λ d. h (omega arith))) (or_zero_r (get_or f (i / 8) 0 / 2 ^ (j % 8) % 2))
   other j h (no e) = ap (λ x. x / 2 ^ (j % 8) % 2) (get_or-set_other f (i / 8) (j / 8) byte 0 e)
 
-  pub bit_set : BitSet with_bit f i
+  bit_set_at : BitSet with_bit f i
   unfolding has_bit
-  bit_set = record { size = length-set f (i / 8) byte; is = eq-eqb _ _ this_bit; others = λ j h. ap (λ x. eqb x 1) (other j h (ℕ_discrete (j / 8) (i / 8))) }
+  bit_set_at = record { is = eq-eqb _ _ this_bit; others = λ j h. ap (λ x. eqb x 1) (other j h (ℕ_discrete (j / 8) (i / 8))) }
+
+  -- 1 << k, as a byte
+  pub bit_set : BitSet (set f (i / 8) (bit_or (get_or f (i / 8) 0) (1 * 2 ^ (i % 8) % 2 ^ 8))) f i
+  bit_set = rw (one_shl (i % 8) 8 (omega arith)) bit_set_at
 
 -- an array of zeros has no bit
 zeros : (n j : ℕ) → get_or {A = ℕ} (replicate n 0) j 0 ≡ 0

@@ -1,14 +1,12 @@
 -- Laws of the filter before the search for an id.
-use Prim.Native.Nat.{ℕ, suc, ◌+◌, ◌-◌, ◌*◌, ◌^◌, ◌/◌, ◌%◌, ◌≤◌, ◌<◌}
+use Prim.Native.Nat.{ℕ, ◌+◌, ◌*◌, ◌^◌, ◌/◌, ◌≤◌, ◌<◌}
 use mathlib.Core.Path.{◌≡◌, refl, sym, ◌∙◌, ap}
 use mathlib.Core.Bool.{true, false, ◌&&◌}
 use mathlib.Core.List.{List, [], ◌∷◌, ◌++◌}
 use native.Mathlib.Omega.{arith}
 use native.Mathlib.Decide.{ℕ_discrete}
-use native.Mathlib.Nat.{add-zero, mod-lt, mul-le-mul}
+use native.Mathlib.Nat.{mul-le-mul}
 use lib.Dec.{eqb}
-use lib.ListN.{length, take, drop, get_or}
-use lib.Seq.{drop-cons}
 use borrow.Author.Tests.{eqb-true}
 use Rattle.lexing.specs.word_sets.{same_bytes}
 use Rattle.lexing.proofs.Tests.{and_left, and_right, false_if}
@@ -17,33 +15,8 @@ use Rattle.items.specs.records.{Record}
 use Rattle.lexing.proofs.Truth.{All}
 use Rattle.items.proofs.RecordsFit.{all_append}
 use Rattle.matter_idl.specs.demand_3.{bytes_at, is_global, has_global}
-use Rattle.matter_idl.specs.inner.bits.{bits_size, has_bit, BitSet}
-use Rattle.matter_idl.specs.inner.filter.{Grown, id_bits, hash_on, hash_of, position_of, Holds, Added, HoldsId, Filtered}
-
--- The hash of a name, of which the first i bytes are read.
-
-pub record HashAt (t : List ℕ) (k o n i h : ℕ) : Type 0 where
-  pub inside : i ≤ n
-  pub small : h < 2 ^ 32
-  pub left : hash_of k (take n (drop o t)) ≡ hash_on h (take (n - i) (drop (o + i) t))
-
-module _ (t : List ℕ) (k o n : ℕ) where
-  pub hash_start : k < 256 → HashAt t k o n 0 (0x811c9dc5 + k)
-  unfolding hash_of
-  hash_start l = record { inside = omega arith; small = omega arith; left = let z : n - 0 ≡ n = omega arith in rw (z, add-zero o) refl }
-
-  module _ {i h : ℕ} (s : HashAt t k o n i h) where
-    pub hash_end : n ≤ i → h ≡ hash_of k (take n (drop o t))
-    unfolding hash_on
-    hash_end l = let z : n - i ≡ 0 = omega (arith, s.inside) in sym (s.left ∙ rw z refl)
-
-    pub hash_more : i < n → o + n ≤ length t → HashAt t k o n (i + 1) ((h + get_or t (o + i) 0) * 0x1000193 % 2 ^ 32)
-    unfolding hash_on
-    hash_more l r =
-        let z : n - i ≡ suc (n - suc i) = omega arith in
-        let x : o + suc i ≡ suc (o + i) = omega arith in
-        let y : i + 1 ≡ suc i = omega arith in
-        rw y (record { inside = l; small = mod-lt _ (omega arith); left = s.left ∙ rw (z, drop-cons t (o + i) 0 (omega arith), x) refl })
+use Rattle.matter_idl.specs.inner.bits.{has_bit, BitSet}
+use Rattle.matter_idl.specs.inner.filter.{Grown, id_bits, hash_of, position_of, Holds, Added, HoldsId, Filtered}
 
 -- the step from bit to bit
 pub steps_small : {h j : ℕ} → h < 2 ^ 32 → j < id_bits → j * (h / 2 ^ 19 * 2 + 1) ≤ 7 * 16384
@@ -55,14 +28,14 @@ pub clear_bit : {f : List ℕ} {h j p : ℕ} → Holds f h → j < id_bits → p
 clear_bit {f} a l e c = let z : true ≡ false = sym (a.each_bit _ l) ∙ (ap (has_bit f) (sym e) ∙ c) in let y : ◌≡◌ {A = ℕ} 0 1 = cc in omega arith
 
 pub grown_same : (f : List ℕ) → Grown f f
-grown_same f = record { size = refl; kept = λ p h. h }
+grown_same f = record { kept = λ p h. h }
 
 pub grown_on : {f g k : List ℕ} → Grown k g → Grown g f → Grown k f
-grown_on a b = record { size = a.size ∙ b.size; kept = λ p h. a.kept p (b.kept p h) }
+grown_on a b = record { kept = λ p h. a.kept p (b.kept p h) }
 
 -- a bit that is set leaves the others
 set_grown : {f g : List ℕ} {p : ℕ} → BitSet g f p → Grown g f
-set_grown {f} {g} {p} b = record { size = b.size; kept = λ q h. go q h (ℕ_discrete q p) }
+set_grown {f} {g} {p} b = record { kept = λ q h. go q h (ℕ_discrete q p) }
   where
     go : (q : ℕ) → has_bit f q ≡ true → Dec (q ≡ p) → has_bit g q ≡ true
     go q h (yes e) = rw e b.is
@@ -90,12 +63,12 @@ module _ {g f : List ℕ} {h j : ℕ} (a : Adding g f h j) where
 
 -- The ids of records.
 
-pub filtered_none : {f : List ℕ} (t : List ℕ) → length f ≡ bits_size → Filtered f t []
-filtered_none t z = record { size = z; ids = tt }
+pub filtered_none : {f : List ℕ} (t : List ℕ) → Filtered f t []
+filtered_none t = record { ids = tt }
 
 -- the first of records
 pub filtered_front : {f t : List ℕ} (l k : List Record) → Filtered f t (l ++ k) → Filtered f t l
-filtered_front {f} {t} l k h = record { size = h.size; ids = go l h.ids }
+filtered_front {f} {t} l k h = record { ids = go l h.ids }
   where
     go : (l : List Record) → All (HoldsId f t) (l ++ k) → All (HoldsId f t) l
     go [] a = tt
@@ -108,7 +81,7 @@ module _ {f g : List ℕ} (w : Grown g f) (t : List ℕ) where
 
   -- one record more
   pub filtered_more : {l : List Record} → Filtered f t l → (r : Record) → HoldsId g t r → Filtered g t (l ++ (r ∷ []))
-  filtered_more {l} h r k = record { size = w.size ∙ h.size; ids = all_append (HoldsId g t) l (r ∷ []) (ids_kept l h.ids) (k, tt) }
+  filtered_more {l} h r k = record { ids = all_append (HoldsId g t) l (r ∷ []) (ids_kept l h.ids) (k, tt) }
 
 -- an id of which a bit is clear is that of no record
 module _ (f t : List ℕ) (k : ℕ) (i : List ℕ) (c : Holds f (hash_of k i) → ⊥) where

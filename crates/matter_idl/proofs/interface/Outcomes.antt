@@ -1,5 +1,5 @@
 -- What an outcome returns and leaves; that of reading, by the verdict on its text.
-use mathlib.Core.Path.{◌≡◌, refl, sym, ap, ◌∙◌, subst}
+use mathlib.Core.Path.{◌≡◌, refl, sym, ap, ◌∙◌}
 use mathlib.Core.Bool.{true, false}
 use mathlib.Core.List.{List, ◌++◌}
 use Prim.Native.Nat.{ℕ, ◌+◌, ◌*◌}
@@ -13,10 +13,7 @@ use Rattle.items.proofs.RecordWords.{catalogue_bytes_length}
 use Rattle.matter_idl.specs.hoisting.{no_ids, hoisted}
 use Rattle.matter_idl.specs.reading.{into_catalogue, reading}
 use Rattle.matter_idl.specs.interface.{number_unit, answer_of}
-use Rattle.matter_idl.specs.answers.reading.{AcceptedTo, RefusedTo, VerdictTo}
-use Rattle.matter_idl.specs.declared.reading.Verdict.{Verdict}
-use Rattle.matter_idl.specs.declared.reading.Verdict.TheVariants.{Accepted, Refused}
-use Rattle.matter_idl.specs.inner.bits.{bits_size}
+use Rattle.matter_idl.specs.answers.reading.{AcceptedTo, RefusedTo}
 use Rattle.matter_idl.specs.inner.reading.{HoistedItemsTo}
 use Rattle.matter_idl.proofs.reading.Marked.{hoisted_alone}
 
@@ -40,12 +37,6 @@ module _ {o : Outcome} where
   pub written_left : {l : List ℕ} → o ≡ written l → (old : List ℕ) {new : List ℕ} → new ≡ l ++ drop (length l) old → new ≡ afterwards o old
   unfolding afterwards
   written_left e old h = h ∙ ap (λ (x : Outcome). afterwards x old) (sym e)
-
-pub told_refused : (a : Verdict) (u : List ℕ) {k v : ℕ} → VerdictTo a u → a ≡ Refused k v → RefusedTo k v u
-told_refused a u h e = subst (λ (x : Verdict). VerdictTo x u) e h
-
-pub told_accepted : (a : Verdict) (u : List ℕ) {m : ℕ} → VerdictTo a u → a ≡ Accepted m → AcceptedTo m u
-told_accepted a u h e = subst (λ (x : Verdict). VerdictTo x u) e h
 
 pub refused_outcome : (u : List ℕ) (n : ℕ) {k v : ℕ} → RefusedTo k v u → read_20 u n ≡ refused k v
 unfolding reading into_catalogue
@@ -72,6 +63,6 @@ module _ (u : List ℕ) (n : ℕ) {m : ℕ} (h : AcceptedTo m u) where
   unfolding fitted
   written_outcome e = let f : leb (length bytes_now) n ≡ true = ap (λ (i : ℕ). leb i n) size_now ∙ e in fitted_now ∙ rw (f, fitted) refl
 
-  pub read_left : {w : Wrote} {old filter₀ new filter : List ℕ} → length filter₀ ≡ bits_size → HoistedItemsTo new filter u old filter₀ 0 0 u w → new ≡ bytes_now ++ drop (length bytes_now) old
+  pub read_left : {w : Wrote} {old filter₀ new filter : List ℕ} → HoistedItemsTo new filter u old filter₀ 0 0 u w → new ≡ bytes_now ++ drop (length bytes_now) old
   unfolding bytes_now
-  read_left {old = old} z g = hoisted_alone z g h.whole.reads ∙ ap (λ (k : ℕ). bytes_now ++ drop k old) (sym (catalogue_bytes_length (hoisted no_ids h.whole.items)))
+  read_left {old = old} g = hoisted_alone g h.whole.reads ∙ ap (λ (k : ℕ). bytes_now ++ drop k old) (sym (catalogue_bytes_length (hoisted no_ids h.whole.items)))

@@ -1,7 +1,7 @@
 -- The verdict on a part: UTF-8, and then the first pass over its items; and that on a whole text, with its limit before them.
-use mathlib.Core.Path.{◌≡◌, refl, sym, ap, ◌∙◌, subst}
+use mathlib.Core.Path.{◌≡◌, refl, sym, ap, ◌∙◌}
 use mathlib.Core.Bool.{true, false}
-use mathlib.Core.Option.{Option, some}
+use Rattle.std.specs.Prelude.{Option, Some, None}
 use mathlib.Core.List.{List, [], ◌∷◌}
 use Prim.Native.Nat.{ℕ, zero, suc, ◌+◌, ◌*◌, ◌≤◌}
 use native.Mathlib.Omega.{arith}
@@ -9,10 +9,8 @@ use lib.Dec.{leb}
 use lib.ListN.{length}
 use Rattle.lexing.proofs.Numbers.{stop_part, part_text}
 use Rattle.lexing.specs.answers.{Rest, lost_reply}
-use Rattle.lexing.specs.utf8.{utf8_error, error_of}
+use Rattle.lexing.specs.utf8.{utf8_error}
 use Rattle.lexing.specs.declared.answers.Lost.{Lost}
-use Rattle.lexing.specs.declared.utf8.Utf8.{Utf8}
-use Rattle.lexing.specs.declared.utf8.Utf8.TheVariants.{WellFormed, IllFormed}
 use Rattle.lexing.proofs.Losses.{by_lost}
 use Rattle.lexing.proofs.Runs.{same}
 use Rattle.lexing.proofs.Onward.{Ends, Onward}
@@ -20,20 +18,18 @@ use Rattle.lexing.proofs.Slicing.{rest_self, took}
 use Rattle.lexing.proofs.utf8.Laws.{utf8_inside}
 use Rattle.lexing.specs.buffers.{each}
 use Rattle.items.specs.layout.{text_limit}
-use Rattle.items.specs.answers.{CountTo, count_lost, Room}
+use Rattle.items.specs.answers.{CountTo, Room}
 use Rattle.items.specs.answers.items.{unhoisted_item}
-use Rattle.items.specs.declared.counts.Count.{Count}
-use Rattle.items.specs.declared.counts.Count.TheVariants.{Words, NoCount}
 use Rattle.lexing.proofs.Composed.{onward_ret, onward_bind}
 use Rattle.lexing.proofs.RefusedPlaces.{RefusedIn, Placed, placed_ret, placed_bind}
 use Rattle.items.proofs.RefusedPlaces.{item_in}
-use Rattle.items.proofs.counts.Laws.{count_value, count_none}
+use Rattle.items.proofs.counts.Laws.{count_value, count_lost}
 use Rattle.items.proofs.items.Laws.{item_walks}
 use Rattle.matter_idl.specs.hoisting.{no_ids}
 use Rattle.matter_idl.specs.reading.{unless_ended, items_within, all_items, by_reply, by_utf8, verdict_at, verdict}
-use Rattle.matter_idl.specs.answers.reading.{refused_by, AcceptedAt, RefusedAt, VerdictAtTo, RefusedTo, VerdictTo}
-use Rattle.matter_idl.specs.declared.reading.Verdict.{Verdict}
-use Rattle.matter_idl.specs.declared.reading.Verdict.TheVariants.{Accepted, Refused}
+use Rattle.matter_idl.specs.answers.reading.{Verdict, refused_by, AcceptedAt, RefusedAt, VerdictAtTo, RefusedTo, VerdictTo}
+use Rattle.lexing.specs.answers.{number_of}
+use Rattle.std.specs.Prelude.{Ok, Err}
 use Rattle.matter_idl.proofs.Places.{hoisted_words}
 
 -- the place of every refusal lies in the part, and a stop's number is one of those where the Rust panics
@@ -66,37 +62,35 @@ module _ (b : ℕ) (t : List ℕ) where
 
 module _ (b : ℕ) (u : List ℕ) where
   -- a part that is not UTF-8
-  pub verdict_ill : (a : Utf8) (p : ℕ) → error_of a ≡ utf8_error b u → a ≡ IllFormed p → RefusedAt 2 p b u
+  pub verdict_ill : (p : ℕ) → Some p ≡ utf8_error b u → RefusedAt 2 p b u
   unfolding verdict_at by_utf8
-  verdict_ill a p h d =
-      let z : utf8_error b u ≡ some p = sym h ∙ ap error_of d in
-      let i = utf8_inside b u p z in
-      record { is = ap (λ (o : Option ℕ). by_utf8 o (by_reply (all_items b u))) z; number = refl; from = i.0; inside = omega (arith, i.1) }
+  verdict_ill p h =
+      let i = utf8_inside b u p (sym h) in
+      record { is = ap (λ (o : Option ℕ). by_utf8 o (by_reply (all_items b u))) (sym h); number = refl; from = i.0; inside = omega (arith, i.1) }
 
-  module _ (a : Utf8) (h : error_of a ≡ utf8_error b u) (d : a ≡ WellFormed) where
+  module _ (h : None ≡ utf8_error b u) where
     read_is : verdict_at b u ≡ by_reply (all_items b u)
     unfolding verdict_at by_utf8
-    read_is = ap (λ (o : Option ℕ). by_utf8 o (by_reply (all_items b u))) (sym h ∙ ap error_of d)
+    read_is = ap (λ (o : Option ℕ). by_utf8 o (by_reply (all_items b u))) (sym h)
 
-    lost_fits : (l : Lost) → lost_reply l ≡ all_items b u → VerdictAtTo (refused_by l) b u
+    lost_fits : (l : Lost) → lost_reply l ≡ all_items b u → VerdictAtTo (Err (refused_by l)) b u
     unfolding by_reply
     lost_fits =
         by_lost
-        (λ l. lost_reply l ≡ all_items b u → VerdictAtTo (refused_by l) b u)
+        (λ l. lost_reply l ≡ all_items b u → VerdictAtTo (Err (refused_by l)) b u)
         (λ p z.
         let k = rw (← z) at (all_refused b u) in
         record { is = read_is ∙ ap by_reply (sym z); number = refl; from = k.after; inside = k.before })
         (λ n p z.
         let k = rw (← z) at (all_refused b u) in
-        record { is = read_is ∙ ap by_reply (sym z); number = stop_part n k.1; from = k.0.after; inside = k.0.before })
+        record { is = read_is ∙ ap by_reply (sym z); number = stop_part (number_of n) k.1; from = k.0.after; inside = k.0.before })
 
-    pub verdict_lost : (r : Count) (l l' : Lost) → CountTo (each unhoisted_item) all_items r b u → r ≡ NoCount l → l' ≡ count_lost r → (v : Verdict) → v ≡ refused_by l' → VerdictAtTo v b u
-    verdict_lost r l l' c x y v w = subst (λ (o : Verdict). VerdictAtTo o b u) (sym w) (lost_fits l' (count_none y x b u c))
+    pub verdict_lost : (l : Lost) → CountTo (each unhoisted_item) all_items (Err l) b u → VerdictAtTo (Err (refused_by l)) b u
+    verdict_lost l c = lost_fits l (count_lost b u c)
 
-    pub verdict_read : (r : Count) (n c : ℕ) → CountTo (each unhoisted_item) all_items r b u → r ≡ Words n c → AcceptedAt n b u
+    pub verdict_read : (n c : ℕ) → CountTo (each unhoisted_item) all_items (Ok (n, c)) b u → AcceptedAt n b u
     unfolding by_reply
-    verdict_read r n c k x =
-        let g : CountTo (each unhoisted_item) all_items (Words n c) b u = subst (λ (o : Count). CountTo (each unhoisted_item) all_items o b u) x k in
+    verdict_read n c g =
         let o = count_value (each unhoisted_item) all_items b u n c g in
         let t = took all_on (rest_self b u) o.is in
         record { items = o.value; next = c; is = read_is ∙ ap by_reply (sym o.is); reads = o.is; words = λ t. hoisted_words t o.value ∙ o.words; few = omega (arith, g.few, t.inside) }
@@ -112,5 +106,5 @@ verdict_long u e = record { is = rw (e, verdict) refl; number = refl; value = om
 
 pub verdict_short : (u : List ℕ) → leb (length u) text_limit ≡ true → length u ≤ text_limit → (v : Verdict) → VerdictAtTo v 0 u → VerdictTo v u
 unfolding verdict
-verdict_short u e s (Accepted n) h = record { short = s; whole = h; is = rw (e, verdict) h.is }
-verdict_short u e s (Refused k p) h = record { is = rw (e, verdict) h.is; number = part_text k h.number; value = omega (arith, h.inside, s) }
+verdict_short u e s (Ok n) h = record { short = s; whole = h; is = rw (e, verdict) h.is }
+verdict_short u e s (Err r) h = record { is = rw (e, verdict) h.is; number = part_text (number_of r.refusal) h.number; value = omega (arith, h.inside, s) }

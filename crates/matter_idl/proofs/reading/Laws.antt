@@ -8,13 +8,11 @@ use native.Mathlib.Decide.{ℕ_discrete}
 use lib.ListN.{length, drop}
 use Rattle.lexing.specs.reply.{Reply, ok, fail, stop, Parser, ret, ◌>>◌, many0}
 use Rattle.lexing.specs.blanks.{whitespace0, whitespace1}
-use Rattle.lexing.specs.answers.{lost_reply, Rest, doc_of, BlankTo, Fail, Stop}
+use Rattle.lexing.specs.answers.{lost_reply, Rest, doc_of, BlankTo}
 use Rattle.lexing.specs.declared.answers.Lost.{Lost}
 use Rattle.lexing.specs.declared.blanks.Blank.{Blank}
-use Rattle.lexing.specs.declared.blanks.DocSpan.TheVariants.{Absent}
-use Rattle.lexing.proofs.Losses.{by_lost}
 use Rattle.lexing.proofs.blanks.Laws.{gap_none, gap_some}
-use Rattle.lexing.proofs.Repetition.{ManyAt, many0_step}
+use Rattle.lexing.proofs.Repetition.{ManyAt, before, many0_step, many0_stop}
 use Rattle.lexing.proofs.Slicing.{Took, rest_self, rest_from, rebase, blank_took, or_here, took}
 use Rattle.lexing.proofs.TextEnd.{clear_blank}
 use Rattle.items.specs.items.{Item, blank_item, item}
@@ -27,16 +25,18 @@ use Rattle.items.specs.layout.{layout, catalogue_bytes, word_count}
 use Rattle.items.specs.answers.{CountTo, Room, Written}
 use Rattle.items.specs.answers.items.{unhoisted_item, DeclarationCountTo}
 use Rattle.items.specs.declared.writing.Wrote.{Wrote}
-use Rattle.items.specs.declared.counts.Count.{Count}
-use Rattle.items.specs.declared.counts.Count.TheVariants.{Words, NoCount}
+use Rattle.std.specs.Prelude.{Ok, Err, None}
+use Rattle.lexing.specs.declared.answers.Refusal.{Refusal}
+use Rattle.lexing.specs.declared.answers.Lost.TheVariants.{Fail, Stop}
 use Rattle.items.proofs.Locality.{item_consumes}
 use Rattle.items.proofs.RecordsFit.{all_append}
-use Rattle.items.proofs.RecordWords.{Elementwise, each_elementwise, catalogue_bytes_none, catalogue_bytes_append, catalogue_bytes_length, word_count_append}
+use Rattle.items.proofs.RecordWords.{each_elementwise, catalogue_bytes_none, catalogue_bytes_append, catalogue_bytes_length, word_count_append}
+use Rattle.items.specs.inner.runs.{Elementwise}
 use Rattle.lexing.proofs.buffers.Laws.{put_nothing, put_length, put_on}
-use Rattle.items.proofs.Braces.{rest_is}
+use Rattle.items.proofs.Braces.{ok_no_stop, rest_is}
 use Rattle.lexing.proofs.Sequences.{then_ok, then_fail}
 use Rattle.lexing.proofs.steps.Laws.{rest_clear}
-use Rattle.items.proofs.counts.Laws.{Counting, counting_start, counting_more, count_took, count_lost_lem, count_is, count_not, count_pass}
+use Rattle.items.proofs.counts.Laws.{Counting, counting_start, counting_more, count_took, count_lost, count_is, count_not}
 use Rattle.items.proofs.items.Laws.{item_is, declaration_walks, item_walks, item_words, item_lost, item_blank}
 use Rattle.items.proofs.items.Ends.{item_cases}
 use Rattle.items.proofs.writing.Laws.{Writing, writing_start, writing_start_seen, writing_same, writing_fits, writing_more, writing_more_seen, no_room}
@@ -70,7 +70,7 @@ module _ {b c : ℕ} {u r : List ℕ} (q : Rest b u c r) {t : Blank} (w : BlankT
   end_none : drop (t.next - b) u ≡ []
   end_none = nothing_left (drop (t.next - b) u) (omega (arith, end_rest.size, e))
 
-  end_lost : DeclarationCountTo (NoCount (Fail t.next)) t.next (drop (t.next - b) u)
+  end_lost : DeclarationCountTo (Err (Fail t.next)) t.next (drop (t.next - b) u)
   end_lost = record { counts = λ d. count_not unhoisted_item (declaration d) _ _ (Fail t.next) (sym (ap (declaration d t.next) end_none ∙ no_declaration d t.next)) }
 
 -- the first pass
@@ -82,44 +82,40 @@ items_start b u = counting_start items_one item b u
 
 module _ {b c n : ℕ} {u r : List ℕ} (i : CountingItems b u c n) (q : Rest b u c r) where
   -- an item of k words
-  more : {x : Count} {k e : ℕ} → CountTo unhoisted_item item x c r → x ≡ Words k e → CountingItems b u e (n + k) × (c < e)
-  more h z = let s = count_took item_walks q z h in counting_more items_one item item_consumes s.value i s.step s.words (λ l. s.few)
+  more : {k e : ℕ} → CountTo unhoisted_item item (Ok (k, e)) c r → CountingItems b u e (n + k) × (c < e)
+  more h = let s = count_took item_walks q h in counting_more items_one item item_consumes s.value i s.step s.words (λ l. s.few)
 
   module _ {t : Blank} (w : BlankTo t c r) {v : List ℕ} (q' : Rest b u t.next v) where
     within : Rest c r t.next v
     within = rest_within q q' w.up
 
     -- blanks after which no declaration is
-    passed : {p : ℕ} → DeclarationCountTo (NoCount (Fail p)) t.next v → CountingItems b u t.next n
+    passed : {p : ℕ} → DeclarationCountTo (Err (Fail p)) t.next v → CountingItems b u t.next n
     passed h = go (ℕ_discrete t.next c)
       where
         go : Dec (t.next ≡ c) → CountingItems b u t.next n
         go (yes e) = subst (λ (s : ℕ). CountingItems b u s n) (sym e) i
-        go (no e) = let z : n + 0 ≡ n = omega arith in rw z at (more (item_blank w within h e refl refl) refl).0
+        go (no e) = let z : n + 0 ≡ n = omega arith in rw z at (more (item_blank w within h e refl)).0
 
-    module _ {x : Count} (h : DeclarationCountTo x t.next v) where
-      pub items_more : {k e : ℕ} → x ≡ Words k e → CountingItems b u e (n + k) × (c < e)
-      items_more z = more (item_words w within h z) z
+    pub items_more : {k e : ℕ} → DeclarationCountTo (Ok (k, e)) t.next v → CountingItems b u e (n + k) × (c < e)
+    items_more h = more (item_words w within h)
 
-      -- what is lost of a declaration is lost of all items, after blanks too
-      pub items_lost : (t.next ≡ b + length u → ⊥) → {l : Lost} → x ≡ NoCount l → CountTo (each unhoisted_item) all_items x b u
-      items_lost e {l} z = count_pass (each unhoisted_item) all_items b u x l z (go l (subst (λ (y : Count). DeclarationCountTo y t.next v) z h))
-        where
-          clear : BlankTo (record { next = t.next; doc = Absent }) t.next v
-          clear = clear_blank (rest_clear (blank_took q w) q')
+    -- what is lost of a declaration is lost of all items, after blanks too
+    pub items_lost : (t.next ≡ b + length u → ⊥) → (l : Lost) → DeclarationCountTo (Err l) t.next v → CountTo (each unhoisted_item) all_items (Err l) b u
+    items_lost e l h = count_not (each unhoisted_item) all_items b u l (go l h)
+      where
+        clear : BlankTo (record { next = t.next; doc = None }) t.next v
+        clear = clear_blank (rest_clear (blank_took q w) q')
 
-          stopped : (k p : ℕ) → DeclarationCountTo (NoCount (Stop k p)) t.next v → Dec (t.next ≡ c) → CountTo unhoisted_item item (NoCount (Stop k p)) c r
-          stopped k p g (yes y) = item_lost w within g y refl
-          stopped k p g (no y) = item_blank w within g y refl refl
+        stopped : (k : Refusal) (p : ℕ) → DeclarationCountTo (Err (Stop k p)) t.next v → Dec (t.next ≡ c) → CountTo unhoisted_item item (Err (Stop k p)) c r
+        stopped k p g (yes y) = item_lost w within g y
+        stopped k p g (no y) = item_blank w within g y refl
 
-          go : (l : Lost) → DeclarationCountTo (NoCount l) t.next v → lost_reply l ≡ all_items b u
-          go =
-              by_lost
-              (λ l. DeclarationCountTo (NoCount l) t.next v → lost_reply l ≡ all_items b u)
-              (λ p g. all_lost (passed g).run q' (bytes_left q' e) (Fail p) (count_lost_lem (Fail p) refl t.next v (item_lost clear (rest_self t.next v) g refl refl)))
-              (λ k p g. all_lost i.run q (omega (arith, bytes_left q' e, q.size, q'.size, w.up)) (Stop k p) (count_lost_lem (Stop k p) refl c r (stopped k p g (ℕ_discrete t.next c))))
+        go : (l : Lost) → DeclarationCountTo (Err l) t.next v → lost_reply l ≡ all_items b u
+        go (Fail p) g = all_lost (passed g).run q' (bytes_left q' e) (Fail p) (count_lost t.next v (item_lost clear (rest_self t.next v) g refl))
+        go (Stop k p) g = all_lost i.run q (omega (arith, bytes_left q' e, q.size, q'.size, w.up)) (Stop k p) (count_lost c r (stopped k p g (ℕ_discrete t.next c)))
 
-  pub items_ended : {t : Blank} → BlankTo t c r → t.next ≡ b + length u → CountTo (each unhoisted_item) all_items (Words n t.next) b u
+  pub items_ended : {t : Blank} → BlankTo t c r → t.next ≡ b + length u → CountTo (each unhoisted_item) all_items (Ok (n, t.next)) b u
   items_ended {t} w e =
       let j = passed w (end_rest q w e) (end_lost q w e) in
       count_is (each unhoisted_item) all_items b u j.seen n t.next j.words j.few (all_ended j.run (end_rest q w e) (end_none q w e))
@@ -197,7 +193,9 @@ module _ (b : ℕ) (u : List ℕ) (at : ℕ) (old : List ℕ) (room : Room (each
                 go (inl h) = declared a n s (rw within.same h)
                 go (inr h) = absurd (blank a n s h.1.0 y (blank_ends w h.0) (rw within.same h.1.1))
             find (fail p) y = absurd (lost (Fail p) (sym y))
-            find (stop k p) y = absurd (lost (Stop k p) (sym y))
+            find (stop k p) y =
+                let e = many0_stop item item_consumes c (drop (c - b) u) k p (ap (item c) (sym q.same) ∙ y) in
+                absurd (ok_no_stop (accepted_many b u room.is).0 (sym (i.run.left ∙ ap (before i.seen) e)))
 
 -- The second pass with hoisting, from the tables ts of earlier items on: the records of the items so far are in the buffer, marked, and Q holds of them. Had none been marked, another buffer would be there, of which the laws above speak.
 pub record HoistingItems (Q : List Record → Type 0) (ts : Tables) (b : ℕ) (u : List ℕ) (c at : ℕ) (old new : List ℕ) (to : ℕ) : Type 0 where
@@ -319,5 +317,5 @@ module _ (ts : Tables) (b : ℕ) (u : List ℕ) (at : ℕ) (old : List ℕ) (roo
           finish : Dec (t.next ≡ c) → Ended
           finish (yes y) = done_with seen_now (subst (λ (n : ℕ). ManyAt item b u n seen_now) (sym y) i.writing.run) i.true_items refl
           finish (no y) =
-              let s = count_took item_walks q refl (item_blank w (rest_within q (end_rest q w e) w.up) (end_lost q w e) y refl refl) in
+              let s = count_took item_walks q (item_blank w (rest_within q (end_rest q w e) w.up) (end_lost q w e) y refl) in
               done_with (seen_now ++ (s.value ∷ [])) (many0_step item_consumes i.writing.run s.step).0 (true_more s.step) (wordless ts seen_now s.value s.words)

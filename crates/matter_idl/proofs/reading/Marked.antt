@@ -21,7 +21,6 @@ use Rattle.items.proofs.RecordsFit.{all_append}
 use Rattle.items.proofs.RecordWords.{catalogue_bytes_none, catalogue_bytes_append, catalogue_bytes_length, word_count_none, word_count_append, word_count_more, each_elementwise}
 use Rattle.matter_idl.specs.hoisting.{Tables, no_ids, after_items, hoisted}
 use Rattle.matter_idl.specs.reading.{all_items}
-use Rattle.matter_idl.specs.inner.bits.{bits_size}
 use Rattle.matter_idl.specs.inner.filter.{Filtered}
 use Rattle.matter_idl.specs.inner.hoisting.{Unhoisted, HoistedTo}
 use Rattle.matter_idl.specs.inner.reading.{PartOf, HoistedFront, HoistedAfter, HoistedItemsTo}
@@ -37,9 +36,9 @@ unfolding put
 put_after at front xs tail e = rw (e, take_at front tail (length front) refl, drop-append-add front tail (length xs)) refl
 
 -- nothing is at the front yet
-unfoldable pub front_none : (t out : List ℕ) {filter : List ℕ} → length filter ≡ bits_size → HoistedFront t out filter 0
+unfoldable pub front_none : (t out : List ℕ) {filter : List ℕ} → HoistedFront t out filter 0
 unfolding hoisted
-front_none t out z = record { items = []; true_items = tt; tail = out; bytes = rw (catalogue_bytes_none layout) refl; ends = omega (arith, word_count_none); filtered = filtered_none t z }
+front_none t out = record { items = []; true_items = tt; tail = out; bytes = rw (catalogue_bytes_none layout) refl; ends = omega (arith, word_count_none); filtered = filtered_none t }
 
 module _ {t old filter : List ℕ} {at : ℕ} (f : HoistedFront t old filter at) where
   abbrev tables : Tables
@@ -157,10 +156,10 @@ after_same {old = old} {at = at} {w = w} room {f} h =
     )
 
 -- with nothing at the front, the items of the part alone
-pub hoisted_alone : {t old filter₀ new filter : List ℕ} {b : ℕ} {u : List ℕ} {w : Wrote} → length filter₀ ≡ bits_size → HoistedItemsTo new filter t old filter₀ 0 b u w → {l : List Item} {c : ℕ} {r : List ℕ} → ok l c r ≡ all_items b u → new ≡ catalogue_bytes layout (hoisted no_ids l) ++ drop (8 * word_count layout (hoisted no_ids l)) old
+pub hoisted_alone : {t old filter₀ new filter : List ℕ} {b : ℕ} {u : List ℕ} {w : Wrote} → HoistedItemsTo new filter t old filter₀ 0 b u w → {l : List Item} {c : ℕ} {r : List ℕ} → ok l c r ≡ all_items b u → new ≡ catalogue_bytes layout (hoisted no_ids l) ++ drop (8 * word_count layout (hoisted no_ids l)) old
 unfolding front_none
-hoisted_alone {t} {old} {w = w} z g {l} e =
-    let k = g (front_none t old z) in
+hoisted_alone {t} {old} {w = w} g {l} e =
+    let k = g (front_none t old) in
     let x = e ∙ sym k.is in
     let y : k.items ≡ l = cc in
     let f : k.front.items ≡ l = k.front_items ∙ y in

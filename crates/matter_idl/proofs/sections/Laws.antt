@@ -8,9 +8,9 @@ use native.Mathlib.Omega.{arith}
 use lib.Dec.{eqb}
 use lib.ListN.{length, take, drop, get_or, drop_of_length-le}
 use lib.Seq.{drop-cons, take-suc, take_all}
-use borrow.Author.Count.{below_none, below_more}
+use borrow.Author.Count.{below_more}
 use Rattle.lexing.proofs.Tests.{or_false}
-use Rattle.lexing.proofs.Scans.{turns, both_runs}
+use Rattle.lexing.proofs.Scans.{turns}
 use Rattle.matter_idl.specs.sections.{line_feed, cut_after, before_first, cut_from, sections}
 use Rattle.matter_idl.specs.inner.sections.{cut_at, Cutless, prefixed, left_at, Uncut, FirstSection}
 
@@ -88,16 +88,12 @@ module _ {u : List ℕ} {i : ℕ} (h : Uncut u i) where
 
 -- Bytes that hold no cut, passed at once.
 
-pub cutless_one : {r : Bool} {u : List ℕ} {i : ℕ} → r ≡ cut_at u i → Cutless r u i 1
-cutless_one {r} {u} {i} c = record { each = λ e. below_more _ 0 (below_none _) (let z : i + 0 ≡ i = omega arith in rw z (sym c ∙ e)) }
+pub cutless_none : {u : List ℕ} {i : ℕ} → Cutless false u i 0
+cutless_none = record { each = λ e j h. absurd (omega arith) }
 
--- n bytes, and m after them
-cutless_join : (n m : ℕ) {r s : Bool} {u : List ℕ} {i : ℕ} → Cutless r u i n → Cutless s u (i + n) m → Cutless (r || s) u i (n + m)
-cutless_join n m {r} {s} {u} {i} p q = record { each = λ e. both_runs (λ k. cut_at u k ≡ false) i n m (p.each (or_false r s e).0) (q.each (or_false r s e).1) }
-
--- four times n bytes
-pub cutless_four : (n : ℕ) {r s t v : Bool} {u : List ℕ} {i : ℕ} → Cutless r u i n → Cutless s u (i + n) n → Cutless t u (i + (n + n)) n → Cutless v u (i + (n + n + n)) n → Cutless (((r || s) || t) || v) u i (n + n + n + n)
-cutless_four n p q a b = cutless_join (n + n + n) n (cutless_join (n + n) n (cutless_join n n p q) a) b
+-- one byte more
+pub cutless_more : {r s : Bool} {u : List ℕ} {i n : ℕ} → Cutless r u i n → s ≡ cut_at u (i + n) → Cutless (r || s) u i (n + 1)
+cutless_more {r} {s} {u} {i} {n} p c = record { each = λ e. below_more _ n (p.each (or_false r s e).0) (sym c ∙ (or_false r s e).1) }
 
 pub uncut_run : (n : ℕ) {r : Bool} {u : List ℕ} {i : ℕ} → Uncut u i → i + n ≤ length u → Cutless r u i n → r ≡ false → Uncut u (i + n)
 uncut_run n {u = u} {i = i} h l c e = turns (Uncut u) i n h (λ j q g. uncut_more g (omega arith) refl (c.each e j q))

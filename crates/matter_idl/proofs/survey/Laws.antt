@@ -23,8 +23,10 @@ use Rattle.matter_idl.specs.answers.reading.{VerdictAtTo}
 use Rattle.matter_idl.specs.inner.sections.{others, FirstSection}
 use Rattle.matter_idl.specs.inner.survey.{verdict_word, entry_of, PlaceFits, words_of, AcceptedBits, Remembered}
 use Rattle.matter_idl.specs.declared.sections.Section.{Section}
-use Rattle.matter_idl.specs.declared.reading.Verdict.{Verdict}
-use Rattle.matter_idl.specs.declared.reading.Verdict.TheVariants.{Accepted, Refused}
+use Rattle.std.specs.Prelude.{Ok, Err}
+use Rattle.lexing.specs.answers.{number_of}
+use Rattle.matter_idl.specs.declared.reading.Refused.{Refused}
+use Rattle.matter_idl.specs.answers.reading.{Verdict}
 use Rattle.matter_idl.proofs.Cutting.{sections_count}
 use Rattle.matter_idl.proofs.Places.{hoisted_words}
 use Rattle.matter_idl.proofs.sections.Laws.{sections_some}
@@ -35,8 +37,8 @@ use Rattle.matter_idl.proofs.survey.Remembered.{bits_more, judged_of}
 -- one word for each entry
 words_are : (b n : ℕ) (v : Verdict) → entry_words report_layout (entry_of b n v) ≡ verdict_word b n v ∷ []
 unfolding entry_words report_layout
-words_are b n (Accepted m) = refl
-words_are b n (Refused k p) = refl
+words_are b n (Ok m) = refl
+words_are b n (Err r) = refl
 
 pub put_entry : (b n : ℕ) (v : Verdict) (at w : ℕ) (old new : List ℕ) → w ≡ verdict_word b n v → new ≡ put at (big_endian 8 w) old → new ≡ put at (report_bytes report_layout (entry_of b n v ∷ [])) old
 unfolding report_bytes each
@@ -56,7 +58,7 @@ pub report_append : (k l : List ReportEntry) → report_bytes report_layout (k +
 unfolding report_bytes
 report_append k l = rw (each_append (entry_words report_layout) k l) (words_bytes_append (each (entry_words report_layout) k) (each (entry_words report_layout) l))
 
-pub fits_told : (v : Verdict) {k p : ℕ} → PlaceFits v → v ≡ Refused k p → (k < 2 ^ number_width) × (p ≤ text_limit)
+pub fits_told : (v : Verdict) {r : Refused} → PlaceFits v → v ≡ Err r → (number_of r.refusal < 2 ^ number_width) × (r.value ≤ text_limit)
 fits_told v h e = subst (λ (x : Verdict). PlaceFits x) e h
 
 -- an entry for each section
@@ -134,8 +136,8 @@ words_more k l = rw (hoisted_words no_ids (k ++ l), hoisted_words no_ids k, hois
 
 verdict_words : (v : Verdict) (b : ℕ) (u : List ℕ) → VerdictAtTo v b u → (word_count layout (hoisted no_ids (items_of (verdict_at b u))) ≡ words_of v) × (words_of v ≤ 8 * length u)
 unfolding items_of hoisted
-verdict_words (Accepted n) b u h = (rw (h.is, items_of) (h.words no_ids), h.few)
-verdict_words (Refused k p) b u h = (rw (h.is, items_of) word_count_none, omega arith)
+verdict_words (Ok n) b u h = (rw (h.is, items_of) (h.words no_ids), h.few)
+verdict_words (Err r) b u h = (rw (h.is, items_of) word_count_none, omega arith)
 
 pub record CountingSections (t : List ℕ) (i c : ℕ) (last : Bool) (n : ℕ) (bits : List ℕ) : Type 0 where
   pub seen : List ReportEntry

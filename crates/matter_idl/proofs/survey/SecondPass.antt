@@ -17,12 +17,11 @@ use Rattle.matter_idl.specs.hoisting.{no_ids, hoisted}
 use Rattle.matter_idl.specs.reading.{verdict_at}
 use Rattle.matter_idl.specs.sections.{sections}
 use Rattle.matter_idl.specs.survey.{items_of, accepted_items, ReportEntry, report_entry, report_entries, report_layout, report_bytes}
-use Rattle.matter_idl.specs.inner.bits.{bits_size}
-use Rattle.matter_idl.specs.inner.reading.{PartOf, HoistedFront}
+use Rattle.matter_idl.specs.inner.reading.{HoistedFront}
 use Rattle.matter_idl.specs.inner.sections.{FirstSection}
 use Rattle.matter_idl.specs.inner.survey.{entry_of, is_sound, no_entry, AcceptedBits, BitTrue, Judged, SectionAfterTo}
 use Rattle.matter_idl.specs.declared.sections.Section.{Section}
-use Rattle.matter_idl.specs.declared.reading.Verdict.{Verdict}
+use Rattle.matter_idl.specs.answers.reading.{Verdict}
 use Rattle.matter_idl.proofs.Cutting.{section_number}
 use Rattle.matter_idl.proofs.reading.Marked.{put_after, front_none}
 use Rattle.matter_idl.proofs.survey.Laws.{report_length, report_append, Passed, passed_start, last_is, all_seen, all_accepted, left_is, section_ends, passed_more, words_more}
@@ -38,13 +37,9 @@ pub record WritingSections (t cat₀ rep₀ : List ℕ) (i c to : ℕ) (cat filt
   pub front_tail : front.tail ≡ drop to cat₀
   pub report : rep ≡ put 0 (report_bytes report_layout seen) rep₀
 
-pub writing_start : (t cat rep : List ℕ) {filter : List ℕ} → length filter ≡ bits_size → WritingSections t cat rep 0 0 0 cat filter rep
+pub writing_start : (t cat rep : List ℕ) {filter : List ℕ} → WritingSections t cat rep 0 0 0 cat filter rep
 unfolding front_none report_bytes words_bytes each
-writing_start t cat rep z = record { last = false; seen = []; items = []; passed = passed_start t; front = front_none t cat z; front_items = refl; front_tail = refl; report = sym (put_nothing 0 rep) }
-
--- the bytes between two offsets are a part of the text
-section_part : {t s : List ℕ} {c end : ℕ} → s ≡ take (end - c) (drop c t) → c + length s ≡ end → end ≤ length t → PartOf t c s
-section_part {t} {s} {c} {end} e z l = let y : length s ≡ end - c = omega arith in record { inside = omega arith; same = rw y (sym e) }
+writing_start t cat rep = record { last = false; seen = []; items = []; passed = passed_start t; front = front_none t cat; front_items = refl; front_tail = refl; report = sym (put_nothing 0 rep) }
 
 module _ {t cat₀ rep₀ : List ℕ} {i c to : ℕ} {cat filter rep : List ℕ} (h : WritingSections t cat₀ rep₀ i c to cat filter rep) (room : 8 * word_count layout (hoisted no_ids (accepted_items 0 (sections t))) ≤ length cat₀) (rows : 8 * length (sections t) ≤ length rep₀) where
   to_is : to ≡ 8 * word_count layout (hoisted no_ids h.items)
@@ -89,18 +84,12 @@ module _ {t cat₀ rep₀ : List ℕ} {i c to : ℕ} {cat filter rep : List ℕ}
     next : Passed t (i + 1) w.end w.last (h.seen ++ (report_entry c (length s) (verdict_at c s) ∷ [])) (h.items ++ items_of (verdict_at c s))
     next = passed_more h.passed not_last q f d
 
-    pub this_part : PartOf t c s
-    this_part = section_part d ends next.inside
-
     this_entry : get_or (report_entries 0 (sections t)) i no_entry ≡ report_entry c (length s) (verdict_at c s)
     unfolding report_entries
     this_entry = rw (h.passed.seen_are, left_is h.passed not_last q f d) (get_or_at h.seen _ _ no_entry i h.passed.number)
 
     pub this_mark : length t ≤ text_limit → {bits : List ℕ} → AcceptedBits bits (report_entries 0 (sections t)) → BitTrue bits i c s
-    this_mark l m = record { size = m.size; place = section_number t l more; mark = m.each_bit i ∙ ap is_sound this_entry }
-
-    pub entry_room : 8 * i + 8 ≤ length rep
-    entry_room = omega (arith, report_same, rows, more)
+    this_mark l m = record { place = section_number t l more; mark = m.each_bit i ∙ ap is_sound this_entry }
 
     pub words_room : to + 8 * word_count layout (hoisted no_ids (items_of (verdict_at c s))) ≤ length cat
     words_room = omega (arith, catalogue_same, to_is, words_more h.items (items_of (verdict_at c s)), words_in (h.items ++ items_of (verdict_at c s)) _ next.items_are)

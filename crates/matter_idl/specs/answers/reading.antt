@@ -1,19 +1,25 @@
 -- What the verdict on a part and on a whole text says, as that of the definition.
-use Rattle.std.specs.Prelude.{ℕ, ◌+◌, ◌-◌, ◌*◌, ◌≤◌, ◌≡◌, List, length, drop}
+use Rattle.std.specs.Prelude.{ℕ, ◌+◌, ◌-◌, ◌*◌, ◌≤◌, ◌≡◌, List, length, drop, Result, Ok, Err}
 use Rattle.lexing.specs.reply.{ok}
 use Rattle.lexing.specs.outcomes.{part_numbers, text_numbers, Among}
-use Rattle.lexing.specs.answers.{on_lost}
+use Rattle.lexing.specs.answers.{number_of}
+use Rattle.lexing.specs.declared.answers.Refusal.TheVariants.{NoItem}
+use Rattle.lexing.specs.declared.answers.Lost.TheVariants.{Fail, Stop}
 use Rattle.lexing.specs.declared.answers.Lost.{Lost}
 use Rattle.items.specs.items.{Item}
 use Rattle.items.specs.layout.{layout, word_count, text_limit}
 use Rattle.matter_idl.specs.hoisting.{Tables, hoisted}
 use Rattle.matter_idl.specs.reading.{all_items, accepted, turned_down, verdict_at, verdict}
-use Rattle.matter_idl.specs.declared.reading.Verdict.{Verdict}
-use Rattle.matter_idl.specs.declared.reading.Verdict.TheVariants.{Accepted, Refused}
+use Rattle.matter_idl.specs.declared.reading.Refused.{Refused}
 
--- document 01's number and value of what is lost: a failure is refused by 3
-abbrev pub refused_by : Lost → Verdict
-refused_by l = on_lost (λ p. Refused 3 p) (λ n p. Refused n p) l
+-- document 01's refusal of what is lost: a failure is that of no item
+abbrev pub refused_by : Lost → Refused
+refused_by (Fail p) = record { refusal = NoItem; value = p }
+refused_by (Stop n p) = record { refusal = n; value = p }
+
+-- the words of an accepted text, or why it is refused, as the code has them
+abbrev pub Verdict : Type 0
+Verdict = Result ℕ Refused
 
 -- a part from the offset b on is accepted, with the words of its items, whatever ids were met before them
 pub record AcceptedAt (n b : ℕ) (u : List ℕ) : Type 0 where
@@ -32,8 +38,8 @@ pub record RefusedAt (k v b : ℕ) (u : List ℕ) : Type 0 where
   pub inside : v ≤ b + length u
 
 abbrev pub VerdictAtTo : Verdict → ℕ → List ℕ → Type 0
-VerdictAtTo (Accepted n) b u = AcceptedAt n b u
-VerdictAtTo (Refused k v) b u = RefusedAt k v b u
+VerdictAtTo (Ok n) b u = AcceptedAt n b u
+VerdictAtTo (Err r) b u = RefusedAt (number_of r.refusal) r.value b u
 
 -- a whole text is accepted within the limit
 pub record AcceptedTo (n : ℕ) (u : List ℕ) : Type 0 where
@@ -48,5 +54,5 @@ pub record RefusedTo (k v : ℕ) (u : List ℕ) : Type 0 where
   pub value : v ≤ text_limit
 
 abbrev pub VerdictTo : Verdict → List ℕ → Type 0
-VerdictTo (Accepted n) u = AcceptedTo n u
-VerdictTo (Refused k v) u = RefusedTo k v u
+VerdictTo (Ok n) u = AcceptedTo n u
+VerdictTo (Err r) u = RefusedTo (number_of r.refusal) r.value u

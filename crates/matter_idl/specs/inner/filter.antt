@@ -1,22 +1,18 @@
 -- The filter before the search for an id: bytes whose bits are set for the ids of global types, and never cleared.
-use Rattle.std.specs.Prelude.{ℕ, ◌+◌, ◌*◌, ◌^◌, ◌/◌, ◌%◌, ◌<◌, ◌≡◌, Bool, true, false, List, [], ◌∷◌, length}
+use Rattle.std.specs.Prelude.{ℕ, ◌+◌, ◌*◌, ◌^◌, ◌/◌, ◌%◌, ◌<◌, ◌≡◌, Bool, true, false, List}
+use Rattle.std.specs.List.{fold}
 use Rattle.items.specs.records.{Record}
 use Rattle.lexing.proofs.Truth.{All}
 use Rattle.matter_idl.specs.demand_3.{bytes_at}
-use Rattle.matter_idl.specs.inner.bits.{bits_size, has_bit}
+use Rattle.matter_idl.specs.inner.bits.{has_bit}
 
 -- every bit of f is set in g
 pub record Grown (g f : List ℕ) : Type 0 where
-  pub size : length g ≡ length f
   pub kept : (p : ℕ) → has_bit f p ≡ true → has_bit g p ≡ true
 
 -- the hash of an id: its kind, and then the bytes of its name
-unfoldable pub hash_on : ℕ → List ℕ → ℕ
-hash_on h [] = h
-hash_on h (x ∷ l) = hash_on ((h + x) * 0x1000193 % 2 ^ 32) l
-
 unfoldable pub hash_of : ℕ → List ℕ → ℕ
-hash_of k l = hash_on (0x811c9dc5 + k) l
+hash_of k l = fold (λ h x. (h + x) % 2 ^ 32 * 0x1000193 % 2 ^ 32) (0x811c9dc5 + k) l
 
 -- the bits of an id
 abbrev pub id_bits : ℕ
@@ -43,5 +39,4 @@ HoldsId f t r = r.place ≡ 1 → Holds f (hash_of r.kind (bytes_at t r.name))
 
 -- the filter has the ids of all global types among records
 pub record Filtered (f t : List ℕ) (l : List Record) : Type 0 where
-  pub size : length f ≡ bits_size
   pub ids : All (HoldsId f t) l

@@ -24,9 +24,9 @@ name_at t out p = bytes_at t (at (value_at layout offset_field out p) (value_at 
 abbrev pub hash_at : (t out : List ℕ) → ℕ → ℕ
 hash_at t out p = hash_of (value_at layout kind_field out p) (name_at t out p)
 
--- whether it is that of a global type of kind k with the id of n bytes at offset o
-unfoldable pub hits_at : List ℕ → (k o n : ℕ) → List ℕ → ℕ → Bool
-hits_at t k o n out p = eqb (value_at layout place_field out p) 1 && (eqb (value_at layout kind_field out p) k && same_bytes (bytes_at t (at o n)) (name_at t out p))
+-- whether it is that of a global type of kind k with the name i
+unfoldable pub hits_at : List ℕ → ℕ → (i out : List ℕ) → ℕ → Bool
+hits_at t k i out p = eqb (value_at layout place_field out p) 1 && (eqb (value_at layout kind_field out p) k && same_bytes i (name_at t out p))
 
 -- records of a text of n bytes at the front of a buffer, up to end
 pub record Catalogue (n : ℕ) (out : List ℕ) (end : ℕ) : Type 0 where
@@ -36,9 +36,9 @@ pub record Catalogue (n : ℕ) (out : List ℕ) (end : ℕ) : Type 0 where
   pub bytes : out ≡ catalogue_bytes layout records ++ tail
   pub ends : end ≡ 8 * word_count layout records
 
--- whether the records before end hold the id of n bytes at offset o
-abbrev pub HeldTo : Bool → List ℕ → List ℕ → ℕ → ℕ → ℕ → ℕ → Type 0
-HeldTo r t out end k o n = (c : Catalogue (length t) out end) → r ≡ has_global t k (bytes_at t (at o n)) c.records
+-- whether the records before end hold the id of kind k and name i
+abbrev pub HeldTo : Bool → (t out : List ℕ) → (end k : ℕ) → List ℕ → Type 0
+HeldTo r t out end k i = (c : Catalogue (length t) out end) → r ≡ has_global t k i c.records
 
 -- the same of the id of the type whose record is at p, where the filter f has the ids of those records
 abbrev pub KnownTo : Bool → (t out f : List ℕ) → (end p : ℕ) → Type 0

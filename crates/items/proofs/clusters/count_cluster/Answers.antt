@@ -1,25 +1,24 @@
-use mathlib.Core.Path.{refl}
+use Rattle.lexing.proofs.Losses.{passed_on}
 use native.Mathlib.Omega.{arith}
 use Rattle.lexing.proofs.Slicing.{rest_self}
-use Rattle.items.specs.inner.clusters.{cluster_head_lost}
 use Rattle.lexing.proofs.AnswerLaws.{read_took, read_lost}
 use Rattle.items.proofs.Headed.{headed_lost, headed_pass, headed_counted}
 use Rattle.items.proofs.Locality.{cluster_head_consumes}
-use Rattle.items.proofs.counts.Laws.{count_took, count_lost_lem}
+use Rattle.items.proofs.counts.Laws.{count_took, count_lost}
 use Rattle.items.proofs.clusters.Whole.{braced_members_on, cluster_head_on, cluster_headed}
 use Rattle.items.proofs.clusters.count_cluster.Goals as goal
 
-pub returns-in_default : goal.returns-in_default
-returns-in_default c = headed_lost cluster_headed _ (read_lost c.cluster_head-head.ensures c.in_default.is cluster_head_lost c.cluster_head_lost.ensures refl)
+pub returns-in_err-c1 : goal.returns-in_err-c1
+returns-in_err-c1 c = rw (passed_on c.from_residual.ensures) (headed_lost cluster_headed _ (read_lost c.in_err-c1.ensures))
 
 pub rest_at-requires : goal.rest_at-requires
-rest_at-requires c = omega (arith, (read_took c.cluster_head-head.ensures c.in-ClusterHead.is cluster_head_on (rest_self _ _) refl).up, (read_took c.cluster_head-head.ensures c.in-ClusterHead.is cluster_head_on (rest_self _ _) refl).inside)
+rest_at-requires c = omega (arith, (read_took c.in_ok-c1.ensures cluster_head_on (rest_self _ _)).up, (read_took c.in_ok-c1.ensures cluster_head_on (rest_self _ _)).inside)
 
-pub returns-in_default-run : goal.returns-in_default-run
-returns-in_default-run c = headed_pass cluster_headed (read_took c.cluster_head-head.ensures c.in-ClusterHead.is cluster_head_on (rest_self _ _) refl) _ _ c.in_default-run.is c.rest_at.ensures (count_lost_lem _ c.in_default-run.is _ _ (c.count_braced_members-run.ensures.counts 0))
+pub returns-in_err-n : goal.returns-in_err-n
+returns-in_err-n c = rw (passed_on c.from_residual-in_err-n.ensures) (headed_pass cluster_headed (read_took c.in_ok-c1.ensures cluster_head_on (rest_self _ _)) _ c.rest_at.ensures (count_lost _ _ (c.in_err-n.ensures.counts 0)))
 
 pub overflow_add-result : goal.overflow_add-result
-overflow_add-result c = let k = (count_took braced_members_on c.rest_at.ensures c.in-Words.is (c.count_braced_members-run.ensures.counts 0)) in omega (arith, k.few, k.step.inside, c.requires)
+overflow_add-result c = let k = (count_took braced_members_on c.rest_at.ensures (c.in_ok-n.ensures.counts 0)) in omega (arith, k.few, k.step.inside, c.requires)
 
 pub returns : goal.returns
-returns c = headed_counted cluster_headed (read_took c.cluster_head-head.ensures c.in-ClusterHead.is cluster_head_on (rest_self _ _) refl) cluster_head_consumes (omega arith) (count_took braced_members_on c.rest_at.ensures c.in-Words.is (c.count_braced_members-run.ensures.counts 0))
+returns c = headed_counted cluster_headed (read_took c.in_ok-c1.ensures cluster_head_on (rest_self _ _)) cluster_head_consumes (omega arith) (count_took braced_members_on c.rest_at.ensures (c.in_ok-n.ensures.counts 0))

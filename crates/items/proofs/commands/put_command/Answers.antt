@@ -4,9 +4,7 @@ use native.Mathlib.Omega.{arith}
 use Rattle.items.proofs.writing.Laws.{bit_small, documented_fits, front_kept}
 use Rattle.items.proofs.commands.Laws.{command_put}
 use Rattle.items.proofs.commands.put_command.Goals as goal
-
-pub overflow_mul-first : goal.overflow_mul-first
-overflow_mul-first c = omega (arith, c.requires.command_between.head.qualities)
+use Rattle.items.specs.declared.layout.Kind.TheVariants.{Command as a_command}
 
 pub overflow_mul-first-2 : goal.overflow_mul-first-2
 overflow_mul-first-2 c = omega (arith, bit_small (ltb c.args.p.types.input c.args.p.types.input_end), c.flag.ensures)
@@ -14,20 +12,8 @@ overflow_mul-first-2 c = omega (arith, bit_small (ltb c.args.p.types.input c.arg
 pub overflow_add-first : goal.overflow_add-first
 overflow_add-first c = omega (arith, bit_small (ltb c.args.p.types.input c.args.p.types.input_end), c.flag.ensures, c.requires.command_between.head.qualities)
 
-pub overflow_sub-first : goal.overflow_sub-first
-overflow_sub-first c = c.requires.command_between.head.name_to
-
-pub put_documented-requires : goal.put_documented-requires
-put_documented-requires c = record { at_in_bounds = omega (arith, c.requires.command_kind_in_bounds); fits = documented_fits (record { kind = 8; place = 0; doc = c.args.front.doc; maturity = c.args.front.maturity }) (front_kept c.args.front c.requires.front_fits refl refl) (omega arith) c.doc_bit.ensures (omega (arith, bit_small (ltb c.args.p.types.input c.args.p.types.input_end), c.flag.ensures, c.requires.command_between.head.qualities)) (omega (arith, c.requires.command_between.head.name_to, c.requires.command_between.types.input_from, c.requires.command_between.types.input_to, c.requires.command_between.types.output_from, c.requires.command_between.types.output_to, c.requires.command_between.types)) (omega (arith, c.requires.command_between.head.name_to, c.requires.command_between.types.input_from, c.requires.command_between.types.input_to, c.requires.command_between.types.output_from, c.requires.command_between.types.output_to, c.requires.command_between.types)) c.requires.command_between.head.privilege (omega arith); doc_fits = c.requires.front_fits.doc_fits }
-
-pub optional_span_word-input-requires : goal.optional_span_word-input-requires
-optional_span_word-input-requires c = record { from_le_to = c.requires.command_between.types.input_to; to_le_text_limit = omega (arith, c.requires.command_between.head.name_to, c.requires.command_between.types.input_from, c.requires.command_between.types.input_to, c.requires.command_between.types.output_from, c.requires.command_between.types.output_to, c.requires.command_between.types) }
-
-pub overflow_sub-t : goal.overflow_sub-t
-overflow_sub-t c = c.requires.command_between.types.output_to
-
-pub span_word-output-requires : goal.span_word-output-requires
-span_word-output-requires c = record { offset_le_text_limit = omega (arith, c.requires.command_between.head.name_to, c.requires.command_between.types.input_from, c.requires.command_between.types.input_to, c.requires.command_between.types.output_from, c.requires.command_between.types.output_to, c.requires.command_between.types); size_le_text_limit = omega (arith, c.requires.command_between.head.name_to, c.requires.command_between.types.input_from, c.requires.command_between.types.input_to, c.requires.command_between.types.output_from, c.requires.command_between.types.output_to, c.requires.command_between.types) }
+pub put_documented-requires-clause-fits : goal.put_documented-requires-clause-fits
+put_documented-requires-clause-fits c = documented_fits (record { kind = a_command; place = 0; doc = c.args.front.doc; maturity = c.args.front.maturity }) (front_kept c.args.front c.requires.front_fits refl) c.doc_bit.ensures (omega (arith, bit_small (ltb c.args.p.types.input c.args.p.types.input_end), c.flag.ensures, c.requires.command_between.head.qualities)) (omega (arith, c.requires.command_between.head.name_to, c.requires.command_between.types.input_from, c.requires.command_between.types.input_to, c.requires.command_between.types.output_from, c.requires.command_between.types.output_to, c.requires.command_between.types)) (omega (arith, c.requires.command_between.head.name_to, c.requires.command_between.types.input_from, c.requires.command_between.types.input_to, c.requires.command_between.types.output_from, c.requires.command_between.types.output_to, c.requires.command_between.types))
 
 pub returns : goal.returns
-returns c = command_put c.args.front c.args.p c.args.at _ _ _ _ c.args.out.now _ _ c.requires.command_kind_in_bounds c.doc_bit.ensures c.flag.ensures c.put_documented.ensures c.optional_span_word-input.ensures c.span_word-output.ensures c.put_three.ensures
+returns c = command_put c.args.front c.args.p c.args.at _ _ _ _ c.args.out.now _ _ c.requires.command_kind_in_bounds c.doc_bit.ensures c.flag.ensures c.put_documented.ensures c.optional_span_word-input.ensures c.span_word-output.ensures c.put_words.ensures

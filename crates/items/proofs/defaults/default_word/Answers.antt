@@ -1,13 +1,10 @@
+use Rattle.lexing.specs.word_sets.{bit}
 use mathlib.Core.Path.{sym, ap, ◌∙◌}
 use Rattle.items.specs.records.{default_word}
 use Rattle.items.specs.layout.{layout, further_word, offset, size}
 use Rattle.items.specs.inner.defaults.{default_of}
 use Rattle.items.specs.declared.defaults.DefaultValue.{DefaultValue}
-use Rattle.items.proofs.defaults.Laws.{span_fits}
 use Rattle.items.proofs.defaults.default_word.Goals as goal
-
-pub span_word-requires : goal.span_word-requires
-span_word-requires c = record { offset_le_text_limit = (span_fits _ c.in-Text.is c.requires).0; size_le_text_limit = (span_fits _ c.in-Text.is c.requires).1 }
 
 pub returns-in-Absent : goal.returns-in-Absent
 unfolding default_word further_word
@@ -22,8 +19,8 @@ unfolding default_word further_word
 returns-in-Signed c = c.twos_complement.ensures ∙ sym (ap (λ (x : DefaultValue). further_word layout (default_word (default_of x))) c.in-Signed.is)
 
 pub returns-in-Truth : goal.returns-in-Truth
-unfolding default_word further_word
-returns-in-Truth c = c.flag.ensures ∙ sym (ap (λ (x : DefaultValue). further_word layout (default_word (default_of x))) c.in-Truth.is)
+unfolding default_word further_word layout bit
+returns-in-Truth c = c.from.ensures ∙ sym (ap (λ (x : DefaultValue). further_word layout (default_word (default_of x))) c.in-Truth.is)
 
 pub returns-in-Text : goal.returns-in-Text
 unfolding default_word further_word layout offset size

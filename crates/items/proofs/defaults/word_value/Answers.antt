@@ -1,3 +1,4 @@
+use Rattle.lexing.proofs.Losses.{passed_on}
 use native.Mathlib.Omega.{arith}
 use Rattle.lexing.specs.bytes.{ascii}
 use mathlib.Core.Bool.{true, false}
@@ -9,27 +10,26 @@ use Rattle.items.proofs.Choice.{or_past}
 use Rattle.items.proofs.defaults.Laws.{value_is, value_not, text_try, text_long, text_not, text_past}
 use Rattle.items.proofs.defaults.word_value.Goals as goal
 
-pub returns-in-Next : goal.returns-in-Next
+pub returns-in-Ok : goal.returns-in-Ok
 unfolding value_tries
-returns-in-Next c = value_is value_tries refl (or_past _ _ _ _ _ c.requires.no_number_at.unsigned tt (or_past _ _ _ _ _ c.requires.no_number_at.with_sign tt (or_here _ _ _ _ _ _ _ (keyword_value (ascii "true") (truth true) _ _ _ c.keyword-yes.ensures _ c.in-Next.is)))) tt
+returns-in-Ok c = value_is value_tries refl (or_past _ _ _ _ _ c.requires.no_number_at.unsigned tt (or_past _ _ _ _ _ c.requires.no_number_at.with_sign tt (or_here _ _ _ _ _ _ _ (keyword_value (ascii "true") (truth true) _ _ _ c.in-Ok.ensures)))) tt
 
-pub returns-in-Next-no : goal.returns-in-Next-no
+pub returns-in-Ok-keyword : goal.returns-in-Ok-keyword
 unfolding value_tries
-returns-in-Next-no c = value_is value_tries refl (or_past _ _ _ _ _ c.requires.no_number_at.unsigned tt (or_past _ _ _ _ _ c.requires.no_number_at.with_sign tt (or_past _ _ _ _ _ (keyword_not (ascii "true") (truth true) _ _ _ c.keyword-yes.ensures _ c.in_default.is) tt (or_here _ _ _ _ _ _ _ (keyword_value (ascii "false") (truth false) _ _ _ c.keyword-no.ensures _ c.in-Next-no.is))))) tt
+returns-in-Ok-keyword c = value_is value_tries refl (or_past _ _ _ _ _ c.requires.no_number_at.unsigned tt (or_past _ _ _ _ _ c.requires.no_number_at.with_sign tt (or_past _ _ _ _ _ (keyword_not (ascii "true") (truth true) _ _ _ c.in_default.ensures) tt (or_here _ _ _ _ _ _ _ (keyword_value (ascii "false") (truth false) _ _ _ c.in-Ok-keyword.ensures))))) tt
 
-pub returns-in_default-string : goal.returns-in_default-string
+pub returns-in_err-c : goal.returns-in_err-c
 unfolding value_tries
-returns-in_default-string c = value_not value_tries _ (or_past _ _ _ _ _ c.requires.no_number_at.unsigned (text_past _ _ c.default_string-string.ensures c.step_lost.ensures c.in_default-string.is) (or_past _ _ _ _ _ c.requires.no_number_at.with_sign (text_past _ _ c.default_string-string.ensures c.step_lost.ensures c.in_default-string.is) (or_past _ _ _ _ _ (keyword_not (ascii "true") (truth true) _ _ _ c.keyword-yes.ensures _ c.in_default.is) (text_past _ _ c.default_string-string.ensures c.step_lost.ensures c.in_default-string.is) (or_past _ _ _ _ _ (keyword_not (ascii "false") (truth false) _ _ _ c.keyword-no.ensures _ c.in_default-no.is) (text_past _ _ c.default_string-string.ensures c.step_lost.ensures c.in_default-string.is) (text_not _ _ c.default_string-string.ensures c.step_lost.ensures c.in_default-string.is)))))
-
-pub overflow_add-start : goal.overflow_add-start
-overflow_add-start c = omega (arith, c.requires.part_bound, c.requires.no_number_at)
+returns-in_err-c c =
+    let p = text_past _ _ _ c.in_err-c.ensures in
+    rw (passed_on c.from_residual.ensures) (value_not value_tries _ (or_past _ _ _ _ _ c.requires.no_number_at.unsigned p (or_past _ _ _ _ _ c.requires.no_number_at.with_sign p (or_past _ _ _ _ _ (keyword_not (ascii "true") (truth true) _ _ _ c.in_default.ensures) p (or_past _ _ _ _ _ (keyword_not (ascii "false") (truth false) _ _ _ c.in_default-keyword.ensures) p (text_not _ _ _ c.in_err-c.ensures))))))
 
 pub overflow_sub-length : goal.overflow_sub-length
-overflow_sub-length c = omega (arith, (text_long _ _ c.default_string-string.ensures c.in-Next-string.is))
+overflow_sub-length c = omega (arith, text_long _ _ c.in_ok-c.ensures)
 
 pub overflow_sub-length-2 : goal.overflow_sub-length-2
-overflow_sub-length-2 c = omega (arith, (text_long _ _ c.default_string-string.ensures c.in-Next-string.is))
+overflow_sub-length-2 c = omega (arith, text_long _ _ c.in_ok-c.ensures)
 
 pub returns : goal.returns
 unfolding value_tries
-returns c = value_is value_tries refl (or_past _ _ _ _ _ c.requires.no_number_at.unsigned tt (or_past _ _ _ _ _ c.requires.no_number_at.with_sign tt (or_past _ _ _ _ _ (keyword_not (ascii "true") (truth true) _ _ _ c.keyword-yes.ensures _ c.in_default.is) tt (or_past _ _ _ _ _ (keyword_not (ascii "false") (truth false) _ _ _ c.keyword-no.ensures _ c.in_default-no.is) tt (text_try _ _ c.default_string-string.ensures c.in-Next-string.is))))) (omega (arith, (text_long _ _ c.default_string-string.ensures c.in-Next-string.is)))
+returns c = value_is value_tries refl (or_past _ _ _ _ _ c.requires.no_number_at.unsigned tt (or_past _ _ _ _ _ c.requires.no_number_at.with_sign tt (or_past _ _ _ _ _ (keyword_not (ascii "true") (truth true) _ _ _ c.in_default.ensures) tt (or_past _ _ _ _ _ (keyword_not (ascii "false") (truth false) _ _ _ c.in_default-keyword.ensures) tt (text_try _ _ c.in_ok-c.ensures))))) (omega (arith, text_long _ _ c.in_ok-c.ensures))

@@ -1,3 +1,4 @@
+use Rattle.lexing.proofs.Losses.{passed_on}
 use borrow.Author.Rules.{rules}
 use Rattle.items.specs.endpoints.{device_version}
 use native.Mathlib.Omega.{arith}
@@ -7,34 +8,31 @@ use Rattle.lexing.proofs.Pairs.{pair_go, pair_on, pair_lose, pair_fall}
 use Rattle.lexing.proofs.steps.Laws.{tag_after_took, keyword_after_took, integer_after_took, skips_lost, integer_after_lost}
 use Rattle.items.proofs.endpoints.device_version.Goals as goal
 
-pub tag_after-comma-requires : goal.tag_after-comma-requires
-tag_after-comma-requires c = omega (arith, c.requires)
-
-pub returns-in_default : goal.returns-in_default
+pub returns-in_err-c1 : goal.returns-in_err-c1
 unfolding device_version
-returns-in_default c = (begin (device_version) _ _ (pair_fall _ _ _ c.step_lost.result c.tag_after-comma.ensures.at (skips_lost c.step_lost.ensures c.in_default.is c.tag_after-comma.ensures)))
+returns-in_err-c1 c = rw (passed_on c.from_residual.ensures) ((begin (device_version) _ _ (pair_fall _ _ _ _ c.in_err-c1.ensures.at (skips_lost c.in_err-c1.ensures))))
 
-pub keyword_after-key-requires : goal.keyword_after-key-requires
-keyword_after-key-requires c = let t = tag_after_took 44 c.in-Next.is c.tag_after-comma.ensures in record { base_le_c = omega (arith, t.up, t.inside, c.requires); key_value = search rules }
+pub keyword_after-requires : goal.keyword_after-requires
+keyword_after-requires c = let t = tag_after_took 44 c.in_ok-c1.ensures in record { base_le_c = omega (arith, t.up, t.inside, c.requires); key_value = search rules }
 
-pub returns-in_default-key : goal.returns-in_default-key
+pub returns-in_err-c2 : goal.returns-in_err-c2
 unfolding device_version
-returns-in_default-key c = (begin (device_version) _ _ (pair_on _ _ _ (tag_after_took 44 c.in-Next.is c.tag_after-comma.ensures) (pair_fall _ _ _ c.step_lost-in_default-key.result c.keyword_after-key.ensures.at (skips_lost c.step_lost-in_default-key.ensures c.in_default-key.is c.keyword_after-key.ensures))))
+returns-in_err-c2 c = rw (passed_on c.from_residual-in_err-c2.ensures) ((begin (device_version) _ _ (pair_on _ _ _ (tag_after_took 44 c.in_ok-c1.ensures) (pair_fall _ _ _ _ c.in_err-c2.ensures.at (skips_lost c.in_err-c2.ensures)))))
 
-pub integer_after-number-requires : goal.integer_after-number-requires
-integer_after-number-requires c = let t = keyword_after_took (ascii "version") c.in-Next-key.is c.keyword_after-key.ensures in omega (arith, t.up, t.inside, c.keyword_after-key.ensures.at.from, c.requires)
+pub integer_after-requires : goal.integer_after-requires
+integer_after-requires c = let t = keyword_after_took (ascii "version") c.in_ok-c2.ensures in omega (arith, t.up, t.inside, c.in_ok-c2.ensures.at.from, c.requires)
 
-pub returns-in_default-number : goal.returns-in_default-number
+pub returns-in_err-v : goal.returns-in_err-v
 unfolding device_version
-returns-in_default-number c = (begin (device_version) _ _ (pair_on _ _ _ (tag_after_took 44 c.in-Next.is c.tag_after-comma.ensures) (pair_on _ _ _ (keyword_after_took (ascii "version") c.in-Next-key.is c.keyword_after-key.ensures) (pair_lose _ _ _ c.number_lost.result c.integer_after-number.ensures.at (integer_after_lost c.integer_after-number.ensures c.number_lost.ensures c.in_default-number.is)))))
+returns-in_err-v c = rw (passed_on c.from_residual-in_err-v.ensures) ((begin (device_version) _ _ (pair_on _ _ _ (tag_after_took 44 c.in_ok-c1.ensures) (pair_on _ _ _ (keyword_after_took (ascii "version") c.in_ok-c2.ensures) (pair_lose _ _ _ _ c.in_err-v.ensures.at (integer_after_lost c.in_err-v.ensures))))))
 
-pub tag_after-semicolon-requires : goal.tag_after-semicolon-requires
-tag_after-semicolon-requires c = let t = integer_after_took c.integer_after-number.ensures c.in-Value.is in omega (arith, t.up, t.inside, c.integer_after-number.ensures.at.from, c.requires)
+pub tag_after-requires-2 : goal.tag_after-requires-2
+tag_after-requires-2 c = let t = integer_after_took c.in_ok-v.ensures in omega (arith, t.up, t.inside, c.in_ok-v.ensures.at.from, c.requires)
 
-pub returns-in_default-semicolon : goal.returns-in_default-semicolon
+pub returns-in_err-c4 : goal.returns-in_err-c4
 unfolding device_version
-returns-in_default-semicolon c = (begin (device_version) _ _ (pair_on _ _ _ (tag_after_took 44 c.in-Next.is c.tag_after-comma.ensures) (pair_on _ _ _ (keyword_after_took (ascii "version") c.in-Next-key.is c.keyword_after-key.ensures) (pair_go _ _ _ (integer_after_took c.integer_after-number.ensures c.in-Value.is) (pair_fall _ _ _ c.step_lost-in_default-semicolon.result c.tag_after-semicolon.ensures.at (skips_lost c.step_lost-in_default-semicolon.ensures c.in_default-semicolon.is c.tag_after-semicolon.ensures))))))
+returns-in_err-c4 c = rw (passed_on c.from_residual-in_err-c4.ensures) ((begin (device_version) _ _ (pair_on _ _ _ (tag_after_took 44 c.in_ok-c1.ensures) (pair_on _ _ _ (keyword_after_took (ascii "version") c.in_ok-c2.ensures) (pair_go _ _ _ (integer_after_took c.in_ok-v.ensures) (pair_fall _ _ _ _ c.in_err-c4.ensures.at (skips_lost c.in_err-c4.ensures)))))))
 
 pub returns : goal.returns
 unfolding device_version
-returns c = (begin (device_version) _ _ (pair_on _ _ _ (tag_after_took 44 c.in-Next.is c.tag_after-comma.ensures) (pair_on _ _ _ (keyword_after_took (ascii "version") c.in-Next-key.is c.keyword_after-key.ensures) (pair_go _ _ _ (integer_after_took c.integer_after-number.ensures c.in-Value.is) (pair_on _ _ _ (tag_after_took 59 c.in-Next-semicolon.is c.tag_after-semicolon.ensures) (done _ _ _ _))))))
+returns c = (begin (device_version) _ _ (pair_on _ _ _ (tag_after_took 44 c.in_ok-c1.ensures) (pair_on _ _ _ (keyword_after_took (ascii "version") c.in_ok-c2.ensures) (pair_go _ _ _ (integer_after_took c.in_ok-v.ensures) (pair_on _ _ _ (tag_after_took 59 c.in_ok-c4.ensures) (done _ _ _ _))))))

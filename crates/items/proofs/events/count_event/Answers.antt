@@ -1,23 +1,25 @@
+use Rattle.lexing.proofs.Losses.{passed_on}
 use native.Mathlib.Omega.{arith}
 use Rattle.lexing.proofs.Slicing.{rest_self}
+use Rattle.lexing.proofs.AnswerLaws.{read_lost}
 use Rattle.items.proofs.Headed.{headed_lost, headed_pass, headed_counted}
 use Rattle.items.proofs.Locality.{event_head_consumes}
-use Rattle.items.proofs.counts.Laws.{count_took, count_lost_lem}
+use Rattle.items.proofs.counts.Laws.{count_took, count_lost}
 use Rattle.items.proofs.fields.Laws.{struct_fields_on}
-use Rattle.items.proofs.events.Laws.{event_head_took, event_head_none, event_headed}
+use Rattle.items.proofs.events.Laws.{event_head_took, event_headed}
 use Rattle.items.proofs.events.count_event.Goals as goal
 
-pub returns-in_default : goal.returns-in_default
-returns-in_default c = headed_lost event_headed _ (event_head_none (rest_self _ _) c.event_head-head.ensures c.event_head_lost.ensures c.in_default.is)
+pub returns-in_err-c1 : goal.returns-in_err-c1
+returns-in_err-c1 c = rw (passed_on c.from_residual.ensures) (headed_lost event_headed _ (read_lost c.in_err-c1.ensures))
 
 pub rest_at-requires : goal.rest_at-requires
-rest_at-requires c = omega (arith, (event_head_took (rest_self _ _) c.event_head-head.ensures c.in-EventHead.is).up, (event_head_took (rest_self _ _) c.event_head-head.ensures c.in-EventHead.is).inside)
+rest_at-requires c = omega (arith, (event_head_took (rest_self _ _) c.in_ok-c1.ensures).up, (event_head_took (rest_self _ _) c.in_ok-c1.ensures).inside)
 
-pub returns-in_default-fields : goal.returns-in_default-fields
-returns-in_default-fields c = headed_pass event_headed (event_head_took (rest_self _ _) c.event_head-head.ensures c.in-EventHead.is) _ _ c.in_default-fields.is c.rest_at.ensures (count_lost_lem _ c.in_default-fields.is _ _ c.count_struct_fields-fields.ensures)
+pub returns-in_err-n : goal.returns-in_err-n
+returns-in_err-n c = rw (passed_on c.from_residual-in_err-n.ensures) (headed_pass event_headed (event_head_took (rest_self _ _) c.in_ok-c1.ensures) _ c.rest_at.ensures (count_lost _ _ c.in_err-n.ensures))
 
 pub overflow_add-result : goal.overflow_add-result
-overflow_add-result c = let k = (count_took struct_fields_on c.rest_at.ensures c.in-Words.is c.count_struct_fields-fields.ensures) in omega (arith, k.few, k.step.inside, c.requires)
+overflow_add-result c = let k = (count_took struct_fields_on c.rest_at.ensures c.in_ok-n.ensures) in omega (arith, k.few, k.step.inside, c.requires)
 
 pub returns : goal.returns
-returns c = headed_counted event_headed (event_head_took (rest_self _ _) c.event_head-head.ensures c.in-EventHead.is) event_head_consumes (omega arith) (count_took struct_fields_on c.rest_at.ensures c.in-Words.is c.count_struct_fields-fields.ensures)
+returns c = headed_counted event_headed (event_head_took (rest_self _ _) c.in_ok-c1.ensures) event_head_consumes (omega arith) (count_took struct_fields_on c.rest_at.ensures c.in_ok-n.ensures)

@@ -1,9 +1,10 @@
-use mathlib.Core.Path.{sym, ap}
+use mathlib.Core.Path.{sym, ap, ◌∙◌}
+use Rattle.lexing.proofs.Losses.{passed_on}
 use Rattle.items.specs.inner.instances.{named_instance}
 use Rattle.items.proofs.instances.named_instance.Goals as goal
 
-pub returns-in-Name : goal.returns-in-Name
-returns-in-Name c = sym (ap (named_instance c.args.kind) c.in-Name.is)
+pub returns-in_err-named : goal.returns-in_err-named
+returns-in_err-named c = passed_on c.from_residual.ensures ∙ sym (ap (named_instance c.args.kind) c.in_err-named.was)
 
-pub returns-in-NoName : goal.returns-in-NoName
-returns-in-NoName c = sym (ap (named_instance c.args.kind) c.in-NoName.is)
+pub returns : goal.returns
+returns c = sym (ap (named_instance c.args.kind) c.in_ok-named.was)

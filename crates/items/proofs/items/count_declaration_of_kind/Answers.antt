@@ -1,15 +1,8 @@
-use mathlib.Core.Path.{refl}
 use Rattle.items.proofs.items.Laws.{from_kind, clusters, endpoints, enums, bitmaps, structs, top, kind_counted, kind_unknown}
 use Rattle.items.proofs.items.count_declaration_of_kind.Goals as goal
 
-pub count_choice-requires : goal.count_choice-requires
-count_choice-requires c = record { part_bound = c.requires.part_bound; choice_from = from_kind c.args.s.from c.args.s.next c.args.part.now c.in-Enum.is c.requires.declaration_from; key_value = refl }
-
-pub count_choice-requires-in-Bitmap : goal.count_choice-requires-in-Bitmap
-count_choice-requires-in-Bitmap c = record { part_bound = c.requires.part_bound; choice_from = from_kind c.args.s.from c.args.s.next c.args.part.now c.in-Bitmap.is c.requires.declaration_from; key_value = refl }
-
-pub count_struct-requires : goal.count_struct-requires
-count_struct-requires c = record { part_bound = c.requires.part_bound; struct_from = from_kind c.args.s.from c.args.s.next c.args.part.now c.in-Struct.is c.requires.declaration_from }
+pub count_struct-requires-clause-struct_from : goal.count_struct-requires-clause-struct_from
+count_struct-requires-clause-struct_from c = from_kind c.args.s.from c.args.s.next c.args.part.now c.in-Struct.is c.requires.declaration_from
 
 pub returns-in-Cluster : goal.returns-in-Cluster
 returns-in-Cluster c = kind_counted c.in-Cluster.is (λ i. clusters i.doc i.maturity) c.count_cluster.ensures.counts

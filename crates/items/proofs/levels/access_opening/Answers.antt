@@ -1,3 +1,5 @@
+use Rattle.std.specs.Prelude.{Ok, Err}
+use Rattle.lexing.proofs.Losses.{passed_on}
 use mathlib.Core.Path.{refl}
 use native.Mathlib.Omega.{arith}
 use Rattle.lexing.specs.bytes.{ascii}
@@ -12,14 +14,14 @@ blank_at-n-requires c = omega (arith, c.requires)
 pub rest_at-requires : goal.rest_at-requires
 rest_at-requires c = let s = (blank_at_took c.blank_at-n.ensures) in omega (arith, s.up, s.inside)
 
-pub keyword-access-requires : goal.keyword-access-requires
-keyword-access-requires c = record { part_bound = omega (arith, c.rest_at.ensures.size, c.requires); key_value = refl }
+pub keyword-requires : goal.keyword-requires
+keyword-requires c = record { part_bound = omega (arith, c.rest_at.ensures.size, c.requires); key_value = refl }
 
-pub returns-in_default : goal.returns-in_default
-returns-in_default c = opening_not (keyword_after_is c.blank_at-n.ensures.at c.blank_at-n.ensures.skips c.rest_at.ensures (ascii "access") c.keyword-access.result c.keyword-access.ensures) c.in_default.is
+pub returns-in_err-c : goal.returns-in_err-c
+returns-in_err-c c = rw (passed_on c.from_residual.ensures) (opening_not (keyword_after_is c.blank_at-n.ensures.at c.blank_at-n.ensures.skips c.rest_at.ensures (ascii "access") (Err _) c.in_err-c.ensures))
 
 pub tag_after-requires : goal.tag_after-requires
-tag_after-requires c = let t = (keyword_took c.rest_at.ensures c.in-Next.is (ascii "access") c.keyword-access.ensures) in omega (arith, t.up, t.inside, c.rest_at.ensures.from, c.requires)
+tag_after-requires c = let t = (keyword_took c.rest_at.ensures (ascii "access") c.in_ok-c.ensures) in omega (arith, t.up, t.inside, c.rest_at.ensures.from, c.requires)
 
 pub returns : goal.returns
-returns c = opening_is (keyword_after_is c.blank_at-n.ensures.at c.blank_at-n.ensures.skips c.rest_at.ensures (ascii "access") c.keyword-access.result c.keyword-access.ensures) c.tag_after.result c.in-Next.is c.tag_after.ensures
+returns c = opening_is (keyword_after_is c.blank_at-n.ensures.at c.blank_at-n.ensures.skips c.rest_at.ensures (ascii "access") (Ok _) c.in_ok-c.ensures) c.tag_after.result c.tag_after.ensures

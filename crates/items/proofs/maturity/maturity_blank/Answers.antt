@@ -5,7 +5,7 @@ use Rattle.lexing.proofs.steps.Laws.{blank_at_took}
 use Rattle.items.proofs.maturity.maturity_blank.Goals as goal
 
 pub blank_at-next-requires : goal.blank_at-next-requires
-blank_at-next-requires c = let t = maturity_took (rest_self _ _) c.api_maturity-m.ensures in omega (arith, t.up, t.inside, c.requires)
+blank_at-next-requires c = let t = maturity_took (rest_self _ _) c.api_maturity-maturity.ensures in omega (arith, t.up, t.inside, c.requires)
 
 pub returns : goal.returns
-returns c = blanked_is c.api_maturity-m.ensures.small (maturity_took (rest_self _ _) c.api_maturity-m.ensures) (blank_at_took c.blank_at-next.ensures)
+returns c = blanked_is (maturity_took (rest_self _ _) c.api_maturity-maturity.ensures) (blank_at_took c.blank_at-next.ensures)

@@ -6,7 +6,7 @@ use Rattle.items.proofs.member_kinds.Laws.{kind_alone, kind_bitmap, kind_enum, k
 use Rattle.items.proofs.member_kinds.shared_kind.Goals as goal
 
 pub rest_at-requires : goal.rest_at-requires
-rest_at-requires c = omega (arith, (keyword_took (rest_self _ _) refl (ascii "shared") c.requires.part_value_2).up, (keyword_took (rest_self _ _) refl (ascii "shared") c.requires.part_value_2).inside)
+rest_at-requires c = omega (arith, (keyword_took (rest_self _ _) (ascii "shared") c.requires.part_value_2).up, (keyword_took (rest_self _ _) (ascii "shared") c.requires.part_value_2).inside)
 
 pub whitespace0-w-requires : goal.whitespace0-w-requires
 whitespace0-w-requires c = omega (arith, c.rest_at.ensures.size, c.requires.part_bound)

@@ -1,8 +1,8 @@
 use Rattle.items.proofs.member_kinds.Laws.{starts_yes, starts_no}
 use Rattle.items.proofs.member_kinds.starts.Goals as goal
 
-pub returns-in-Next : goal.returns-in-Next
-returns-in-Next c = starts_yes _ _ _ _ c.keyword-word.ensures _ c.in-Next.is
+pub returns-in-Ok : goal.returns-in-Ok
+returns-in-Ok c = starts_yes _ _ _ _ c.in-Ok.ensures
 
-pub returns-in-Not : goal.returns-in-Not
-returns-in-Not c = starts_no _ _ _ _ c.keyword-word.ensures _ c.in-Not.is
+pub returns-in-Err : goal.returns-in-Err
+returns-in-Err c = starts_no _ _ _ _ c.in-Err.ensures

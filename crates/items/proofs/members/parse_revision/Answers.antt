@@ -1,24 +1,25 @@
+use Rattle.lexing.proofs.Losses.{passed_on}
 use Rattle.items.specs.clusters.{parse_revision}
 use mathlib.Core.Path.{refl}
 use native.Mathlib.Omega.{arith}
-use Rattle.lexing.proofs.Slicing.{rest_self, begin, done, integer_lost}
+use Rattle.lexing.proofs.Slicing.{rest_self, begin, done}
 use Rattle.lexing.proofs.AnswerLaws.{read_is, read_not}
 use Rattle.lexing.proofs.Pairs.{pair_on, pair_fall, three_go, three_lose}
 use Rattle.lexing.proofs.steps.Laws.{tag_after_took, skips_lost}
 use Rattle.lexing.proofs.names.Laws.{number_took, keyword_number_on}
 use Rattle.items.proofs.members.parse_revision.Goals as goal
 
-pub returns-in_default : goal.returns-in_default
+pub returns-in_err-n : goal.returns-in_err-n
 unfolding parse_revision
-returns-in_default c = read_not _ refl tt (begin (parse_revision) _ _ (three_lose _ _ _ _ c.number_lost.result (rest_self _ _) (integer_lost c.number_lost.ensures c.in_default.is _ _ _ c.keyword_number-number.ensures)))
+returns-in_err-n c = rw (passed_on c.from_residual.ensures) (read_not _ (begin (parse_revision) _ _ (three_lose _ _ _ _ _ (rest_self _ _) c.in_err-n.ensures)))
 
-pub tag_after-semicolon-requires : goal.tag_after-semicolon-requires
-tag_after-semicolon-requires c = let t = number_took (keyword_number_on _) (rest_self _ _) c.in-Value.is c.keyword_number-number.ensures in omega (arith, t.up, t.inside, c.requires)
+pub tag_after-requires : goal.tag_after-requires
+tag_after-requires c = let t = number_took (keyword_number_on _) (rest_self _ _) c.in_ok-n.ensures in omega (arith, t.up, t.inside, c.requires)
 
-pub returns-in_default-semicolon : goal.returns-in_default-semicolon
+pub returns-in_err-c2 : goal.returns-in_err-c2
 unfolding parse_revision
-returns-in_default-semicolon c = read_not _ refl tt (begin (parse_revision) _ _ (three_go _ _ _ _ (number_took (keyword_number_on _) (rest_self _ _) c.in-Value.is c.keyword_number-number.ensures) (pair_fall _ _ _ c.step_lost.result c.tag_after-semicolon.ensures.at (skips_lost c.step_lost.ensures c.in_default-semicolon.is c.tag_after-semicolon.ensures))))
+returns-in_err-c2 c = rw (passed_on c.from_residual-in_err-c2.ensures) (read_not _ (begin (parse_revision) _ _ (three_go _ _ _ _ (number_took (keyword_number_on _) (rest_self _ _) c.in_ok-n.ensures) (pair_fall _ _ _ _ c.in_err-c2.ensures.at (skips_lost c.in_err-c2.ensures)))))
 
 pub returns : goal.returns
 unfolding parse_revision
-returns c = read_is refl (begin (parse_revision) _ _ (three_go _ _ _ _ (number_took (keyword_number_on _) (rest_self _ _) c.in-Value.is c.keyword_number-number.ensures) (pair_on _ _ _ (tag_after_took 59 c.in-Next.is c.tag_after-semicolon.ensures) (done _ _ _ _)))) tt
+returns c = read_is refl (begin (parse_revision) _ _ (three_go _ _ _ _ (number_took (keyword_number_on _) (rest_self _ _) c.in_ok-n.ensures) (pair_on _ _ _ (tag_after_took 59 c.in_ok-c2.ensures) (done _ _ _ _)))) tt

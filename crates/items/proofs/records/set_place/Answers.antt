@@ -9,4 +9,4 @@ overflow_add-w c = omega (arith, word_less c.args.out.now (λ i. omega (arith, c
 
 pub returns : goal.returns
 unfolding placed below same_field field_number total layout
-returns c = rw c.word_at-w.ensures at c.put_word.ensures
+returns c = rw c.from.ensures at (rw c.word_at-w.ensures at c.put_word.ensures)

@@ -4,4 +4,4 @@ use Rattle.items.proofs.writing.first_word.Goals as goal
 
 pub returns : goal.returns
 unfolding packed
-returns c = omega arith
+returns c = omega (arith, c.number.ensures, c.from.ensures)

@@ -1,6 +1,5 @@
-use mathlib.Core.Path.{refl}
 use native.Mathlib.Omega.{arith}
-use Rattle.lexing.proofs.blanks.Laws.{run_blank, run_self, blanks_none, blanks_one}
+use Rattle.lexing.proofs.blanks.Laws.{blank_self, blanks_none, blanks_one}
 use Rattle.lexing.proofs.blanks.whitespace0.Goals as goal
 
 pub returns-then-x-gt47 : goal.returns-then-x-gt47
@@ -12,8 +11,5 @@ overflow_add-result c = omega (arith, (blanks_one c.args.base c.args.part.now _ 
 pub returns-then-peek-gt47 : goal.returns-then-peek-gt47
 returns-then-peek-gt47 c = (blanks_one c.args.base c.args.part.now _ _ c.peek-x.ensures c.peek.ensures c.if-x-eq32.true c.if-peek-gt47.true)
 
-pub blank_run-next-requires : goal.blank_run-next-requires
-blank_run-next-requires c = record { base_le_c = ((omega arith, omega arith), c.requires); doc_value = refl }
-
 pub returns : goal.returns
-returns c = run_blank (run_self c.blank_run-next.ensures) _ refl c.doc_by.ensures
+returns c = blank_self c.blank_run.ensures

@@ -2,10 +2,10 @@ use borrow.Author.Tests.{le-leb, lt-leb}
 use Rattle.lexing.specs.bytes.{within}
 use Rattle.lexing.proofs.bytes.is_between.Goals as goal
 
-pub returns-then-x-lo : goal.returns-then-x-lo
+pub returns-then-lo-x : goal.returns-then-lo-x
 unfolding within
-returns-then-x-lo c = simp (lt-leb _ _ c.if-x-lo.true)
+returns-then-lo-x c = simp (le-leb _ _ c.if-lo-x.true)
 
-pub returns : goal.returns
+pub returns-else-lo-x : goal.returns-else-lo-x
 unfolding within
-returns c = simp (le-leb _ _ c.if-x-lo.false)
+returns-else-lo-x c = simp (lt-leb _ _ c.if-lo-x.false)

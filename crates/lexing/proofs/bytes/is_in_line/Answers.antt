@@ -1,11 +1,14 @@
-use borrow.Author.Tests.{eq-eqb, ne_eqb}
-use Rattle.lexing.specs.bytes.{in_line}
+use mathlib.Core.Logic.{inl, inr}
+use borrow.Author.Tests.{ne_eqb}
+use native.Mathlib.Omega.{arith}
+use Rattle.lexing.specs.bytes.{in_line, lf, cr}
+use Rattle.lexing.proofs.bytes.is_in_line.Goals.{in-10, in_default}
 use Rattle.lexing.proofs.bytes.is_in_line.Goals as goal
-
-pub returns-then-x-eq10 : goal.returns-then-x-eq10
-unfolding in_line
-returns-then-x-eq10 c = cc (eq-eqb _ _ c.if-x-eq10.true)
 
 pub returns : goal.returns
 unfolding in_line
-returns c = cc (ne_eqb _ _ c.if-x-eq10.false)
+returns c =
+    elim c.match-matches.branch [
+      | in-10 w ↦ elim w.in-10.is [ inl e ↦ rw (w.matches-is, e) | inr e ↦ rw (w.matches-is, e) ]
+      | in_default w ↦ rw (w.matches-is, ne_eqb c.args.x lf (λ e. grind arith), ne_eqb c.args.x cr (λ e. grind arith))
+    ]

@@ -1,19 +1,21 @@
-use borrow.Author.Tests.{eq-eqb, ne_eqb}
-use Rattle.lexing.specs.bytes.{is_space}
+use mathlib.Core.Logic.{inl, inr}
+use borrow.Author.Tests.{ne_eqb}
+use native.Mathlib.Omega.{arith}
+use Rattle.lexing.specs.bytes.{is_space, space, tab, lf, cr}
 use Rattle.lexing.proofs.bytes.is_space.Goals as goal
 
-pub returns-then-x-eq32 : goal.returns-then-x-eq32
+pub returns-in_default : goal.returns-in_default
 unfolding is_space
-returns-then-x-eq32 c = simp (eq-eqb _ _ c.if-x-eq32.true)
+returns-in_default c = rw (ne_eqb c.args.x space (λ e. grind arith), ne_eqb c.args.x tab (λ e. grind arith), ne_eqb c.args.x lf (λ e. grind arith), ne_eqb c.args.x cr (λ e. grind arith))
 
-pub returns-then-x-eq9 : goal.returns-then-x-eq9
+pub returns-in_default-2 : goal.returns-in_default-2
 unfolding is_space
-returns-then-x-eq9 c = simp (ne_eqb _ _ c.if-x-eq32.false, eq-eqb _ _ c.if-x-eq9.true)
+returns-in_default-2 c = rw (ne_eqb c.args.x space (λ e. grind arith), ne_eqb c.args.x tab (λ e. grind arith), ne_eqb c.args.x lf (λ e. grind arith), ne_eqb c.args.x cr (λ e. grind arith))
 
-pub returns-then-x-eq10 : goal.returns-then-x-eq10
+pub returns-in-32 : goal.returns-in-32
 unfolding is_space
-returns-then-x-eq10 c = simp (ne_eqb _ _ c.if-x-eq32.false, ne_eqb _ _ c.if-x-eq9.false, eq-eqb _ _ c.if-x-eq10.true)
+returns-in-32 c = elim c.in-32.is [ inl e ↦ rw e | inr e ↦ rw e ]
 
-pub returns : goal.returns
+pub returns-in-32-2 : goal.returns-in-32-2
 unfolding is_space
-returns c = cc (ne_eqb _ _ c.if-x-eq32.false, ne_eqb _ _ c.if-x-eq9.false, ne_eqb _ _ c.if-x-eq10.false)
+returns-in-32-2 c = grind arith

@@ -5,6 +5,6 @@ pub returns-then-is_letter : goal.returns-then-is_letter
 unfolding is_word
 returns-then-is_letter c = cc
 
-pub returns : goal.returns
+pub returns-else-is_letter : goal.returns-else-is_letter
 unfolding is_word
-returns c = cc
+returns-else-is_letter c = cc

@@ -1,3 +1,4 @@
+use Rattle.lexing.proofs.Losses.{passed_on}
 use Rattle.lexing.specs.words.{parse_id}
 use Rattle.lexing.specs.answers.names.{type_after}
 use mathlib.Core.Path.{refl, sym}
@@ -10,23 +11,20 @@ use Rattle.lexing.proofs.words.Laws.{word_at_took, word_at_lost}
 use Rattle.lexing.proofs.names.Laws.{name_more}
 use Rattle.lexing.proofs.names.colon_type.Goals as goal
 
-pub tag_after-colon-requires : goal.tag_after-colon-requires
-tag_after-colon-requires c = omega (arith, c.requires)
+pub tag_after-requires : goal.tag_after-requires
+tag_after-requires c = omega (arith, c.requires)
 
-pub returns-in_default : goal.returns-in_default
-unfolding type_after
-returns-in_default c = read_not _ refl tt (begin (type_after) _ _ (pair_fall _ _ _ c.step_lost.result c.tag_after-colon.ensures.at (skips_lost c.step_lost.ensures c.in_default.is c.tag_after-colon.ensures)))
+pub returns-in_err-c1 : goal.returns-in_err-c1
+returns-in_err-c1 c = rw (passed_on c.from_residual.ensures) (read_not _ (begin (type_after) _ _ (pair_fall _ _ _ _ c.in_err-c1.ensures.at (skips_lost c.in_err-c1.ensures))))
 
 pub blank_at-c2-requires : goal.blank_at-c2-requires
-blank_at-c2-requires c = let t = tag_after_took 58 c.in-Next.is c.tag_after-colon.ensures in omega (arith, t.up, t.inside, c.requires)
+blank_at-c2-requires c = let t = tag_after_took 58 c.in_ok-c1.ensures in omega (arith, t.up, t.inside, c.requires)
 
-pub id_at-name-requires : goal.id_at-name-requires
-id_at-name-requires c = let t = blank_at_took c.blank_at-c2.ensures in omega (arith, t.up, t.inside, c.blank_at-c2.ensures.at.from, c.requires)
+pub id_at-requires : goal.id_at-requires
+id_at-requires c = let t = blank_at_took c.blank_at-c2.ensures in omega (arith, t.up, t.inside, c.blank_at-c2.ensures.at.from, c.requires)
 
-pub returns-in_default-name : goal.returns-in_default-name
-unfolding type_after
-returns-in_default-name c = read_not _ refl tt (begin (type_after) _ _ (pair_on _ _ _ (tag_after_took 58 c.in-Next.is c.tag_after-colon.ensures) (on _ (blank_at_took c.blank_at-c2.ensures) (last_lost parse_id c.step_lost-in_default-name.result c.id_at-name.ensures.at (word_at_lost c.step_lost-in_default-name.ensures c.in_default-name.is c.id_at-name.ensures)))))
+pub returns-in_err-c3 : goal.returns-in_err-c3
+returns-in_err-c3 c = rw (passed_on c.from_residual-in_err-c3.ensures) (read_not _ (begin (type_after) _ _ (pair_on _ _ _ (tag_after_took 58 c.in_ok-c1.ensures) (on _ (blank_at_took c.blank_at-c2.ensures) (last_lost parse_id _ c.in_err-c3.ensures.at (word_at_lost c.in_err-c3.ensures))))))
 
 pub returns : goal.returns
-unfolding type_after
-returns c = read_is refl (begin (type_after) _ _ (pair_on _ _ _ (tag_after_took 58 c.in-Next.is c.tag_after-colon.ensures) (on _ (blank_at_took c.blank_at-c2.ensures) (sym (word_at_took c.in-Next-name.is c.id_at-name.ensures).goes)))) (record { from = omega (arith, (tag_after_took 58 c.in-Next.is c.tag_after-colon.ensures).up, (blank_at_took c.blank_at-c2.ensures).up); up = (word_at_took c.in-Next-name.is c.id_at-name.ensures).up; inside = omega arith }, name_more (word_at_took c.in-Next-name.is c.id_at-name.ensures))
+returns c = read_is refl (begin (type_after) _ _ (pair_on _ _ _ (tag_after_took 58 c.in_ok-c1.ensures) (on _ (blank_at_took c.blank_at-c2.ensures) (sym (word_at_took c.in_ok-c3.ensures).goes)))) (record { from = omega (arith, (tag_after_took 58 c.in_ok-c1.ensures).up, (blank_at_took c.blank_at-c2.ensures).up); up = (word_at_took c.in_ok-c3.ensures).up; inside = omega arith }, name_more (word_at_took c.in_ok-c3.ensures))

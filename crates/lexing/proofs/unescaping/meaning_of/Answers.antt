@@ -1,23 +1,24 @@
-use Rattle.lexing.specs.unescaping.{escaped, escapes}
-use Rattle.lexing.proofs.unescaping.Laws.{found, missed, missing}
+use native.Mathlib.Omega.{arith}
+use Rattle.lexing.specs.unescaping.{escaped, escapes, lookup}
+use Rattle.lexing.proofs.unescaping.Laws.{missed, missing}
 use Rattle.lexing.proofs.unescaping.meaning_of.Goals as goal
 
-pub returns-then-y-eq34 : goal.returns-then-y-eq34
-unfolding escaped escapes
-returns-then-y-eq34 c = found _ _ _ _ c.if-y-eq34.true
+pub returns-in-34 : goal.returns-in-34
+unfolding escaped escapes lookup
+returns-in-34 c = rw c.in-34.is
 
-pub returns-then-y-eq92 : goal.returns-then-y-eq92
-unfolding escaped escapes
-returns-then-y-eq92 c = missed _ _ _ _ c.if-y-eq34.false (found _ _ _ _ c.if-y-eq92.true)
+pub returns-in-92 : goal.returns-in-92
+unfolding escaped escapes lookup
+returns-in-92 c = rw c.in-92.is
 
-pub returns-then-y-eq110 : goal.returns-then-y-eq110
-unfolding escaped escapes
-returns-then-y-eq110 c = missed _ _ _ _ c.if-y-eq34.false (missed _ _ _ _ c.if-y-eq92.false (found _ _ _ _ c.if-y-eq110.true))
+pub returns-in-110 : goal.returns-in-110
+unfolding escaped escapes lookup
+returns-in-110 c = rw c.in-110.is
 
-pub returns-then-y-eq116 : goal.returns-then-y-eq116
-unfolding escaped escapes
-returns-then-y-eq116 c = missed _ _ _ _ c.if-y-eq34.false (missed _ _ _ _ c.if-y-eq92.false (missed _ _ _ _ c.if-y-eq110.false (found _ _ _ _ c.if-y-eq116.true)))
+pub returns-in-116 : goal.returns-in-116
+unfolding escaped escapes lookup
+returns-in-116 c = rw c.in-116.is
 
-pub returns : goal.returns
+pub returns-in_default : goal.returns-in_default
 unfolding escaped escapes
-returns c = missed _ _ _ _ c.if-y-eq34.false (missed _ _ _ _ c.if-y-eq92.false (missed _ _ _ _ c.if-y-eq110.false (missed _ _ _ _ c.if-y-eq116.false (missing _))))
+returns-in_default c = missed _ _ _ _ (λ e. omega arith) (missed _ _ _ _ (λ e. omega arith) (missed _ _ _ _ (λ e. omega arith) (missed _ _ _ _ (λ e. omega arith) (missing _))))

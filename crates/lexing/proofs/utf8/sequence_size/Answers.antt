@@ -1,41 +1,46 @@
-use mathlib.Core.Path.{sym, ◌∙◌}
+use mathlib.Core.Path.{◌∙◌}
+use native.Mathlib.Omega.{arith}
 use Rattle.lexing.specs.utf8.{table}
 use Rattle.lexing.specs.inner.utf8.{later}
-use Rattle.lexing.proofs.utf8.Laws.{this_row, next_row, no_row, not_ascii, sequence_by, sequence_none}
+use Rattle.lexing.proofs.utf8.Laws.{this_row, next_row, no_row, sequence_by, sequence_none}
 use Rattle.lexing.proofs.utf8.sequence_size.Goals as goal
 
-pub returns-then-is_between : goal.returns-then-is_between
+pub returns-in-194-to-223 : goal.returns-in-194-to-223
 unfolding table later
-returns-then-is_between c = c.size_by.ensures ∙ sequence_by c.args.rest.now _ c.requires.0 (next_row _ _ _ _ _ (not_ascii _ c.requires.1) (this_row _ _ _ _ _ (sym c.is_between.ensures ∙ c.if-is_between.true)))
+returns-in-194-to-223 c = c.size_by-in-194-to-223.ensures ∙ sequence_by c.args.rest.now _ c.requires.0 (next_row _ _ _ _ _ (λ a b. omega arith) (this_row _ _ _ _ _ (omega arith) (omega arith)))
 
-pub returns-then-is_between-2 : goal.returns-then-is_between-2
+pub returns-in-224 : goal.returns-in-224
 unfolding table later
-returns-then-is_between-2 c = c.size_by-then-is_between-2.ensures ∙ sequence_by c.args.rest.now _ c.requires.0 (next_row _ _ _ _ _ (not_ascii _ c.requires.1) (next_row _ _ _ _ _ (sym c.is_between.ensures ∙ c.if-is_between.false) (this_row _ _ _ _ _ (sym c.is_between-2.ensures ∙ c.if-is_between-2.true))))
+returns-in-224 c = c.size_by.ensures ∙ sequence_by c.args.rest.now _ c.requires.0 (next_row _ _ _ _ _ (λ a b. omega arith) (next_row _ _ _ _ _ (λ a b. omega arith) (this_row _ _ _ _ _ (omega arith) (omega arith))))
 
-pub returns-then-is_between-3 : goal.returns-then-is_between-3
+pub returns-in-225-to-236 : goal.returns-in-225-to-236
 unfolding table later
-returns-then-is_between-3 c = c.size_by-then-is_between-3.ensures ∙ sequence_by c.args.rest.now _ c.requires.0 (next_row _ _ _ _ _ (not_ascii _ c.requires.1) (next_row _ _ _ _ _ (sym c.is_between.ensures ∙ c.if-is_between.false) (next_row _ _ _ _ _ (sym c.is_between-2.ensures ∙ c.if-is_between-2.false) (this_row _ _ _ _ _ (sym c.is_between-3.ensures ∙ c.if-is_between-3.true)))))
+returns-in-225-to-236 c = c.size_by-in-225-to-236.ensures ∙ sequence_by c.args.rest.now _ c.requires.0 (next_row _ _ _ _ _ (λ a b. omega arith) (next_row _ _ _ _ _ (λ a b. omega arith) (next_row _ _ _ _ _ (λ a b. omega arith) (this_row _ _ _ _ _ (omega arith) (omega arith)))))
 
-pub returns-then-is_between-4 : goal.returns-then-is_between-4
+pub returns-in-237 : goal.returns-in-237
 unfolding table later
-returns-then-is_between-4 c = c.size_by-then-is_between-4.ensures ∙ sequence_by c.args.rest.now _ c.requires.0 (next_row _ _ _ _ _ (not_ascii _ c.requires.1) (next_row _ _ _ _ _ (sym c.is_between.ensures ∙ c.if-is_between.false) (next_row _ _ _ _ _ (sym c.is_between-2.ensures ∙ c.if-is_between-2.false) (next_row _ _ _ _ _ (sym c.is_between-3.ensures ∙ c.if-is_between-3.false) (this_row _ _ _ _ _ (sym c.is_between-4.ensures ∙ c.if-is_between-4.true))))))
+returns-in-237 c = c.size_by-in-237.ensures ∙ sequence_by c.args.rest.now _ c.requires.0 (next_row _ _ _ _ _ (λ a b. omega arith) (next_row _ _ _ _ _ (λ a b. omega arith) (next_row _ _ _ _ _ (λ a b. omega arith) (next_row _ _ _ _ _ (λ a b. omega arith) (this_row _ _ _ _ _ (omega arith) (omega arith))))))
 
-pub returns-then-is_between-5 : goal.returns-then-is_between-5
+pub returns-in-238-to-239 : goal.returns-in-238-to-239
 unfolding table later
-returns-then-is_between-5 c = c.size_by-then-is_between-5.ensures ∙ sequence_by c.args.rest.now _ c.requires.0 (next_row _ _ _ _ _ (not_ascii _ c.requires.1) (next_row _ _ _ _ _ (sym c.is_between.ensures ∙ c.if-is_between.false) (next_row _ _ _ _ _ (sym c.is_between-2.ensures ∙ c.if-is_between-2.false) (next_row _ _ _ _ _ (sym c.is_between-3.ensures ∙ c.if-is_between-3.false) (next_row _ _ _ _ _ (sym c.is_between-4.ensures ∙ c.if-is_between-4.false) (this_row _ _ _ _ _ (sym c.is_between-5.ensures ∙ c.if-is_between-5.true)))))))
+returns-in-238-to-239 c = c.size_by-in-238-to-239.ensures ∙ sequence_by c.args.rest.now _ c.requires.0 (next_row _ _ _ _ _ (λ a b. omega arith) (next_row _ _ _ _ _ (λ a b. omega arith) (next_row _ _ _ _ _ (λ a b. omega arith) (next_row _ _ _ _ _ (λ a b. omega arith) (next_row _ _ _ _ _ (λ a b. omega arith) (this_row _ _ _ _ _ (omega arith) (omega arith)))))))
 
-pub returns-then-is_between-6 : goal.returns-then-is_between-6
+pub returns-in-240 : goal.returns-in-240
 unfolding table later
-returns-then-is_between-6 c = c.size_by-then-is_between-6.ensures ∙ sequence_by c.args.rest.now _ c.requires.0 (next_row _ _ _ _ _ (not_ascii _ c.requires.1) (next_row _ _ _ _ _ (sym c.is_between.ensures ∙ c.if-is_between.false) (next_row _ _ _ _ _ (sym c.is_between-2.ensures ∙ c.if-is_between-2.false) (next_row _ _ _ _ _ (sym c.is_between-3.ensures ∙ c.if-is_between-3.false) (next_row _ _ _ _ _ (sym c.is_between-4.ensures ∙ c.if-is_between-4.false) (next_row _ _ _ _ _ (sym c.is_between-5.ensures ∙ c.if-is_between-5.false) (this_row _ _ _ _ _ (sym c.is_between-6.ensures ∙ c.if-is_between-6.true))))))))
+returns-in-240 c = c.size_by-in-240.ensures ∙ sequence_by c.args.rest.now _ c.requires.0 (next_row _ _ _ _ _ (λ a b. omega arith) (next_row _ _ _ _ _ (λ a b. omega arith) (next_row _ _ _ _ _ (λ a b. omega arith) (next_row _ _ _ _ _ (λ a b. omega arith) (next_row _ _ _ _ _ (λ a b. omega arith) (next_row _ _ _ _ _ (λ a b. omega arith) (this_row _ _ _ _ _ (omega arith) (omega arith))))))))
 
-pub returns-then-is_between-7 : goal.returns-then-is_between-7
+pub returns-in-241-to-243 : goal.returns-in-241-to-243
 unfolding table later
-returns-then-is_between-7 c = c.size_by-then-is_between-7.ensures ∙ sequence_by c.args.rest.now _ c.requires.0 (next_row _ _ _ _ _ (not_ascii _ c.requires.1) (next_row _ _ _ _ _ (sym c.is_between.ensures ∙ c.if-is_between.false) (next_row _ _ _ _ _ (sym c.is_between-2.ensures ∙ c.if-is_between-2.false) (next_row _ _ _ _ _ (sym c.is_between-3.ensures ∙ c.if-is_between-3.false) (next_row _ _ _ _ _ (sym c.is_between-4.ensures ∙ c.if-is_between-4.false) (next_row _ _ _ _ _ (sym c.is_between-5.ensures ∙ c.if-is_between-5.false) (next_row _ _ _ _ _ (sym c.is_between-6.ensures ∙ c.if-is_between-6.false) (this_row _ _ _ _ _ (sym c.is_between-7.ensures ∙ c.if-is_between-7.true)))))))))
+returns-in-241-to-243 c = c.size_by-in-241-to-243.ensures ∙ sequence_by c.args.rest.now _ c.requires.0 (next_row _ _ _ _ _ (λ a b. omega arith) (next_row _ _ _ _ _ (λ a b. omega arith) (next_row _ _ _ _ _ (λ a b. omega arith) (next_row _ _ _ _ _ (λ a b. omega arith) (next_row _ _ _ _ _ (λ a b. omega arith) (next_row _ _ _ _ _ (λ a b. omega arith) (next_row _ _ _ _ _ (λ a b. omega arith) (this_row _ _ _ _ _ (omega arith) (omega arith)))))))))
 
-pub returns-then-is_between-8 : goal.returns-then-is_between-8
+pub returns-in-244 : goal.returns-in-244
 unfolding table later
-returns-then-is_between-8 c = c.size_by-then-is_between-8.ensures ∙ sequence_by c.args.rest.now _ c.requires.0 (next_row _ _ _ _ _ (not_ascii _ c.requires.1) (next_row _ _ _ _ _ (sym c.is_between.ensures ∙ c.if-is_between.false) (next_row _ _ _ _ _ (sym c.is_between-2.ensures ∙ c.if-is_between-2.false) (next_row _ _ _ _ _ (sym c.is_between-3.ensures ∙ c.if-is_between-3.false) (next_row _ _ _ _ _ (sym c.is_between-4.ensures ∙ c.if-is_between-4.false) (next_row _ _ _ _ _ (sym c.is_between-5.ensures ∙ c.if-is_between-5.false) (next_row _ _ _ _ _ (sym c.is_between-6.ensures ∙ c.if-is_between-6.false) (next_row _ _ _ _ _ (sym c.is_between-7.ensures ∙ c.if-is_between-7.false) (this_row _ _ _ _ _ (sym c.is_between-8.ensures ∙ c.if-is_between-8.true))))))))))
+returns-in-244 c = c.size_by-in-244.ensures ∙ sequence_by c.args.rest.now _ c.requires.0 (next_row _ _ _ _ _ (λ a b. omega arith) (next_row _ _ _ _ _ (λ a b. omega arith) (next_row _ _ _ _ _ (λ a b. omega arith) (next_row _ _ _ _ _ (λ a b. omega arith) (next_row _ _ _ _ _ (λ a b. omega arith) (next_row _ _ _ _ _ (λ a b. omega arith) (next_row _ _ _ _ _ (λ a b. omega arith) (next_row _ _ _ _ _ (λ a b. omega arith) (this_row _ _ _ _ _ (omega arith) (omega arith))))))))))
 
-pub returns : goal.returns
+pub returns-in_default : goal.returns-in_default
 unfolding table
-returns c = sequence_none c.args.rest.now c.requires.0 (next_row _ _ _ _ _ (not_ascii _ c.requires.1) (next_row _ _ _ _ _ (sym c.is_between.ensures ∙ c.if-is_between.false) (next_row _ _ _ _ _ (sym c.is_between-2.ensures ∙ c.if-is_between-2.false) (next_row _ _ _ _ _ (sym c.is_between-3.ensures ∙ c.if-is_between-3.false) (next_row _ _ _ _ _ (sym c.is_between-4.ensures ∙ c.if-is_between-4.false) (next_row _ _ _ _ _ (sym c.is_between-5.ensures ∙ c.if-is_between-5.false) (next_row _ _ _ _ _ (sym c.is_between-6.ensures ∙ c.if-is_between-6.false) (next_row _ _ _ _ _ (sym c.is_between-7.ensures ∙ c.if-is_between-7.false) (next_row _ _ _ _ _ (sym c.is_between-8.ensures ∙ c.if-is_between-8.false) (no_row _))))))))))
+returns-in_default c = sequence_none c.args.rest.now c.requires.0 (next_row _ _ _ _ _ (λ a b. omega arith) (next_row _ _ _ _ _ (λ a b. omega arith) (next_row _ _ _ _ _ (λ a b. omega arith) (next_row _ _ _ _ _ (λ a b. omega arith) (next_row _ _ _ _ _ (λ a b. omega arith) (next_row _ _ _ _ _ (λ a b. omega arith) (next_row _ _ _ _ _ (λ a b. omega arith) (next_row _ _ _ _ _ (λ a b. omega arith) (next_row _ _ _ _ _ (λ a b. omega arith) (no_row _))))))))))
+
+pub returns-in_default-2 : goal.returns-in_default-2
+unfolding table
+returns-in_default-2 c = sequence_none c.args.rest.now c.requires.0 (next_row _ _ _ _ _ (λ a b. omega arith) (next_row _ _ _ _ _ (λ a b. omega arith) (next_row _ _ _ _ _ (λ a b. omega arith) (next_row _ _ _ _ _ (λ a b. omega arith) (next_row _ _ _ _ _ (λ a b. omega arith) (next_row _ _ _ _ _ (λ a b. omega arith) (next_row _ _ _ _ _ (λ a b. omega arith) (next_row _ _ _ _ _ (λ a b. omega arith) (next_row _ _ _ _ _ (λ a b. omega arith) (no_row _))))))))))

@@ -1,15 +1,12 @@
-use mathlib.Core.Path.{sym, ◌∙◌}
-use Rattle.lexing.proofs.word_sets.Laws.{lower_more, lower_not, lower_end}
+use Rattle.std.proofs.Common.{rules, tests, ◌∙◌, ◌-◌, drop, take}
+use lib.Dec.{eqb}
+use Rattle.std.proofs.lemmas.Iterator.{YieldsList-from_slice}
+use Rattle.std.proofs.lemmas.Iterator.Search.{all_from_yields_List}
+use Rattle.lexing.specs.bytes.{lower}
+use Rattle.lexing.proofs.word_sets.Laws.{lower_all, lower_rest}
 use Rattle.lexing.proofs.word_sets.is_lower.Goals as goal
 
-pub loop-i-init : goal.loop-i-init
-loop-i-init c = c.lower_run-i.ensures
-
-pub returns-then-lower_of-x : goal.returns-then-lower_of-x
-returns-then-lower_of-x c = lower_not _ _ _ c.loop-i.invariant c.requires c.loop-i-test.true (λ e. c.if-lower_of-x.true (c.lower_of.ensures ∙ e))
-
-pub loop-i-preserved : goal.loop-i-preserved
-loop-i-preserved c = lower_more _ _ _ c.loop-i.invariant c.requires c.loop-i-test.true (sym c.lower_of.ensures ∙ c.if-lower_of-x.false)
-
 pub returns : goal.returns
-returns c = lower_end _ _ _ c.loop-i.invariant c.requires c.loop-i-test.false
+returns c =
+    let v = take (c.args.n - c.lower_run-i.result) (drop c.lower_run-i.result c.args.part.now) in
+    all_from_yields_List (λ x. eqb (lower x) x) _ _ _ c.all.ensures.ran (YieldsList-from_slice v c.iter.ensures.rest) (λ x b q k. search (rules, tests)) ∙ (lower_all v ∙ lower_rest _ _ _ c.lower_run-i.ensures)

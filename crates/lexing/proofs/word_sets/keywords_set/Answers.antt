@@ -5,11 +5,5 @@ use Rattle.lexing.specs.inner.word_sets.{initial}
 use Rattle.lexing.proofs.word_sets.Laws.{set_none}
 use Rattle.lexing.proofs.word_sets.keywords_set.Goals as goal
 
-pub returns-then-is_initial : goal.returns-then-is_initial
-returns-then-is_initial c = c.words_by_front.ensures
-
-pub returns-then-is_initial-2 : goal.returns-then-is_initial-2
-returns-then-is_initial-2 c = c.words_by_front-then-is_initial-2.ensures
-
 pub returns : goal.returns
 returns c = set_none _ _ _ (ap (λ x. initial x (set_of c.args.set)) (sym (c.lower_of.ensures ∙ ap lower c.peek-x.ensures)) ∙ (sym c.is_initial-2.ensures ∙ c.if-is_initial-2.false))

@@ -7,9 +7,6 @@ use Rattle.lexing.proofs.word_sets.words_of_set.Given as goal
 abbrev pub invariant-loop-k : goal.invariant-loop-k
 invariant-loop-k l = WalkAt l.set l.base l.part l.flags l.next l.first l.start l.rest l.k × (l.next ≡ l.initial.next)
 
-abbrev pub decreases-loop-k : goal.decreases-loop-k
-decreases-loop-k l = l.count - l.k
-
 abbrev pub invariant-words : goal.invariant-words
 invariant-words l = SetAt l.set l.base l.part l.flags l.next l.first
 

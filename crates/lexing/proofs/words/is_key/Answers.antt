@@ -1,17 +1,12 @@
-use borrow.Author.Count.{below_none, below_more}
-use mathlib.Core.Path.{sym, ◌∙◌}
+use mathlib.Core.Path.{◌∙◌}
 use native.Mathlib.Omega.{arith}
-use Rattle.lexing.proofs.words.Laws.{is_key_not, is_key_end}
+use Rattle.std.proofs.Common.{rules, tests}
+use Rattle.std.proofs.lemmas.Bool.Decides.{nat_tests}
+use Rattle.std.proofs.lemmas.Iterator.{YieldsList-from_slice}
+use Rattle.std.proofs.lemmas.Iterator.Search.{all_from_yields_List}
+use Rattle.lexing.specs.words.{is_key_letter}
+use Rattle.lexing.proofs.words.Laws.{is_key_all}
 use Rattle.lexing.proofs.words.is_key.Goals as goal
 
-pub loop-i-init : goal.loop-i-init
-loop-i-init c = (omega arith, below_none _)
-
-pub returns-then-not-is_key_letter : goal.returns-then-not-is_key_letter
-returns-then-not-is_key_letter c = is_key_not c.args.key.now _ c.loop-i-test.true (sym c.is_key_letter.ensures ∙ c.if-not-is_key_letter.true)
-
-pub loop-i-preserved : goal.loop-i-preserved
-loop-i-preserved c = (omega arith, below_more _ _ c.loop-i.invariant.1 (sym c.is_key_letter.ensures ∙ c.if-not-is_key_letter.false))
-
-pub returns : goal.returns
-returns c = is_key_end c.args.key.now _ c.loop-i.invariant c.loop-i-test.false
+pub returns-then-not-is_empty : goal.returns-then-not-is_empty
+returns-then-not-is_empty c = all_from_yields_List is_key_letter _ _ _ c.all.ensures.ran (YieldsList-from_slice c.args.key.now cc) (λ x b q k. search (rules, tests)) ∙ is_key_all c.args.key.now (grind (arith, nat_tests))

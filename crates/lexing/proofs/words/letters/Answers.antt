@@ -7,9 +7,6 @@ use Rattle.lexing.proofs.words.letters.Goals as goal
 pub loop-i-init : goal.loop-i-init
 loop-i-init c = runs_from _ _ _ c.requires
 
-pub overflow_sub-part : goal.overflow_sub-part
-overflow_sub-part c = omega (arith, c.loop-i.invariant.inside)
-
 pub overflow_cast-result : goal.overflow_cast-result
 overflow_cast-result c = omega (arith, trailing_le 64 c.non_letters-m.result)
 
@@ -21,6 +18,3 @@ returns-then-m-ne0 c = let h = letters_some _ _ _ _ (λ j. (c.shared_slice_known
 
 pub loop-i-preserved : goal.loop-i-preserved
 loop-i-preserved c = letters_all _ _ _ _ (λ j. (c.shared_slice_known-1.given j).fits) c.eight_at.ensures c.non_letters-m.ensures (omega (arith, c.loop-i-test.true)) c.loop-i.invariant c.if-m-ne0.false
-
-pub returns : goal.returns
-returns c = (c.loop-i.invariant.inside, c.loop-i.invariant.left)

@@ -1,19 +1,18 @@
-use mathlib.Core.Path.{◌∙◌, sym}
-use native.Mathlib.Omega.{arith}
-use Rattle.matter_idl.proofs.hoisting.Laws.{hits_no_place, hits_no_kind, hits_no_size, hits_same}
+use mathlib.Core.Path.{sym, ◌∙◌}
+use mathlib.Core.Bool.{false≢true}
+use borrow.Author.Tests.{eqb-true, eq-eqb}
+use Rattle.matter_idl.proofs.hoisting.Laws.{hits_no_place, hits_no_kind, hits_same}
+use Rattle.matter_idl.proofs.hoisting.is_global.Goals.{then-kind_at-kind, else-kind_at-kind}
 use Rattle.matter_idl.proofs.hoisting.is_global.Goals as goal
 
-pub returns-then-kind_at-kind : goal.returns-then-kind_at-kind
-returns-then-kind_at-kind c = hits_no_kind _ _ _ _ _ _ (λ e. c.if-kind_at-kind.true (c.kind_at.ensures ∙ e))
+pub returns-then-place_at-eq-GLOBAL : goal.returns-then-place_at-eq-GLOBAL
+returns-then-place_at-eq-GLOBAL c = elim c.if-kind_at-kind.branch [
+  | then-kind_at-kind w ↦ hits_same _ _ _ _ _ (sym w.place_at.ensures ∙ eqb-true _ _ (sym w.value-is ∙ c.if-place_at-eq-GLOBAL.true)) (sym c.kind_at.ensures ∙ w.if-kind_at-kind.true) (rw c.name_at.ensures at c.eq.ensures)
+  | else-kind_at-kind w ↦ absurd (w.if-kind_at-kind.false (eqb-true _ _ (sym w.value-is ∙ c.if-place_at-eq-GLOBAL.true)))
+]
 
-pub returns-then-name_length_at-size : goal.returns-then-name_length_at-size
-returns-then-name_length_at-size c = hits_no_size _ _ _ _ _ _ c.requires.name_inside c.requires.size_in_bounds (λ e. c.if-name_length_at-size.true (c.name_length_at.ensures ∙ e))
-
-pub returns-then-place_at-ne-GLOBAL : goal.returns-then-place_at-ne-GLOBAL
-returns-then-place_at-ne-GLOBAL c = hits_no_place _ _ _ _ _ _ (λ e. c.if-place_at-ne-GLOBAL.true (c.place_at.ensures ∙ e))
-
-pub same_bytes-requires : goal.same_bytes-requires
-same_bytes-requires c = record { size_in_bounds = c.requires.size_in_bounds; size_in_bounds_2 = omega (arith, c.requires.name_inside, c.if-name_length_at-size.false, c.name_offset_at-other.ensures, c.name_length_at.ensures) }
-
-pub returns : goal.returns
-returns c = hits_same _ _ _ _ _ _ (sym c.place_at.ensures ∙ c.if-place_at-ne-GLOBAL.false) (sym c.kind_at.ensures ∙ c.if-kind_at-kind.false) (sym c.name_length_at.ensures ∙ c.if-name_length_at-size.false) (rw c.name_offset_at-other.ensures at c.same_bytes.ensures)
+pub returns-else-place_at-eq-GLOBAL : goal.returns-else-place_at-eq-GLOBAL
+returns-else-place_at-eq-GLOBAL c = elim c.if-kind_at-kind.branch [
+  | then-kind_at-kind w ↦ c.if-place_at-eq-GLOBAL.false ∙ hits_no_place _ _ _ _ _ (λ e. false≢true (sym (sym w.value-is ∙ c.if-place_at-eq-GLOBAL.false) ∙ eq-eqb _ _ (w.place_at.ensures ∙ e)))
+  | else-kind_at-kind w ↦ c.if-place_at-eq-GLOBAL.false ∙ hits_no_kind _ _ _ _ _ (λ e. w.if-kind_at-kind.false (c.kind_at.ensures ∙ e))
+]

@@ -1,14 +1,15 @@
+use Rattle.lexing.proofs.Losses.{passed_on}
 use Rattle.matter_idl.proofs.reading.Judged.{verdict_ill, verdict_lost, verdict_read}
 use Rattle.matter_idl.proofs.reading.verdict_at.Goals as goal
 
-pub returns-in-IllFormed : goal.returns-in-IllFormed
-returns-in-IllFormed c = verdict_ill c.args.base c.args.part.now c.utf8_error-u.result _ c.utf8_error-u.ensures c.in-IllFormed.is
+pub returns-in-Some : goal.returns-in-Some
+returns-in-Some c = verdict_ill c.args.base c.args.part.now _ c.in-Some.ensures
 
-pub count_items-r-requires : goal.count_items-r-requires
-count_items-r-requires c = c.requires
+pub count_items-requires : goal.count_items-requires
+count_items-requires c = c.requires
 
-pub returns-in_default-r : goal.returns-in_default-r
-returns-in_default-r c = verdict_lost c.args.base c.args.part.now c.utf8_error-u.result c.utf8_error-u.ensures c.in_default.is c.count_items-r.result _ _ c.count_items-r.ensures c.in_default-r.is c.count_lost.ensures _ c.refused_by.ensures
+pub returns-in_err-n : goal.returns-in_err-n
+returns-in_err-n c = rw (passed_on c.from_residual.ensures) (verdict_lost c.args.base c.args.part.now c.in_default.ensures _ c.in_err-n.ensures)
 
 pub returns : goal.returns
-returns c = verdict_read c.args.base c.args.part.now c.utf8_error-u.result c.utf8_error-u.ensures c.in_default.is c.count_items-r.result _ _ c.count_items-r.ensures c.in-Words.is
+returns c = verdict_read c.args.base c.args.part.now c.in_default.ensures _ _ c.in_ok-n.ensures
