@@ -1,5 +1,5 @@
 -- Blanks before a parser that itself begins with blanks change nothing.
-use mathlib.Core.Path.{◌≡◌, refl, ◌∙◌}
+use mathlib.Core.Path.{◌≡◌, refl, sym, ◌∙◌}
 use mathlib.Core.List.{List}
 use Prim.Native.Nat.{ℕ}
 use Rattle.lexing.specs.reply.{Reply, ok, fail, stop, Parser, ◌>>=◌, ◌>>◌}
@@ -20,6 +20,10 @@ module _ {A : Type 0} (m : Parser A) (b : ℕ) (u : List ℕ) where
   -- so what such a parser answers is also the answer after blanks
   pub read_after : {P : Type 0} {f : ℕ → List ℕ → P → A} {W : ℕ → P → ℕ → Type 0} {t : Read P} → ReadTo f W (after_blanks m) t b u → ReadTo f W (after_blanks (after_blanks m)) t b u
   read_after h = record { reads = h.reads ∙ once; within = h.within }
+
+  -- and what is the answer after blanks is its answer
+  pub read_before : {P : Type 0} {f : ℕ → List ℕ → P → A} {W : ℕ → P → ℕ → Type 0} {t : Read P} → ReadTo f W (after_blanks (after_blanks m)) t b u → ReadTo f W (after_blanks m) t b u
+  read_before h = record { reads = h.reads ∙ sym once; within = h.within }
 
   pub skips_after_blanks : {a : Step} → Skips (after_blanks m) a b u → Skips (after_blanks (after_blanks m)) a b u
   skips_after_blanks h = record { value = h.value; reads = h.reads ∙ once }

@@ -1,5 +1,5 @@
 -- Tries between braces, and the first pass over a loop of them. They hold for any tries and records.
-use Rattle.lexing.specs.declared.answers.Lost.TheVariants.{Fail, Stop}
+use Rattle.lexing.specs.declared.answers.LostBy.TheVariants.{Fail, Stop}
 use Rattle.std.specs.Prelude.{Ok, Err}
 use mathlib.Core.Path.{◌≡◌, refl, sym, ap, ◌∙◌, subst}
 use mathlib.Core.Logic.{◌⊎◌, inl, inr}
@@ -12,8 +12,7 @@ use lib.ListN.{drop}
 use Rattle.lexing.specs.reply.{Reply, ok, fail, stop, Parser, ret, ◌>>=◌, ◌>>◌, catch, position, fail_at}
 use Rattle.lexing.specs.words.{tag}
 use Rattle.lexing.specs.blanks.{Doc, whitespace0}
-use Rattle.lexing.specs.answers.{Rest, lost_reply, number_of, reply, Read, read_answer}
-use Rattle.lexing.specs.declared.answers.Lost.{Lost}
+use Rattle.lexing.specs.answers.{Rest, lost_reply, number_of, reply, Read, read_answer, Lost}
 use Rattle.lexing.proofs.Onward.{Onward, advances_onward, tag_advances}
 use Rattle.lexing.proofs.Locality.{Consumes, LocalInside, chain_ret}
 use Rattle.lexing.proofs.Slicing.{Took, took, walks, begin, go, on, lose, fall, done, rest_self, rest_from}

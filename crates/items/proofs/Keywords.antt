@@ -6,8 +6,7 @@ use Prim.Native.Nat.{ℕ, ◌-◌}
 use lib.ListN.{drop}
 use Rattle.lexing.specs.reply.{ok, fail, ret, ◌>>=◌, ◌>>◌}
 use Rattle.lexing.specs.words.{keyword}
-use Rattle.lexing.specs.answers.{word_reply}
-use Rattle.lexing.specs.declared.answers.Lost.{Lost}
+use Rattle.lexing.specs.answers.{word_reply, Lost}
 use Rattle.lexing.proofs.word_sets.Laws.{lost_here}
 
 pub keyword_missing : (k : List ℕ) (b : ℕ) (u : List ℕ) (l : Lost) → word_reply (Err l) b u ≡ keyword k b u → fail b ≡ keyword k b u

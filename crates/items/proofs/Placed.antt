@@ -1,5 +1,5 @@
 -- The second pass over a list of tries between braces: a turn of the loop, and its end at the closing brace. They hold for any tries and records.
-use Rattle.lexing.specs.declared.answers.Lost.TheVariants.{Fail}
+use Rattle.lexing.specs.declared.answers.LostBy.TheVariants.{Fail}
 use mathlib.Core.Path.{◌≡◌, refl, sym, ap, ◌∙◌, subst}
 use mathlib.Core.Logic.{◌⊎◌, inl, inr}
 use mathlib.Core.List.{List, [], ◌∷◌, ◌++◌}
@@ -9,8 +9,7 @@ use lib.ListN.{length, drop}
 use Rattle.lexing.specs.reply.{Reply, ok, fail, stop, Parser, ret, ◌>>=◌, ◌>>◌, iter_within, iter, position, fail_at}
 use Rattle.lexing.specs.words.{tag}
 use Rattle.lexing.specs.blanks.{Doc, whitespace0}
-use Rattle.lexing.specs.answers.{Rest, lost_reply, number_of}
-use Rattle.lexing.specs.declared.answers.Lost.{Lost}
+use Rattle.lexing.specs.answers.{Rest, lost_reply, number_of, Lost}
 use Rattle.lexing.proofs.Losses.{by_lost}
 use Rattle.lexing.proofs.Onward.{Onward}
 use Rattle.lexing.proofs.Locality.{Consumes, LocalInside}

@@ -1,12 +1,12 @@
 -- What the answers of the code say, as replies of the definitions: what the modules share, and each module's own apart.
 pub mod items
-use Rattle.lexing.specs.declared.answers.Lost.TheVariants.{Fail, Stop}
-use Rattle.std.specs.Prelude.{ℕ, ◌+◌, ◌-◌, ◌*◌, ◌≤◌, ◌<◌, ◌≡◌, Bool, true, false, List, length, drop, Ok, Err, Some, None, Option as CodeOption}
+use Rattle.lexing.specs.declared.answers.LostBy.TheVariants.{Fail, Stop}
+use Rattle.std.specs.Prelude.{ℕ, ◌+◌, ◌-◌, ◌*◌, ◌≤◌, ◌<◌, ◌≡◌, Bool, true, false, List, length, drop, Result, Ok, Err, Some, None, Option as CodeOption}
 use Rattle.std.proofs.Math.Option.{Option, none, some}
 use Rattle.lexing.specs.reply.{Parser, ok, ret, ◌>>=◌, ◌>>◌}
 use Rattle.lexing.specs.blanks.{Doc, whitespace0}
 use Rattle.lexing.specs.answers.{Answer, got, lost, reply, doc_of, Read, read_answer}
-use Rattle.lexing.specs.declared.answers.Lost.{Lost}
+use Rattle.lexing.specs.declared.answers.LostBy.{LostBy}
 use Rattle.lexing.specs.declared.blanks.DocSpan.{DocSpan}
 use Rattle.items.specs.entries.{api_maturity}
 use Rattle.items.specs.clusters.{mapped}
@@ -89,7 +89,7 @@ pub record CountsTo {I A : Type 0} (records : I → A → List Record) (m : I �
   pub counts : (i : I) → CountTo (records i) (m i) r b u
 
 -- the count of a repetition, after n words at c, by why its last try was lost
-abbrev pub count_end : Lost → ℕ → ℕ → Read ℕ
+abbrev pub count_end : {R : Type 0} → LostBy R → ℕ → ℕ → Result (ℕ × ℕ) (LostBy R)
 count_end (Fail p) n c = Ok (n, c)
 count_end (Stop i p) n c = Err (Stop i p)
 
@@ -148,7 +148,7 @@ handling_number Persist = 2
 
 -- the first word of a record, and what fits it
 abbrev pub first_of : First → ℕ
-first_of f = packed 0 (first_row offset_width (kind_number f.kind) f.place (maturity_number f.maturity) f.doc_present f.flags f.name f.name_length (privilege_number f.first_privilege) (privilege_number f.second_privilege))
+first_of f = packed 0 (first_row offset_width f.kind f.place (maturity_number f.maturity) f.doc_present f.flags f.name f.name_length (privilege_number f.first_privilege) (privilege_number f.second_privilege))
 
 pub record Fits (f : First) : Type 0 where
   pub place_fits : f.place < 4

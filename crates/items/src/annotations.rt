@@ -12,7 +12,7 @@ ghost use Rattle.items.specs.inner.annotations.{annotation_at, AnnotationTo, Ann
 ghost use Rattle.items.specs.inner.writing.{room_for};
 
 use crate::counts::count_end;
-use crate::layout::{ANNOTATION_WORDS, Kind};
+use crate::layout::{ANNOTATION, ANNOTATION_WORDS};
 use crate::levels::Privilege;
 use crate::maturity::Maturity;
 use crate::runs::{Element, count_run, write_run};
@@ -111,7 +111,7 @@ fn put_annotation(out: &mut [u8], at: usize, a: AnnotationParts)
     ensures { out.new ≡ put at (catalogue_bytes layout (annotation_parts a ∷ [])) out.old }
 {
     let first = First {
-        kind: Kind::Annotation,
+        kind: ANNOTATION,
         place: 0,
         maturity: Maturity::Stable,
         doc_present: 0,

@@ -11,7 +11,7 @@ ghost use Rattle.items.specs.inner.attributes.{PrivilegesTo, AttributeCountTo, a
 ghost use Rattle.items.specs.inner.writing.{room_for};
 
 use crate::fields::{closed_field, put_field};
-use crate::layout::{ATTRIBUTE_BYTES, Kind, WHOLE_ATTRIBUTE_BYTES, WHOLE_ATTRIBUTE_WORDS};
+use crate::layout::{ATTRIBUTE, ATTRIBUTE_BYTES, WHOLE_ATTRIBUTE_BYTES, WHOLE_ATTRIBUTE_WORDS};
 use crate::levels::{Privilege, colon_privilege};
 use crate::writing::{First, FrontParts, Wrote, doc_bit, put_documented};
 use lexing::answers::{Lost, Read, Refusal};
@@ -222,7 +222,7 @@ fn put_attribute(out: &mut [u8], at: usize, front: FrontParts, head: AttributeHe
 {
     let doc = front.doc;
     let first = First {
-        kind: Kind::Attribute,
+        kind: ATTRIBUTE,
         place: 0,
         maturity: front.maturity,
         doc_present: doc_bit(doc),

@@ -81,7 +81,7 @@ fn put_choice(out: &mut [u8], at: usize, front: FrontParts, head: ChoiceHeadPart
 {
     let doc = front.doc;
     let first = First {
-        kind: front.kind,
+        kind: front.kind.number(),
         place: front.place,
         maturity: front.maturity,
         doc_present: doc_bit(doc),

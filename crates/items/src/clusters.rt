@@ -13,7 +13,7 @@ ghost use Rattle.items.specs.records.{cluster_kind};
 ghost use Rattle.items.specs.inner.writing.{room_for};
 
 use crate::counts::{closed, count_end};
-use crate::layout::{CLUSTER_BYTES, CLUSTER_WORDS, Kind};
+use crate::layout::{CLUSTER, CLUSTER_BYTES, CLUSTER_WORDS};
 use crate::levels::Privilege;
 use crate::members::{MembersWrote, count_member, write_member};
 use crate::writing::{First, FrontParts, Wrote, doc_bit, doc_word, first_word};
@@ -161,7 +161,7 @@ fn put_cluster(out: &mut [u8], at: usize, front: FrontParts, head: ClusterHeadPa
 {
     let doc = front.doc;
     let first = First {
-        kind: Kind::Cluster,
+        kind: CLUSTER,
         place: 0,
         maturity: front.maturity,
         doc_present: doc_bit(doc),

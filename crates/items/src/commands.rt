@@ -9,7 +9,7 @@ ghost use Rattle.items.specs.answers.{FrontFits, Room, Written, maturity_number}
 ghost use Rattle.items.specs.inner.commands.{CommandHeadTo, CommandTypesTo, CommandBetween, CommandTo, CommandCountTo, command_records, OptionalIdAt, extent_if, command_parts};
 ghost use Rattle.items.specs.inner.writing.{room_for};
 
-use crate::layout::{COMMAND_BYTES, COMMAND_WORDS, DOCUMENTED_BYTES, Kind};
+use crate::layout::{COMMAND, COMMAND_BYTES, COMMAND_WORDS, DOCUMENTED_BYTES};
 use crate::levels::{Privilege, access_to};
 use crate::writing::{First, FrontParts, Wrote, doc_bit, flag, put_documented, span_word};
 use lexing::answers::Read;
@@ -133,7 +133,7 @@ fn put_command(out: &mut [u8], at: usize, front: FrontParts, p: CommandParts)
     let h = p.head;
     let t = p.types;
     let first = First {
-        kind: Kind::Command,
+        kind: COMMAND,
         place: 0,
         maturity: front.maturity,
         doc_present: doc_bit(doc),

@@ -9,7 +9,7 @@ ghost use Rattle.items.specs.inner.entries.{entry_at, EntryBounds, EntryTo, EndT
 ghost use Rattle.items.specs.inner.writing.{room_for};
 
 use crate::annotations::{count_annotations_list, write_entry_annotations};
-use crate::layout::{ENTRY_BYTES, ENTRY_WORDS, Kind};
+use crate::layout::{ENTRY, ENTRY_BYTES, ENTRY_WORDS};
 use crate::levels::Privilege;
 use crate::maturity::{Maturity, maturity_between};
 use crate::runs::{Element, count_braced, write_braced};
@@ -103,7 +103,7 @@ fn put_entry(out: &mut [u8], at: usize, e: EntryParts)
     ensures { out.new ≡ put at (catalogue_bytes layout (parts_record e ∷ [])) out.old }
 {
     let first = First {
-        kind: Kind::Entry,
+        kind: ENTRY,
         place: 0,
         maturity: e.maturity,
         doc_present: 0,

@@ -10,7 +10,7 @@ ghost use Rattle.items.specs.inner.events.{EventQualitiesTo, EventHeadTo, EventC
 ghost use Rattle.items.specs.inner.writing.{room_for};
 
 use crate::fields::{count_struct_fields, write_struct_fields};
-use crate::layout::{EVENT_BYTES, EVENT_WORDS, Kind};
+use crate::layout::{EVENT, EVENT_BYTES, EVENT_WORDS};
 use crate::levels::{Priority, Privilege, access_to, event_priority};
 use crate::writing::{First, FrontParts, Wrote, doc_bit, doc_word, first_word};
 use lexing::answers::{Read, Step};
@@ -111,7 +111,7 @@ fn put_event(out: &mut [u8], at: usize, front: FrontParts, head: EventHeadParts)
 {
     let doc = front.doc;
     let first = First {
-        kind: Kind::Event,
+        kind: EVENT,
         place: 0,
         maturity: front.maturity,
         doc_present: doc_bit(doc),

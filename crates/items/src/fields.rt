@@ -9,7 +9,7 @@ ghost use Rattle.items.specs.answers.{CountTo, Room, Written};
 ghost use Rattle.items.specs.inner.fields.{FieldTo, struct_field_at, StructFieldBetween, StructFieldTo, optional_length, MarkerTo, field_parts};
 ghost use Rattle.items.specs.inner.writing.{room_for};
 
-use crate::layout::{FIELD_WORDS, Kind};
+use crate::layout::{FIELD, FIELD_WORDS};
 use crate::levels::Privilege;
 use crate::maturity::{Maturity, maturity_between};
 use crate::runs::{Element, count_braced, write_braced};
@@ -193,7 +193,7 @@ pub fn put_field(out: &mut [u8], at: usize, s: StructFieldParts)
 {
     let f = s.field;
     let first = First {
-        kind: Kind::Field,
+        kind: FIELD,
         place: 0,
         maturity: s.maturity,
         doc_present: 0,

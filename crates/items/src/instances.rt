@@ -175,7 +175,7 @@ pub fn plain_word(kind: Kind, flags: u8, name: Named) -> u64
     ensures { result ≡ plain_word kind flags name.start name.end }
 {
     let first = First {
-        kind,
+        kind: kind.number(),
         place: 0,
         maturity: Maturity::Stable,
         doc_present: 0,

@@ -11,7 +11,7 @@ ghost use Rattle.items.specs.inner.structs.{StructFrom, HeadBetween, StructHeadT
 ghost use Rattle.items.specs.inner.writing.{room_for};
 
 use crate::fields::{count_struct_fields, write_struct_fields};
-use crate::layout::{Kind, STRUCT_BYTES, STRUCT_WORDS};
+use crate::layout::{STRUCT, STRUCT_BYTES, STRUCT_WORDS};
 use crate::levels::Privilege;
 use crate::writing::{First, FrontParts, Wrote, doc_bit, doc_word, first_word};
 use lexing::answers::Read;
@@ -190,7 +190,7 @@ fn put_struct(out: &mut [u8], at: usize, front: FrontParts, head: StructHeadPart
     let doc = front.doc;
     let kind = head.kind;
     let first = First {
-        kind: Kind::Struct,
+        kind: STRUCT,
         place: front.place,
         maturity: front.maturity,
         doc_present: doc_bit(doc),

@@ -15,10 +15,10 @@ pub use crate::maturity::Maturity;
 use lexing::blanks::DocSpan;
 use lexing::buffers::put_words;
 
-// What the first word of a record holds, from its top; the flags are seven bits. A record without a name, a maturity or a privilege has zeros there, as an empty name at 0, `stable` and `view` have.
+// What the first word of a record holds, from its top. The kind is any byte, as in a catalogue's words; the flags are seven bits. A record without a name, a maturity or a privilege has zeros there, as an empty name at 0, `stable` and `view` have.
 #[derive(Clone, Copy)]
 pub struct First {
-    pub kind: Kind,
+    pub kind: u8,
     pub place: u8,
     pub maturity: Maturity,
     pub doc_present: u8,
@@ -40,7 +40,7 @@ pub fn first_word(f: First) -> u64
     requires { Fits f }
     ensures { result ≡ first_of f }
 {
-    u64::from(f.kind.number()) * KIND_UNIT
+    u64::from(f.kind) * KIND_UNIT
         + u64::from(f.place) * PLACE_UNIT
         + u64::from(f.maturity.number()) * MATURITY_UNIT
         + u64::from(f.doc_present) * DOC_UNIT

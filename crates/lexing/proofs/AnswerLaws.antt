@@ -6,8 +6,7 @@ use native.Mathlib.Omega.{arith}
 use lib.ListN.{length, drop, length-drop}
 use Rattle.lexing.specs.reply.{ok, Parser}
 use Rattle.std.specs.Prelude.{Ok, Err}
-use Rattle.lexing.specs.answers.{lost_reply, Rest, ReadTo}
-use Rattle.lexing.specs.declared.answers.Lost.{Lost}
+use Rattle.lexing.specs.answers.{lost_reply, Rest, ReadTo, Lost}
 use Rattle.lexing.proofs.Onward.{Onward}
 use Rattle.lexing.proofs.Locality.{Consumes}
 use Rattle.lexing.proofs.Slicing.{Took, took, reads_in}

@@ -12,8 +12,7 @@ use Rattle.lexing.specs.runs.{take_while, take_while1, tag2}
 use Rattle.lexing.specs.reply.{Reply, ok, fail, stop, Parser, ret, ◌>>=◌, ◌>>◌, catch, opt, no_nearer, ◌or◌, prepend, many_within, many0, iter_within, iter, keep, position}
 use Rattle.lexing.specs.words.{Word, parse_id, keyword, any_keyword, tag}
 use Rattle.lexing.specs.blanks.{Doc, line_comment, Until, found, never, until_close, closed, block_comment, multispace1, whitespace_group, one_blank, whitespace0}
-use Rattle.lexing.specs.answers.{lost_reply}
-use Rattle.lexing.specs.declared.answers.Lost.{Lost}
+use Rattle.lexing.specs.answers.{lost_reply, Lost}
 use Rattle.lexing.proofs.Losses.{by_lost}
 use Rattle.lexing.proofs.words.Laws.{keyword_says}
 use Rattle.lexing.proofs.answers.Laws.{opt_fail}

@@ -6,8 +6,7 @@ use lib.ListN.{drop}
 use Rattle.lexing.specs.reply.{ok, Parser, ◌>>◌, opt, many0}
 use Rattle.lexing.specs.words.{Word, word, keyword, tag}
 use Rattle.lexing.specs.blanks.{Doc, whitespace0}
-use Rattle.lexing.specs.answers.{Rest, Answer, got, lost, lost_reply, reply, step_answer, tag_reply, word_at, word_reply, Skips, optional_step}
-use Rattle.lexing.specs.declared.answers.Lost.{Lost}
+use Rattle.lexing.specs.answers.{Rest, Answer, got, lost, lost_reply, reply, step_answer, tag_reply, word_at, word_reply, Skips, optional_step, Lost}
 use Rattle.std.specs.Prelude.{Ok, Err}
 use Rattle.lexing.specs.answers.{Step}
 use Rattle.lexing.proofs.Losses.{by_lost}

@@ -14,7 +14,7 @@ pub mod Shift
 pub mod Chain
 pub mod Locality
 pub mod TokenLocality
--- what is lost, by its cause; what a reader's answer gives its caller; loops of the code against `many0` and `iter`
+-- what is lost, by its variant; what a `?` hands on; what a reader's answer gives its caller; loops of the code against `many0` and `iter`
 pub mod Losses
 pub mod Slicing
 pub mod Repetition

@@ -6,8 +6,8 @@ use Rattle.std.specs.Option.{ok_or}
 use Rattle.std.specs.Result.{IsErr, IsErrAnd}
 use Rattle.std.proofs.lemmas.Result.{err_from_is_err_and}
 use Rattle.lexing.specs.declared.answers.Refusal.{Refusal}
-use Rattle.lexing.specs.declared.answers.Lost.{Lost}
-use Rattle.lexing.specs.declared.answers.Lost.TheVariants.{Fail, Stop}
+use Rattle.lexing.specs.declared.answers.LostBy.TheVariants.{Fail, Stop}
+use Rattle.lexing.specs.answers.{Lost}
 
 pub by_lost : (P : Lost → Type 0) → ((p : ℕ) → P (Fail p)) → ((n : Refusal) (p : ℕ) → P (Stop n p)) → (l : Lost) → P l
 by_lost P f s (Fail p) = f p

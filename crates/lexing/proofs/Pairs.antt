@@ -4,8 +4,7 @@ use mathlib.Core.List.{List}
 use Prim.Native.Nat.{ℕ, ◌-◌}
 use lib.ListN.{drop}
 use Rattle.lexing.specs.reply.{Reply, ok, fail, stop, Parser, ret, ◌>>=◌, ◌>>◌}
-use Rattle.lexing.specs.answers.{Rest, lost_reply}
-use Rattle.lexing.specs.declared.answers.Lost.{Lost}
+use Rattle.lexing.specs.answers.{Rest, lost_reply, Lost}
 use Rattle.lexing.proofs.Slicing.{Took, go, lose}
 
 assoc_at : {A B C : Type 0} (p : Parser B) (k : B → Parser C) (x : Reply A) (n : ℕ) (v : List ℕ) → (((λ b u. x) >> p) >>= k) n v ≡ ((λ b u. x) >> (p >>= k)) n v

@@ -8,9 +8,8 @@ use Rattle.lexing.specs.reply.{Reply, ok, fail, stop, Parser, ret, ◌>>=◌, pr
 use Rattle.lexing.proofs.Losses.{by_lost}
 use Rattle.lexing.proofs.Chain.{Shorter}
 use Rattle.lexing.proofs.Locality.{Consumes}
-use Rattle.lexing.specs.answers.{number_of, lost_reply, Rest, on_lost}
+use Rattle.lexing.specs.answers.{number_of, lost_reply, Rest, on_lost, Lost}
 use Rattle.lexing.proofs.Slicing.{Took}
-use Rattle.lexing.specs.declared.answers.Lost.{Lost}
 
 module _ {S : Type 0} (f : S → Parser S) (g : ℕ → S → S) (w : (s : S) → Consumes (f s)) where
   iter_enough : (n m : ℕ) (s : S) (b : ℕ) (u : List ℕ) → length u < n → length u < m → iter_within n f g s b u ≡ iter_within m f g s b u

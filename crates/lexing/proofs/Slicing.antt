@@ -11,8 +11,7 @@ use Rattle.lexing.specs.integers.{positive_integer}
 use Rattle.lexing.specs.blanks.{whitespace0}
 use Rattle.lexing.specs.strings.{Escape, string_with}
 use Rattle.lexing.specs.word_sets.{set_flags}
-use Rattle.lexing.specs.answers.{lost_reply, reply, step_answer, Rest, doc_of, word_at, span_to, tag_reply, word_reply, number_reply, string_reply, BlankTo, set_of, WordSetTo}
-use Rattle.lexing.specs.declared.answers.Lost.{Lost}
+use Rattle.lexing.specs.answers.{lost_reply, reply, step_answer, Rest, doc_of, word_at, span_to, tag_reply, word_reply, number_reply, string_reply, BlankTo, set_of, WordSetTo, Lost}
 use Rattle.lexing.proofs.Losses.{by_lost}
 use Rattle.std.specs.Prelude.{Ok}
 use Rattle.lexing.specs.declared.blanks.Blank.{Blank}

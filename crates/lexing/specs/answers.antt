@@ -9,15 +9,15 @@ use Rattle.lexing.specs.strings.{Span, span}
 use Rattle.lexing.specs.word_sets.{set_flags, field_set, struct_set, event_set, command_set, attribute_set}
 use Rattle.lexing.specs.declared.answers.Refusal.{Refusal}
 use Rattle.lexing.specs.declared.answers.Refusal.TheVariants.{TextTooLong, NotUtf8, NoItem, NumberTooLarge, EscapedReturn, AccessNotLower, CatalogueTooShort, ReportTooShort, BadEscape, OutputTooShort}
-use Rattle.lexing.specs.declared.answers.Lost.{Lost}
-use Rattle.lexing.specs.declared.answers.Lost.TheVariants.{Fail, Stop}
+use Rattle.lexing.specs.declared.answers.LostBy.{LostBy}
+use Rattle.lexing.specs.declared.answers.LostBy.TheVariants.{Fail, Stop}
 use Rattle.lexing.specs.declared.blanks.DocSpan.{DocSpan}
 use Rattle.lexing.specs.declared.blanks.Blank.{Blank}
 use Rattle.lexing.specs.declared.blanks.Group.{Group}
 use Rattle.lexing.specs.declared.blanks.Group.TheVariants.{White, Plain, DocComment}
 use Rattle.lexing.specs.declared.integers.SignedParts.{SignedParts}
 use Rattle.lexing.specs.declared.word_sets.KeywordSet.{KeywordSet}
-use Rattle.lexing.specs.declared.word_sets.KeywordSet.TheVariants.{Field, Struct, Event, Command, Attribute}
+use Rattle.lexing.specs.declared.word_sets.KeywordSet.TheVariants.{Field, Struct, Event, Command, Attribute, Empty}
 use Rattle.lexing.specs.declared.word_sets.WordSet.{WordSet}
 
 -- the rest of a part from offset c on
@@ -30,6 +30,10 @@ pub record Rest (b : ℕ) (u : List ℕ) (c : ℕ) (r : List ℕ) : Type 0 where
 abbrev pub LacksIf : Bool → ℕ → List ℕ → ℕ → Type 0
 LacksIf true x u i = (i + 8 ≤ length u) × ((j : ℕ) → j < 8 → get_or u (i + j) 0 ≡ x → ⊥)
 LacksIf false x u i = Unit {0}
+
+-- why there is no token, where what ends all reading is a refusal
+abbrev pub Lost : Type 0
+Lost = LostBy Refusal
 
 -- a value and the offset after it, or why there is none
 pub data Answer (A : Type 0) : Type 0 where
@@ -67,6 +71,15 @@ Read P = Result (P × ℕ) Lost
 
 abbrev pub Step : Type 0
 Step = Result ℕ Lost
+
+-- what an answer has lost; where its token is there, a failure after it
+abbrev pub step_lost : {R : Type 0} → Result ℕ (LostBy R) → LostBy R
+step_lost (Ok c) = Fail c
+step_lost (Err l) = l
+
+abbrev pub value_lost : {P R : Type 0} → Result (P × ℕ) (LostBy R) → LostBy R
+value_lost (Ok r) = Fail r.1
+value_lost (Err l) = l
 
 -- such an answer, with what its value, or its offset, stands for
 abbrev pub read_answer : {P A : Type 0} → (P → A) → Read P → Answer A
@@ -136,6 +149,7 @@ set_of Struct = struct_set
 set_of Event = event_set
 set_of Command = command_set
 set_of Attribute = attribute_set
+set_of Empty = []
 
 pub record WordSetTo (r : WordSet) (set : KeywordSet) (b : ℕ) (u : List ℕ) : Type 0 where
   pub reads : reply (got r.flags r.next) b u ≡ set_flags (set_of set) b u
@@ -190,8 +204,8 @@ pub record NumberAt (m : Parser ℕ) (r : Read ℕ) (b : ℕ) (u : List ℕ) (c 
   pub at : Rest b u c (drop (c - b) u)
   pub reads : number_reply r c (drop (c - b) u) ≡ m c (drop (c - b) u)
 
--- the answer of an optional part that is at b
-abbrev pub optional_step : Step → ℕ → Step
+-- the answer of an optional part that is at b, whatever ends all reading
+abbrev pub optional_step : {R : Type 0} → Result ℕ (LostBy R) → ℕ → Result ℕ (LostBy R)
 optional_step (Ok c) b = Ok c
 optional_step (Err (Fail p)) b = Ok b
 optional_step (Err (Stop n p)) b = Err (Stop n p)

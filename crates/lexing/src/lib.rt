@@ -7,7 +7,7 @@
 // is handed it in registers. A key is re-sliced in the same way.
 // Rebuilt: a reader that hands on another's answer takes it apart and builds it again, which copies its numbers and not all the enum's room.
 // Plain numbers: a struct or an enum that several calls can return goes through memory, and a number comes back in a register. So a hot function
-// answers an offset and stores the rest only where there is any.
+// answers an offset alone, where its caller needs no more.
 // Two parameters: a part and its base come in registers. A struct of the two goes through memory at each call: two tags in a row then take 1.5 to 3.2
 // times as long, and lent, 1.04 to 1.4 times. So that they fit the text is a `requires` of each reader (document 01 hands a reader these two).
 // Short front: a byte or two decide most calls. Their test is a short function, which the compiler copies to its callers; what is left is long or is

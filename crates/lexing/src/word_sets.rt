@@ -11,7 +11,7 @@ use crate::eights::{eight_at, non_capitals};
 use crate::parts::{peek, rest_at};
 use crate::words::keyword;
 
-// The sets that the Rust reads, by what their keywords stand before; that of a field is a struct's.
+// The sets that the Rust reads, by what their keywords stand before; that of a field is a struct's. `Empty` has no keyword.
 #[derive(Clone, Copy)]
 pub enum KeywordSet {
     Field,
@@ -19,6 +19,7 @@ pub enum KeywordSet {
     Event,
     Command,
     Attribute,
+    Empty,
 }
 
 // The flags of the words that are written in lower case, the first keyword's bit the highest, and the offset after the last word.
@@ -38,6 +39,7 @@ fn keywords_of(set: KeywordSet) -> &'static [&'static [u8]]
         KeywordSet::Event => &[b"fabric_sensitive"],
         KeywordSet::Command => &[b"timed", b"fabric"],
         KeywordSet::Attribute => &[b"readonly", b"writeonly", b"nosubscribe", b"timedwrite"],
+        KeywordSet::Empty => &[],
     }
 }
 
@@ -62,6 +64,7 @@ fn is_initial(set: KeywordSet, x: u8) -> bool
         KeywordSet::Struct | KeywordSet::Event => x == b'f',
         KeywordSet::Command => matches!(x, b't' | b'f'),
         KeywordSet::Attribute => matches!(x, b'r' | b'w' | b'n' | b't'),
+        KeywordSet::Empty => false,
     }
 }
 

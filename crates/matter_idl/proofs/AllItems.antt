@@ -1,5 +1,5 @@
 -- All items of a text are `many0 item`, after which the text has ended, or else the next item is lost.
-use Rattle.lexing.specs.declared.answers.Lost.TheVariants.{Fail}
+use Rattle.lexing.specs.declared.answers.LostBy.TheVariants.{Fail}
 use mathlib.Core.Path.{◌≡◌, refl, sym, ap, ◌∙◌}
 use mathlib.Core.List.{List, [], ◌∷◌}
 use Prim.Native.Nat.{ℕ, zero, suc, ◌-◌, ◌≤◌, ◌<◌}
@@ -7,8 +7,7 @@ use native.Mathlib.Omega.{arith}
 use lib.ListN.{length, drop}
 use Rattle.lexing.specs.reply.{Reply, ok, fail, stop, Parser, prepend, many0}
 use Rattle.lexing.specs.blanks.{Doc, no_doc}
-use Rattle.lexing.specs.answers.{lost_reply, Rest}
-use Rattle.lexing.specs.declared.answers.Lost.{Lost}
+use Rattle.lexing.specs.answers.{lost_reply, Rest, Lost}
 use Rattle.lexing.proofs.Losses.{by_lost}
 use Rattle.lexing.proofs.Slicing.{ret_is}
 use Rattle.lexing.proofs.TextEnd.{no_keyword, no_keywords, no_blank, no_gap}

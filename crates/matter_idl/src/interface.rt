@@ -1,39 +1,19 @@
 // What is called from C, by way of matter_idl_c: byte buffers go in, and one number comes back, that of the refusal in its top 8 bits and its value below; 0 is acceptance, with the bytes written.
-ghost use Rattle.std.specs.Prelude.{◌≡◌, ◌+◌, ◌*◌, ◌≤◌, ◌<◌, length};
-ghost use Rattle.lexing.specs.answers.{number_of};
+ghost use Rattle.std.specs.Prelude.{◌≡◌, length};
 ghost use Rattle.lexing.specs.outcomes.{afterwards};
 ghost use Rattle.items.specs.layout.{layout};
 ghost use Rattle.matter_idl.specs.reading.{reading};
 ghost use Rattle.matter_idl.specs.survey.{report_layout, for_catalogue, for_report, survey};
-ghost use Rattle.matter_idl.specs.interface.{format, value_limit, number_unit, answer_of, unescaping};
+ghost use Rattle.matter_idl.specs.interface.{format, answer_of, unescaping};
 
 use crate::bits::Bits;
 use crate::reading::{verdict_on, write_items};
+use crate::results::{VALUE_LIMIT, packed, refused};
 use crate::survey::{ENTRY_SIZE, count_accepted, write_sections};
 use crate::text::Text;
 use items::layout::{TEXT_LIMIT, WORD};
 use lexing::answers::Refusal;
 use lexing::unescaping::{UnescapeError, unescape};
-
-// The largest value that a result has room for, and one of the number above it.
-const VALUE_LIMIT: usize = 0xff_ffff_ffff_ffff;
-
-const NUMBER_UNIT: u64 = 0x100_0000_0000_0000;
-
-fn packed(number: usize, value: usize) -> u64
-    requires number_bound { number < 256 }
-    requires value_le_value_limit { value ≤ value_limit }
-    ensures { result ≡ number * number_unit + value }
-{
-    number as u64 * NUMBER_UNIT + value as u64
-}
-
-fn refused(refusal: Refusal, value: usize) -> u64
-    requires { value ≤ value_limit }
-    ensures { result ≡ number_of refusal * number_unit + value }
-{
-    packed(refusal.number(), value)
-}
 
 pub fn matter_idl_read(text: &[u8], catalogue: &mut [u8]) -> u64
     ensures answer_value { result ≡ answer_of (reading layout text.now (length catalogue.old)) }

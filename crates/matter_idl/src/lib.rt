@@ -6,6 +6,7 @@ mod filter;
 mod hoisting;
 pub mod interface;
 mod reading;
+mod results;
 mod sections;
 mod survey;
 mod text;

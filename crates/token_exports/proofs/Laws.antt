@@ -6,9 +6,8 @@ use mathlib.Core.List.{List}
 use Rattle.lexing.specs.integers.{u64_max}
 use Rattle.lexing.specs.words.{is_key, keyword}
 use Rattle.std.specs.Prelude.{Ok, Err}
-use Rattle.lexing.specs.answers.{word_reply}
-use Rattle.lexing.specs.declared.answers.Lost.{Lost}
-use Rattle.lexing.specs.declared.answers.Lost.TheVariants.{Fail, Stop}
+use Rattle.lexing.specs.answers.{word_reply, Lost}
+use Rattle.lexing.specs.declared.answers.LostBy.TheVariants.{Fail, Stop}
 use Rattle.token_exports.specs.exports.{following, after_keyword}
 
 module _ (k u : List ℕ) {t : Bool} (e : t ≡ is_key k) where

@@ -1,7 +1,7 @@
 -- Annotations: one by one, in brackets, and after the code of an entry.
 use Rattle.items.specs.declared.maturity.Maturity.TheVariants.{Stable}
 use Rattle.items.specs.declared.levels.Privilege.TheVariants.{View}
-use Rattle.lexing.specs.declared.answers.Lost.TheVariants.{Stop}
+use Rattle.lexing.specs.declared.answers.LostBy.TheVariants.{Stop}
 use Rattle.std.specs.Prelude.{Ok, Err}
 use mathlib.Core.Path.{◌≡◌, refl, sym, ap, ◌∙◌}
 use mathlib.Core.List.{List, [], ◌∷◌, map}
@@ -10,28 +10,28 @@ use Prim.Native.Nat.{ℕ, suc, ◌+◌, ◌-◌, ◌*◌, ◌≤◌, ◌<◌}
 use native.Mathlib.Omega.{arith}
 use lib.ListN.{length, drop}
 use Rattle.lexing.specs.reply.{Reply, ok, fail, stop, Parser, ret, ◌>>=◌, ◌>>◌, opt, many0}
-use Rattle.lexing.specs.words.{tag}
+use Rattle.lexing.specs.words.{Word, tag}
 use Rattle.lexing.specs.strings.{annotation_escape, quoted_string}
 use Rattle.lexing.specs.blanks.{Doc, whitespace0}
 use Rattle.lexing.specs.buffers.{each, words_bytes, put}
-use Rattle.lexing.specs.answers.{Rest, lost_reply, span_to, string_reply, Read, number_of}
-use Rattle.lexing.specs.declared.answers.Lost.{Lost}
+use Rattle.lexing.specs.answers.{Rest, lost_reply, span_to, string_reply, Read, number_of, Lost}
 use Rattle.lexing.proofs.Losses.{by_lost}
 use Rattle.lexing.proofs.Onward.{Onward}
 use Rattle.lexing.proofs.Locality.{chain_many0}
 use Rattle.lexing.proofs.TokenLocality.{whitespace0_chain}
 use Rattle.lexing.proofs.TokenPlaces.{quoted_string_place}
 use Rattle.lexing.proofs.Slicing.{Took, took, walks, rest_self, rest_from, rebase, string_took, begin, on, fall}
+use Rattle.lexing.proofs.WordBetween.{word_moved}
 use Rattle.lexing.proofs.answers.Laws.{opt_ok, opt_fail, opt_stop}
 use Rattle.items.specs.entries.{Annotation, constant_annotation, blank_annotation, annotations_in_brackets, constant_annotations_list, annotations_of}
 use Rattle.items.specs.records.{span_extent, plain, annotation_record}
 use Rattle.items.specs.layout.{packed, width, from_top, offset, size, further_word, word_count, catalogue_words, catalogue_bytes, record_words, layout, text_limit}
-use Rattle.items.specs.answers.{first_of, word_of_span, CountTo, count_end, Room, Written}
+use Rattle.items.specs.answers.{first_of, word_of_span, CountTo, count_end, Room, Written, kind_number}
 use Rattle.items.specs.inner.annotations.{annotation_at, AnnotationBetween, AnnotationTo, optional_records, entry_list, list_read, list_at, annotations_at, annotation_parts}
 use Rattle.items.specs.declared.annotations.AnnotationParts.{AnnotationParts}
 use Rattle.items.specs.declared.writing.Wrote.{Wrote}
 use Rattle.items.proofs.Locality.{optional_comma_chain, blank_annotation_chain, blank_annotation_consumes, constant_annotations_list_inside}
-use Rattle.items.proofs.Blanks.{read_after}
+use Rattle.items.proofs.Blanks.{read_after, read_before}
 use Rattle.items.proofs.Braces.{taken, then_value, follows, rest_is, lost_not}
 use Rattle.items.proofs.WordBetween.{extent_between}
 use Rattle.items.specs.inner.runs.{Repeats}
@@ -56,6 +56,14 @@ comma_onward = walks optional_comma_chain
 pub annotation_after : {b : ℕ} {u : List ℕ} {a : Read AnnotationParts} → AnnotationTo constant_annotation a b u → AnnotationTo blank_annotation a b u
 unfolding blank_annotation constant_annotation
 annotation_after h = read_after _ _ _ h
+
+pub annotation_before : {b : ℕ} {u : List ℕ} {a : Read AnnotationParts} → AnnotationTo blank_annotation a b u → AnnotationTo constant_annotation a b u
+unfolding blank_annotation constant_annotation
+annotation_before h = read_before _ _ _ h
+
+-- the same bytes, seen from the part's start
+pub annotation_moved : (b n : ℕ) (u r : List ℕ) (a : AnnotationParts) → Rest b u n r → n ≤ a.key → annotation_at n r a ≡ annotation_at b u a
+annotation_moved b n u r a q h = ap (λ (w : Word). record { key = w; value = span_to a.quote a.after }) (word_moved b n u r a.key a.end q h)
 
 -- two words each
 pub annotation_words : (a : Annotation) → word_count layout (annotation_record a ∷ []) ≡ 2
@@ -103,7 +111,7 @@ list_stopped {b} {u = u} t e = ap list_read (sym (begin entry_list b u (on _ t e
 
 -- the two words of an annotation's record, one after the other
 pub put_annotation : (a : AnnotationParts) (p w v : ℕ) (l l₁ : List ℕ)
-    → w ≡ first_of (record { kind = a_annotation; place = 0; maturity = Stable; doc_present = 0; flags = 0; name = a.key; name_length = a.end - a.key; first_privilege = View; second_privilege = View })
+    → w ≡ first_of (record { kind = kind_number a_annotation; place = 0; maturity = Stable; doc_present = 0; flags = 0; name = a.key; name_length = a.end - a.key; first_privilege = View; second_privilege = View })
     → v ≡ word_of_span (a.quote + 1) (a.after - 1 - (a.quote + 1))
     → l₁ ≡ put p (words_bytes (w ∷ v ∷ [])) l → l₁ ≡ put p (catalogue_bytes layout (annotation_parts a ∷ [])) l
 unfolding from_top packed width offset size layout further_word

@@ -1,7 +1,7 @@
 -- Lists of privileges, and attributes.
 use Rattle.items.specs.declared.attributes.Privileges.{Privileges}
 use Rattle.lexing.specs.declared.answers.Refusal.TheVariants.{AccessNotLower}
-use Rattle.lexing.specs.declared.answers.Lost.TheVariants.{Fail, Stop}
+use Rattle.lexing.specs.declared.answers.LostBy.TheVariants.{Fail, Stop}
 use Rattle.std.specs.Prelude.{Ok, Err, Option as CodeOption, Some, None}
 use mathlib.Core.Path.{◌≡◌, refl, sym, ap, ◌∙◌, subst, fun_ext}
 use mathlib.Core.Logic.{◌⊎◌, inl, inr}
@@ -16,8 +16,7 @@ use Rattle.lexing.specs.reply.{Reply, ok, fail, stop, Parser, ret, ◌>>=◌, �
 use Rattle.lexing.specs.words.{Word, bytes_of, offset_of, is_keyword, is_lower, keyword, any_keyword, tag}
 use Rattle.lexing.specs.blanks.{Doc, whitespace0}
 use Rattle.lexing.specs.word_sets.{same_bytes}
-use Rattle.lexing.specs.answers.{Rest, lost_reply, word_at, word_reply, SkipsAt}
-use Rattle.lexing.specs.declared.answers.Lost.{Lost}
+use Rattle.lexing.specs.answers.{Rest, lost_reply, word_at, word_reply, SkipsAt, Lost}
 use Rattle.lexing.proofs.Losses.{by_lost}
 use Rattle.lexing.proofs.Onward.{Onward}
 use Rattle.lexing.proofs.FirstWord.{blank_clear}
@@ -32,7 +31,7 @@ use Rattle.items.specs.members.{Access as AccessOf, access_privilege, access_ent
 use Rattle.lexing.specs.buffers.{each, words_bytes, put}
 use Rattle.items.specs.records.{Record, plain, documented, field_record, attribute_records, absent, bits}
 use Rattle.items.specs.layout.{layout, record_words, catalogue_words, word_count, packed, width, from_top, offset, size, catalogue_bytes}
-use Rattle.items.specs.answers.{Front, front_of, first_of, doc_span_word, doc_span_bit, Room, Written}
+use Rattle.items.specs.answers.{Front, front_of, first_of, doc_span_word, doc_span_bit, Room, Written, kind_number}
 use Rattle.items.specs.inner.attributes.{privileges_of, Grants, Granted, granted_of, PrivilegesTo, access_words, operation_of, OperationTo, grants_with, with_entry, grants_from, grants_after, AccessEntryTo, no_grants, AccessEntriesTo, AttributeHeadOf, attribute_head, attribute_head_of, AttributeHeadTo, attribute_first}
 use Rattle.items.specs.declared.writing.FrontParts.{FrontParts}
 use Rattle.items.specs.inner.fields.{field_parts, StructFieldTo}
@@ -465,7 +464,7 @@ module _ {n c : ℕ} {r : List ℕ} {s : StructFieldParts} (h : StructFieldTo cl
 
 -- the two words of an attribute's first record
 pub attribute_first_put : (f : FrontParts) (h : AttributeHeadParts) (p v : ℕ) (l l₁ : List ℕ) → v ≡ doc_span_bit f.doc
-    → l₁ ≡ put p (words_bytes (first_of (record { kind = a_attribute; place = 0; maturity = f.maturity; doc_present = v; flags = h.flags * 8; name = 0; name_length = 0; first_privilege = h.read; second_privilege = h.write }) ∷ doc_span_word f.doc ∷ [])) l
+    → l₁ ≡ put p (words_bytes (first_of (record { kind = kind_number a_attribute; place = 0; maturity = f.maturity; doc_present = v; flags = h.flags * 8; name = 0; name_length = 0; first_privilege = h.read; second_privilege = h.write }) ∷ doc_span_word f.doc ∷ [])) l
     → l₁ ≡ put p (catalogue_bytes layout (attribute_first f h ∷ [])) l
 unfolding from_top packed width offset size
 attribute_first_put f h p v l l₁ d e =

@@ -19,9 +19,9 @@ use Rattle.lexing.proofs.Slicing.{Took, walks, rest_self}
 use Rattle.items.specs.entries.{present, Entry, shared_before, choice_head, constant_entries_list, choice_after_doc_maturity}
 use Rattle.items.specs.records.{at, spanned, flag, word_extent, documented, entry_records, choice_records}
 use Rattle.lexing.specs.buffers.{each, words_bytes, put}
-use Rattle.items.specs.layout.{packed, width, from_top, offset, size, layout, further_word, record_words, catalogue_words, catalogue_bytes, word_count}
+use Rattle.items.specs.layout.{packed, width, from_top, offset, size, layout, further_word, record_words, catalogue_words, catalogue_bytes, word_count, text_limit}
 use Rattle.lexing.specs.answers.{word_between}
-use Rattle.items.specs.answers.{Front, first_of, word_of_span, doc_span_word, doc_span_bit, front_of}
+use Rattle.items.specs.answers.{Front, first_of, word_of_span, doc_span_word, doc_span_bit, front_of, kind_number}
 use Rattle.items.specs.inner.choices.{choice_first, ChoiceFrom, choice_head_at, ChoiceHeadBetween, ChoiceHeadTo}
 use Rattle.items.specs.declared.writing.FrontParts.{FrontParts}
 use Rattle.items.specs.declared.choices.ChoiceHeadParts.{ChoiceHeadParts}
@@ -89,12 +89,12 @@ choice_headed k = record {
 -- The second pass.
 
 -- the three words of the first record
-pub choice_first_put : (f : FrontParts) (h : ChoiceHeadParts) (p v i a o s : ℕ) (l l₁ : List ℕ) → v ≡ doc_span_bit f.doc → i ≡ bit h.shared
-    → a ≡ first_of (record { kind = f.kind; place = f.place; maturity = f.maturity; doc_present = v; flags = i * 64; name = h.name; name_length = h.end - h.name; first_privilege = View; second_privilege = View }) → o ≡ doc_span_word f.doc
+pub choice_first_put : (f : FrontParts) (h : ChoiceHeadParts) (p k v i a o s : ℕ) (l l₁ : List ℕ) → k ≡ kind_number f.kind → v ≡ doc_span_bit f.doc → i ≡ bit h.shared
+    → a ≡ first_of (record { kind = k; place = f.place; maturity = f.maturity; doc_present = v; flags = i * 64; name = h.name; name_length = h.end - h.name; first_privilege = View; second_privilege = View }) → o ≡ doc_span_word f.doc
     → s ≡ word_of_span h.base_at (h.base_end - h.base_at) → l₁ ≡ put p (words_bytes (a ∷ o ∷ s ∷ [])) l → l₁ ≡ put p (catalogue_bytes layout (choice_first f h ∷ [])) l
 unfolding from_top packed width flag offset size layout further_word
-choice_first_put f h p v i a o s l l₁ d e w b z e₁ =
-    documented_put f.kind f.place f.maturity f.doc (flag h.shared ∷ []) (at h.name (h.end - h.name)) View View (spanned (at h.base_at (h.base_end - h.base_at))) p (i * 64) v a o s l l₁ (omega (arith, e)) d w b z e₁
+choice_first_put f h p k v i a o s l l₁ y d e w b z e₁ =
+    documented_put f.kind f.place f.maturity f.doc (flag h.shared ∷ []) (at h.name (h.end - h.name)) View View (spanned (at h.base_at (h.base_end - h.base_at))) p (i * 64) v a o s l l₁ (omega (arith, e)) d (rw y at w) b z e₁
 
 -- the first record of what was read
 pub choice_first_is : (f : FrontParts) (k : List ℕ) (b : ℕ) (u : List ℕ) (h : ChoiceHeadParts) (c : ℕ) (l : List Entry) → ChoiceHeadBetween b h c → c ≤ b + length u → choice_first f h ≡ (choice_headed k).first (front_of f) (choice_head_at b u h) l
@@ -104,3 +104,6 @@ choice_first_is f k b u h c l w i =
       extent_between b u h.name h.end w.name_from (omega (arith, w.name_to)) (omega (arith, w.base_from, w.base_to, w.before)),
       extent_between b u h.base_at h.base_end (omega (arith, w.name_from, w.name_to, w.base_from)) w.base_to (omega (arith, w.before)),
     )
+
+pub choice_in_limit : {b : ℕ} {h : ChoiceHeadParts} {c : ℕ} → ChoiceHeadBetween b h c → c ≤ text_limit → ChoiceHeadBetween 0 h text_limit
+choice_in_limit w i = record { name_from = omega arith; name_to = w.name_to; base_from = w.base_from; base_to = w.base_to; before = omega (arith, w.before) }

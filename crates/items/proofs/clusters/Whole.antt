@@ -1,6 +1,6 @@
 -- Whole clusters: a side, the head, and both passes over the members between braces.
 use Rattle.items.specs.declared.levels.Privilege.TheVariants.{View}
-use Rattle.lexing.specs.declared.answers.Lost.TheVariants.{Fail}
+use Rattle.lexing.specs.declared.answers.LostBy.TheVariants.{Fail}
 use Rattle.std.specs.Prelude.{Ok, Err}
 use mathlib.Core.Path.{◌≡◌, refl, sym, ap, ◌∙◌, subst}
 use mathlib.Core.Bool.{false}
@@ -12,8 +12,7 @@ use Rattle.lexing.specs.bytes.{ascii}
 use Rattle.lexing.specs.reply.{Reply, ok, fail, stop, Parser, ret, ◌>>◌, catch, fail_at, ◌or◌, no_nearer, opt, many0}
 use Rattle.lexing.specs.words.{Word, keyword, any_keyword, tag}
 use Rattle.lexing.specs.blanks.{Doc, whitespace0, whitespace1}
-use Rattle.lexing.specs.answers.{Rest, word_at, word_reply, lost_reply, NameIn, Skips, SkipsAt, Read, Step}
-use Rattle.lexing.specs.declared.answers.Lost.{Lost}
+use Rattle.lexing.specs.answers.{Rest, word_at, word_reply, lost_reply, NameIn, Skips, SkipsAt, Read, Step, Lost}
 use Rattle.lexing.proofs.Onward.{Onward}
 use Rattle.lexing.proofs.Locality.{chain_ret, chain_bind, chain_then, chain_opt, chain_many0}
 use Rattle.lexing.proofs.TokenLocality.{any_keyword_chain, whitespace0_chain}
@@ -30,7 +29,7 @@ use Rattle.items.specs.clusters.{Member, revision, bitmap, enum, struct, attribu
 use Rattle.items.specs.records.{Record, at, value, word_extent, documented, choice_records, struct_records, attribute_records, event_records, member_records, last_revision, cluster_records}
 use Rattle.lexing.specs.buffers.{each, words_bytes, put}
 use Rattle.items.specs.layout.{packed, width, from_top, offset, size, layout, record_words, further_word, catalogue_words, catalogue_bytes, word_count}
-use Rattle.items.specs.answers.{Front, front_of, Room, Written, first_of, doc_span_word, doc_span_bit}
+use Rattle.items.specs.answers.{Front, front_of, Room, Written, first_of, doc_span_word, doc_span_bit, kind_number}
 use Rattle.items.specs.inner.commands.{command_records}
 use Rattle.items.specs.inner.members.{RevisionTo, member_after, unhoisted, MemberWritten, revision_wrote}
 use Rattle.items.specs.inner.clusters.{cluster_head_at, unhoisted_records, members_rest, MembersWritten, cluster_first}
@@ -357,7 +356,7 @@ module _ {b : ℕ} {u : List ℕ} {c : ℕ} (t : Took (tag 123) b u b tt c) {r :
 
 -- the first record
 pub cluster_first_put : (f : FrontParts) (h : ClusterHeadParts) (n p v a o : ℕ) (l l₁ : List ℕ) → v ≡ doc_span_bit f.doc
-    → a ≡ first_of (record { kind = a_cluster; place = 0; maturity = f.maturity; doc_present = v; flags = 0; name = h.name; name_length = h.end - h.name; first_privilege = View; second_privilege = View }) → o ≡ doc_span_word f.doc
+    → a ≡ first_of (record { kind = kind_number a_cluster; place = 0; maturity = f.maturity; doc_present = v; flags = 0; name = h.name; name_length = h.end - h.name; first_privilege = View; second_privilege = View }) → o ≡ doc_span_word f.doc
     → l₁ ≡ put p (words_bytes (a ∷ o ∷ h.code ∷ n ∷ [])) l → l₁ ≡ put p (catalogue_bytes layout (cluster_first f h n ∷ [])) l
 unfolding further_word offset size from_top packed width
 cluster_first_put f h n p v a o l l₁ d w b e₁ =

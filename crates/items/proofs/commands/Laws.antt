@@ -1,5 +1,5 @@
 -- Commands: one law for each way through a reader.
-use Rattle.items.specs.answers.{maturity_number, privilege_number}
+use Rattle.items.specs.answers.{maturity_number, privilege_number, kind_number}
 use Rattle.items.specs.declared.levels.Privilege.{Privilege}
 use Rattle.items.specs.declared.levels.Privilege.TheVariants.{View}
 use Rattle.std.specs.Prelude.{Ok, Err}
@@ -15,9 +15,8 @@ use borrow.Author.Tests.{lt-ltb, le-ltb}
 use Rattle.lexing.specs.reply.{ok, opt}
 use Rattle.lexing.specs.words.{Word, parse_id}
 use Rattle.lexing.specs.blanks.{Doc}
-use Rattle.lexing.specs.answers.{Rest, lost_reply, word_at, word_reply, doc_of, word_between, NameIn}
+use Rattle.lexing.specs.answers.{Rest, lost_reply, word_at, word_reply, doc_of, word_between, NameIn, Lost}
 use Rattle.lexing.specs.word_sets.{bit}
-use Rattle.lexing.specs.declared.answers.Lost.{Lost}
 use Rattle.lexing.proofs.Onward.{parse_id_advances}
 use Rattle.lexing.proofs.Locality.{chain_opt, chain_inside}
 use Rattle.lexing.proofs.TokenLocality.{parse_id_chain}
@@ -119,7 +118,7 @@ span_absent o e t = rw t refl
 
 -- the five words of a command's record
 pub command_put : (i : FrontParts) (p : CommandParts) (q v j x y : ℕ) (l l₁ l₂ : List ℕ) → q + 40 ≤ length l → v ≡ doc_span_bit i.doc → j ≡ bit (ltb p.types.input p.types.input_end)
-    → l₁ ≡ put q (words_bytes (first_of (record { kind = a_command; place = 0; maturity = i.maturity; doc_present = v; flags = p.head.qualities * 32 + j * 16; name = p.head.name; name_length = p.head.end - p.head.name; first_privilege = p.head.privilege; second_privilege = View }) ∷ doc_span_word i.doc ∷ [])) l
+    → l₁ ≡ put q (words_bytes (first_of (record { kind = kind_number a_command; place = 0; maturity = i.maturity; doc_present = v; flags = p.head.qualities * 32 + j * 16; name = p.head.name; name_length = p.head.end - p.head.name; first_privilege = p.head.privilege; second_privilege = View }) ∷ doc_span_word i.doc ∷ [])) l
     → x ≡ further_word layout (spanned (extent_if (ltb p.types.input p.types.input_end) p.types.input (p.types.input_end - p.types.input)))
     → y ≡ word_of_span p.types.output (p.types.output_end - p.types.output) → l₂ ≡ put (q + 16) (words_bytes (x ∷ y ∷ p.code ∷ [])) l₁
     → l₂ ≡ put q (catalogue_bytes layout (command_parts i p ∷ [])) l
@@ -130,7 +129,7 @@ command_put i p q v j x y l l₁ l₂ r d ej e₁ f h e₂ =
     let there : Bool = ltb t.input t.input_end in
     let g : ℕ = s.qualities * 32 + j * 16 in
     let z : g ≡ from_top 7 (bits 2 s.qualities ∷ flag there ∷ []) = omega (arith, ej) in
-    let w₁ : ℕ = first_of (record { kind = a_command; place = 0; maturity = i.maturity; doc_present = doc_span_bit i.doc; flags = g; name = s.name; name_length = s.end - s.name; first_privilege = s.privilege; second_privilege = View }) in
+    let w₁ : ℕ = first_of (record { kind = kind_number a_command; place = 0; maturity = i.maturity; doc_present = doc_span_bit i.doc; flags = g; name = s.name; name_length = s.end - s.name; first_privilege = s.privilege; second_privilege = View }) in
     let w₂ : ℕ = further_word layout (spanned (extent_if there t.input (t.input_end - t.input))) in
     let w₃ : ℕ = word_of_span t.output (t.output_end - t.output) in
     rw (documented_bytes a_command 0 i.maturity i.doc (bits 2 s.qualities ∷ flag there ∷ []) (at s.name (s.end - s.name)) s.privilege View

@@ -1,5 +1,5 @@
 -- The first pass: counts in a sequence, between braces and over a repetition. They hold for any records.
-use Rattle.lexing.specs.declared.answers.Lost.TheVariants.{Fail, Stop}
+use Rattle.lexing.specs.declared.answers.LostBy.TheVariants.{Fail, Stop}
 use Rattle.std.specs.Prelude.{Ok, Err}
 use mathlib.Core.Path.{◌≡◌, refl, sym, ap, ◌∙◌}
 use mathlib.Core.List.{List, [], ◌∷◌, ◌++◌}
@@ -9,8 +9,7 @@ use lib.ListN.{drop, length-drop}
 use Rattle.lexing.specs.reply.{ok, Parser, ◌>>◌, many0, fail, no_nearer}
 use Rattle.lexing.specs.words.{tag}
 use Rattle.lexing.specs.blanks.{whitespace0}
-use Rattle.lexing.specs.answers.{Rest, lost_reply, ReadTo, SkipsAt, Read}
-use Rattle.lexing.specs.declared.answers.Lost.{Lost}
+use Rattle.lexing.specs.answers.{Rest, lost_reply, ReadTo, SkipsAt, Read, Lost}
 use Rattle.lexing.proofs.Losses.{by_lost}
 use Rattle.lexing.proofs.Onward.{Onward}
 use Rattle.lexing.proofs.Locality.{Consumes}
@@ -25,6 +24,8 @@ use Rattle.items.specs.inner.counts.{ClosedTo, fail_no_earlier}
 use Rattle.items.proofs.Mapped.{mapped_twice, value_as, TookAs, took_as, lost_as, mapped_ok, mapped_not}
 use Rattle.items.proofs.RecordWords.{word_count_none, word_count_more}
 use Rattle.items.specs.inner.runs.{Elementwise, Repeats}
+use Rattle.lexing.proofs.Calm.{calm_then, calm_blanks, calm_tag}
+use Rattle.lexing.proofs.steps.Laws.{skips_lost}
 
 -- a count as a step of a sequence: the value, its words, the step, and how few they are
 pub record Counted {A : Type 0} (f : A → List Record) (m : Parser A) (b : ℕ) (u : List ℕ) (n k c : ℕ) : Type 0 where
@@ -127,10 +128,11 @@ count_after f m k w (Err l) {b} {n} {u} {v} q e h = count_not f m b u l (count_l
 -- The ways of a count that the closing brace follows.
 module _ {n c b : ℕ} {u : List ℕ} where
   pub closed_lost : {l : Lost} → SkipsAt (whitespace0 >> tag 125) (Err l) b u c → ClosedTo (Ok (n, c)) (Err l) b u
-  closed_lost {l} h = record { close = Err l; skips = h; is = refl }
+  closed_lost {l = Fail p} h = record { close = Err (Fail p); skips = h; is = refl }
+  closed_lost {l = Stop i p} h = absurd (rw (← skips_lost h) at ((calm_then calm_blanks (calm_tag 125)).runs c (drop (c - b) u)))
 
-  pub closed_is : {d : ℕ} → SkipsAt (whitespace0 >> tag 125) (Ok d) b u c → ClosedTo (Ok (n, c)) (Ok (n, d)) b u
-  closed_is {d} h = record { close = Ok d; skips = h; is = refl }
+  pub closed_is : {R : Type 0} {d : ℕ} → SkipsAt (whitespace0 >> tag 125) (Ok d) b u c → ClosedTo {R = R} (Ok (n, c)) (Ok (n, d)) b u
+  closed_is {d = d} h = record { close = Ok d; skips = h; is = refl }
 
 -- a count that is raised
 pub count_no_earlier : {A : Type 0} (f : A → List Record) (m k : Parser A) (q : ℕ) (r : Read ℕ) (b : ℕ) (u : List ℕ) → CountTo f m r b u → k b u ≡ no_nearer q (m b u) → CountTo f k (fail_no_earlier r q) b u

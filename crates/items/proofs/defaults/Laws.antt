@@ -1,5 +1,5 @@
 -- Default values: one law for each way through a reader.
-use Rattle.lexing.specs.declared.answers.Lost.TheVariants.{Fail, Stop}
+use Rattle.lexing.specs.declared.answers.LostBy.TheVariants.{Fail, Stop}
 use Rattle.std.specs.Prelude.{Ok, Err}
 use mathlib.Core.Path.{◌≡◌, refl, sym, ap, ◌∙◌, subst}
 use mathlib.Core.List.{List}
@@ -12,8 +12,7 @@ use Rattle.lexing.specs.reply.{Reply, ok, fail, Parser, ◌>>◌, opt}
 use Rattle.lexing.specs.integers.{signed, positive_integer, signed_integer}
 use Rattle.lexing.specs.blanks.{whitespace1}
 use Rattle.lexing.specs.strings.{span, default_string}
-use Rattle.lexing.specs.answers.{lost_reply, number_of, Rest, number_reply, signed_of, signed_reply, span_to, string_reply, Read}
-use Rattle.lexing.specs.declared.answers.Lost.{Lost}
+use Rattle.lexing.specs.answers.{lost_reply, number_of, Rest, number_reply, signed_of, signed_reply, span_to, string_reply, Read, Lost}
 use Rattle.lexing.specs.declared.integers.SignedParts.{SignedParts}
 use Rattle.lexing.proofs.Onward.{Onward}
 use Rattle.lexing.proofs.Locality.{chain_opt, chain_then}

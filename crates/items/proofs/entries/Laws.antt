@@ -4,29 +4,30 @@ use Rattle.std.specs.Prelude.{Ok, Err}
 use mathlib.Core.Path.{◌≡◌, refl, sym, ap, ◌∙◌}
 use mathlib.Core.List.{List, [], ◌∷◌, map}
 use mathlib.Core.Option.{Option}
-use Prim.Native.Nat.{ℕ, ◌+◌, ◌-◌, ◌*◌, ◌≤◌}
+use Prim.Native.Nat.{ℕ, ◌+◌, ◌-◌, ◌*◌, ◌≤◌, ◌<◌}
 use native.Mathlib.Omega.{arith}
 use lib.ListN.{length, drop}
-use Rattle.lexing.specs.reply.{ok}
+use Rattle.lexing.specs.reply.{ok, Parser}
 use Rattle.lexing.specs.words.{word}
 use Rattle.lexing.specs.blanks.{Doc, whitespace0}
 use Rattle.lexing.specs.buffers.{each, words_bytes, put}
-use Rattle.lexing.specs.answers.{Rest, lost_reply, Read}
-use Rattle.lexing.specs.declared.answers.Lost.{Lost}
+use Rattle.lexing.specs.answers.{Rest, lost_reply, Read, Lost}
 use Rattle.lexing.proofs.Onward.{Onward}
 use Rattle.lexing.proofs.Locality.{chain_ret, chain_bind, chain_then}
 use Rattle.lexing.proofs.TokenLocality.{whitespace0_chain}
-use Rattle.lexing.proofs.Slicing.{Took, took, walks, rest_self}
+use Rattle.lexing.proofs.Slicing.{Took, took, walks, rest_self, rebase}
+use Rattle.lexing.proofs.AnswerLaws.{read_took}
+use Rattle.lexing.proofs.WordBetween.{word_moved}
 use Rattle.lexing.proofs.buffers.Laws.{put_on}
 use Rattle.items.specs.entries.{Annotation, constant_annotations_list, annotations_of, Entry, constant_entry, blank_entry}
 use Rattle.items.specs.records.{Record, plain, annotation_record, entry_record, entry_records}
 use Rattle.items.specs.layout.{packed, width, from_top, offset, size, further_word, word_count, catalogue_words, catalogue_bytes, record_words, layout}
-use Rattle.items.specs.answers.{first_of}
+use Rattle.items.specs.answers.{first_of, kind_number}
 use Rattle.items.specs.inner.annotations.{optional_records, list_at, annotations_at}
 use Rattle.items.specs.inner.entries.{entry_at, EntryBounds, EntryTo, entry_end, EndTo, parts_record}
 use Rattle.items.specs.declared.entries.EntryParts.{EntryParts}
 use Rattle.items.proofs.Locality.{punct_local, constant_annotations_list_inside, blank_entry_inside, blank_entry_consumes}
-use Rattle.items.proofs.Blanks.{read_after}
+use Rattle.items.proofs.Blanks.{read_after, read_before}
 use Rattle.items.proofs.WordBetween.{extent_between}
 use Rattle.items.specs.inner.runs.{Repeats}
 use Rattle.items.proofs.RecordWords.{each_elementwise, word_count_append, catalogue_bytes_append, catalogue_bytes_length}
@@ -63,10 +64,27 @@ end_up {n} {r} h =
     (end_took e (rest_self n r) h).up
 
 -- entries
+-- the same bytes, seen from the part's start
+entry_moved : (b n : ℕ) (u r : List ℕ) (e : EntryParts) → Rest b u n r → n ≤ e.name → n ≤ e.list → entry_at n r e ≡ entry_at b u e
+entry_moved b n u r e q h k =
+    let z : drop (e.list - n) r ≡ drop (e.list - b) u = ap (drop (e.list - n)) q.same ∙ rebase b n e.list u q.from k in
+    rw (word_moved b n u r e.name e.end q h, z) refl
+
+module _ {m : Parser Entry} {b n c : ℕ} {u r : List ℕ} {e : EntryParts} (q : Rest b u n r) (h : EntryTo m (Ok (e, c)) n r) where
+  pub entry_same : entry_at n r e ≡ entry_at b u e
+  entry_same = let v = h.within in entry_moved b n u r e q v.from (omega (arith, v.from, v.up, v.follows))
+
+  pub entry_took : Onward m → Took m b u n (entry_at b u e) c
+  entry_took w = rw (← entry_same) (read_took h w q)
+
 -- an entry reads the blanks before it itself
 pub entry_after : {b : ℕ} {u : List ℕ} {a : Read EntryParts} → EntryTo constant_entry a b u → EntryTo blank_entry a b u
 unfolding blank_entry constant_entry
 entry_after h = read_after _ _ _ h
+
+pub entry_before : {b : ℕ} {u : List ℕ} {a : Read EntryParts} → EntryTo blank_entry a b u → EntryTo constant_entry a b u
+unfolding blank_entry constant_entry
+entry_before h = read_before _ _ _ h
 
 -- two words, and those of the annotations
 one_words : (e : Entry) → word_count layout (entry_record e ∷ []) ≡ 2
@@ -83,12 +101,12 @@ parts_count e = refl
 
 -- the two words of an entry's record, one after the other
 parts_words : (e : EntryParts) → catalogue_bytes layout (parts_record e ∷ [])
-    ≡ words_bytes (first_of (record { kind = a_entry; place = 0; maturity = e.maturity; doc_present = 0; flags = 0; name = e.name; name_length = e.end - e.name; first_privilege = View; second_privilege = View }) ∷ e.code ∷ [])
+    ≡ words_bytes (first_of (record { kind = kind_number a_entry; place = 0; maturity = e.maturity; doc_present = 0; flags = 0; name = e.name; name_length = e.end - e.name; first_privilege = View; second_privilege = View }) ∷ e.code ∷ [])
 unfolding catalogue_bytes catalogue_words each record_words layout further_word plain from_top width packed offset size
 parts_words e = refl
 
 pub put_entry : (e : EntryParts) (p w : ℕ) (l l₁ : List ℕ)
-    → w ≡ first_of (record { kind = a_entry; place = 0; maturity = e.maturity; doc_present = 0; flags = 0; name = e.name; name_length = e.end - e.name; first_privilege = View; second_privilege = View })
+    → w ≡ first_of (record { kind = kind_number a_entry; place = 0; maturity = e.maturity; doc_present = 0; flags = 0; name = e.name; name_length = e.end - e.name; first_privilege = View; second_privilege = View })
     → l₁ ≡ put p (words_bytes (w ∷ e.code ∷ [])) l → l₁ ≡ put p (catalogue_bytes layout (parts_record e ∷ [])) l
 put_entry e p w l l₁ z e₁ = rw (parts_words e) (rw z at e₁)
 
@@ -120,6 +138,13 @@ module _ {b c : ℕ} {u : List ℕ} (e : EntryParts) (v : EntryBounds b u e c) (
       let g' : new ≡ put (at + 16) (catalogue_bytes layout more) mid = g ∙ ap (λ (x : List ℕ). put (at + 16) (catalogue_bytes layout (map annotation_record (annotations_at e.list x))) mid) q.same in
       let x = put_on at (at + 16) (catalogue_bytes layout one) (catalogue_bytes layout more) old mid new (omega (arith, size)) (omega (arith, k, catalogue_bytes_length more, v.words)) h g' in
       x ∙ ap (λ (l : List ℕ). put at l old) (sym (catalogue_bytes_append layout one more) ∙ ap (λ (y : Record). catalogue_bytes layout (y ∷ more)) (entry_parts e v i))
+
+-- what the annotations of an entry ask for, where there are some
+pub annotations_ask : {b c n : ℕ} {u r : List ℕ} (e : EntryParts) (at : ℕ) → EntryBounds b u e c → Rest b u e.list r → at + 8 * (2 + e.words) ≤ n → (e.words ≡ 0 → ⊥)
+    → (0 < word_count layout (map annotation_record (annotations_at e.list r))) × (at + 16 + 8 * word_count layout (map annotation_record (annotations_at e.list r)) ≤ n)
+annotations_ask e at v q k z =
+    let w = ap (λ (x : List ℕ). word_count layout (map annotation_record (annotations_at e.list x))) q.same ∙ v.words in
+    (omega (arith, w, z), omega (arith, k, w))
 
 -- A turn of both passes.
 pub entry_wider : {b c d : ℕ} {u : List ℕ} {e : EntryParts} → EntryBounds b u e c → c ≤ d → EntryBounds b u e d

@@ -21,8 +21,8 @@ use Rattle.items.specs.structs.{struct_fields, StructField as StructFieldOf}
 use Rattle.items.specs.members.{or_else, access_to, event_qualities, event_head, parse_event_after_doc_maturity}
 use Rattle.items.specs.records.{bits, value, word_extent, documented, field_record, event_records, at}
 use Rattle.lexing.specs.buffers.{each, words_bytes, put}
-use Rattle.items.specs.layout.{layout, record_words, catalogue_words, word_count, packed, width, from_top, offset, size, further_word, catalogue_bytes}
-use Rattle.items.specs.answers.{Front, first_of, doc_span_word, doc_span_bit, front_of}
+use Rattle.items.specs.layout.{layout, record_words, catalogue_words, word_count, packed, width, from_top, offset, size, further_word, catalogue_bytes, text_limit}
+use Rattle.items.specs.answers.{Front, first_of, doc_span_word, doc_span_bit, front_of, kind_number}
 use Rattle.items.specs.answers.{privilege_number, priority_number}
 use Rattle.items.specs.declared.levels.Priority.{Priority}
 use Rattle.items.specs.inner.levels.{PrivilegeTo}
@@ -108,7 +108,7 @@ event_headed = record {
 
 -- the three words of an event's first record
 pub event_first_put : (f : FrontParts) (h : EventHeadParts) (p v k a o : ℕ) (l l₁ : List ℕ) → v ≡ doc_span_bit f.doc → k ≡ priority_number h.rank
-    → a ≡ first_of (record { kind = a_event; place = 0; maturity = f.maturity; doc_present = v; flags = k * 32 + h.sensitive * 16; name = h.name; name_length = h.end - h.name; first_privilege = h.privilege; second_privilege = View }) → o ≡ doc_span_word f.doc
+    → a ≡ first_of (record { kind = kind_number a_event; place = 0; maturity = f.maturity; doc_present = v; flags = k * 32 + h.sensitive * 16; name = h.name; name_length = h.end - h.name; first_privilege = h.privilege; second_privilege = View }) → o ≡ doc_span_word f.doc
     → l₁ ≡ put p (words_bytes (a ∷ o ∷ h.code ∷ [])) l → l₁ ≡ put p (catalogue_bytes layout (event_first f h ∷ [])) l
 unfolding from_top packed width offset size further_word
 event_first_put f h p v k a o l l₁ d y w b e₁ =
@@ -118,3 +118,6 @@ event_first_put f h p v k a o l l₁ d y w b e₁ =
 pub event_first_is : (f : FrontParts) (b : ℕ) (u : List ℕ) (h : EventHeadParts) (c : ℕ) (l : List StructFieldOf) → EventHeadBetween b h c → c ≤ b + length u → event_first f h ≡ event_headed.first (front_of f) (event_head_at b u h) l
 unfolding event_headed
 event_first_is f b u h c l w i = rw (extent_between b u h.name h.end w.name_from w.name_to (omega (arith, w.before)))
+
+pub event_in_limit : {b : ℕ} {h : EventHeadParts} {c : ℕ} → EventHeadBetween b h c → c ≤ text_limit → EventHeadBetween 0 h text_limit
+event_in_limit w i = record { sensitive = w.sensitive; name_from = omega arith; name_to = w.name_to; before = omega (arith, w.before) }

@@ -1,6 +1,6 @@
 -- Fields: one law for each way through a reader.
 use Rattle.items.specs.declared.levels.Privilege.TheVariants.{View}
-use Rattle.lexing.specs.declared.answers.Lost.TheVariants.{Stop, Fail}
+use Rattle.lexing.specs.declared.answers.LostBy.TheVariants.{Stop, Fail}
 use Rattle.std.specs.Prelude.{Ok, Err, Option as CodeOption, Some, None, is_some}
 use Rattle.std.specs.Option.{unwrap_or}
 use mathlib.Core.Path.{◌≡◌, refl, sym, ap, ◌∙◌, subst}
@@ -12,8 +12,7 @@ use lib.ListN.{length, drop}
 use Rattle.lexing.specs.reply.{ok, Parser, opt}
 use Rattle.lexing.specs.words.{Word}
 use Rattle.lexing.specs.word_sets.{bit}
-use Rattle.lexing.specs.answers.{Rest, lost_reply, number_reply, after_blanks, word_between, Read, number_of}
-use Rattle.lexing.specs.declared.answers.Lost.{Lost}
+use Rattle.lexing.specs.answers.{Rest, lost_reply, number_reply, after_blanks, word_between, Read, number_of, Lost}
 use Rattle.lexing.proofs.Locality.{chain_opt}
 use Rattle.lexing.proofs.TokenLocality.{whitespace0_chain}
 use Rattle.lexing.proofs.Composed.{onward_then}
@@ -25,7 +24,7 @@ use Rattle.items.specs.records.{at, bits, value, spanned, flag, plain, field_rec
 use Rattle.lexing.specs.buffers.{each, words_bytes, put}
 use Rattle.items.specs.layout.{packed, width, from_top, offset, size, layout, further_word, record_words, catalogue_words, catalogue_bytes, word_count}
 use Rattle.items.specs.members.{or_else}
-use Rattle.items.specs.answers.{option_of, maybe, first_of, word_of_span}
+use Rattle.items.specs.answers.{option_of, maybe, first_of, word_of_span, kind_number}
 use Rattle.items.specs.inner.fields.{field_at, FieldBetween, FieldTo, struct_field_at, StructFieldBetween, StructFieldTo, length_reply, optional_length, MarkerTo, field_parts}
 use Rattle.items.specs.declared.fields.FieldParts.{FieldParts}
 use Rattle.items.specs.declared.fields.StructFieldParts.{StructFieldParts}
@@ -144,7 +143,7 @@ struct_fields_on = walks struct_fields_local.on_chain
 
 -- the four words of a field's record
 pub field_put : (s : StructFieldParts) (p i j t x w : ℕ) (l l₁ : List ℕ) → i ≡ bit s.field.list → j ≡ bit (is_some s.field.maximum)
-    → w ≡ first_of (record { kind = a_field; place = 0; maturity = s.maturity; doc_present = 0; flags = i * 64 + j * 32 + s.flags * 4; name = s.field.name; name_length = s.field.end - s.field.name; first_privilege = View; second_privilege = View })
+    → w ≡ first_of (record { kind = kind_number a_field; place = 0; maturity = s.maturity; doc_present = 0; flags = i * 64 + j * 32 + s.flags * 4; name = s.field.name; name_length = s.field.end - s.field.name; first_privilege = View; second_privilege = View })
     → t ≡ word_of_span s.field.type_at (s.field.type_end - s.field.type_at) → x ≡ or_else 0 (maybe s.field.maximum)
     → l₁ ≡ put p (words_bytes (w ∷ t ∷ s.field.code ∷ x ∷ [])) l → l₁ ≡ put p (catalogue_bytes layout (field_parts s ∷ [])) l
 unfolding from_top packed width flag offset size layout further_word

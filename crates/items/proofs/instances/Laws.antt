@@ -16,8 +16,7 @@ use Rattle.lexing.specs.reply.{Reply, ok, fail, Parser, ◌>>◌}
 use Rattle.lexing.specs.bytes.{ascii, lower}
 use Rattle.lexing.specs.words.{Word, keyword}
 use Rattle.lexing.specs.blanks.{no_doc, whitespace0}
-use Rattle.lexing.specs.answers.{reply, read_answer, NameIn, word_between, Read}
-use Rattle.lexing.specs.declared.answers.Lost.{Lost}
+use Rattle.lexing.specs.answers.{reply, read_answer, NameIn, word_between, Read, Lost}
 use Rattle.lexing.proofs.Onward.{Onward}
 use Rattle.lexing.proofs.Slicing.{walks}
 use Rattle.items.specs.clusters.{mapped}

@@ -2,7 +2,7 @@
 use Rattle.items.specs.declared.maturity.Maturity.{Maturity}
 use Rattle.items.specs.declared.maturity.Maturity.TheVariants.{Stable}
 use Rattle.items.specs.answers.{maturity_number}
-use Rattle.lexing.specs.declared.answers.Lost.TheVariants.{Fail, Stop}
+use Rattle.lexing.specs.declared.answers.LostBy.TheVariants.{Fail, Stop}
 use Rattle.std.specs.Prelude.{Ok, Err}
 use mathlib.Core.Path.{◌≡◌, refl, sym, ap, ◌∙◌, subst}
 use mathlib.Core.Logic.{inl, inr}
@@ -20,9 +20,8 @@ use Rattle.lexing.proofs.Losses.{by_lost}
 use Rattle.lexing.proofs.Onward.{Ends, Onward}
 use Rattle.lexing.proofs.blanks.Laws.{gap_none, gap_some}
 use Rattle.lexing.proofs.FirstWord.{Frees, starts_free, blank_clear}
-use Rattle.lexing.specs.answers.{Rest, doc_of, lost_reply, BlankTo, Read, number_of}
+use Rattle.lexing.specs.answers.{Rest, doc_of, lost_reply, BlankTo, Read, number_of, Lost}
 use Rattle.lexing.specs.declared.blanks.Blank.{Blank}
-use Rattle.lexing.specs.declared.answers.Lost.{Lost}
 use Rattle.lexing.proofs.Slicing.{Took, took, walks, rest_self, begin, or_here}
 use Rattle.items.specs.entries.{api_maturity, choice_after_doc_maturity, parse_enum_after_doc_maturity, parse_bitmap_after_doc_maturity}
 use Rattle.items.specs.structs.{parse_struct_after_doc_maturity}

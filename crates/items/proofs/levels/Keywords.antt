@@ -1,5 +1,5 @@
 -- Levels: keywords that stand for numbers, one of which the first letter selects.
-use Rattle.lexing.specs.declared.answers.Lost.TheVariants.{Fail}
+use Rattle.lexing.specs.declared.answers.LostBy.TheVariants.{Fail}
 use Rattle.lexing.specs.answers.{Read}
 use Rattle.std.specs.Prelude.{Err}
 use mathlib.Core.Path.{◌≡◌, sym, ◌∙◌}

@@ -12,8 +12,7 @@ use Rattle.lexing.specs.bytes.{ascii}
 use Rattle.lexing.specs.reply.{ok, Parser, ret, ◌>>◌, opt}
 use Rattle.lexing.specs.words.{keyword, tag}
 use Rattle.lexing.specs.blanks.{Doc, whitespace0}
-use Rattle.lexing.specs.answers.{Rest, lost_reply, Skips, SkipsAt, Read, Step}
-use Rattle.lexing.specs.declared.answers.Lost.{Lost}
+use Rattle.lexing.specs.answers.{Rest, lost_reply, Skips, SkipsAt, Read, Step, Lost}
 use Rattle.lexing.proofs.Onward.{Onward, advances_onward, tag_advances}
 use Rattle.lexing.proofs.Locality.{chain_then, chain_opt, chain_inside}
 use Rattle.lexing.proofs.TokenLocality.{keyword_chain, whitespace0_chain}

@@ -14,8 +14,7 @@ use Rattle.lexing.specs.bytes.{ascii, lower, within}
 use Rattle.lexing.specs.reply.{ok, Parser, ret, ◌>>◌}
 use Rattle.lexing.specs.words.{keyword}
 use Rattle.lexing.specs.blanks.{Doc, no_doc, whitespace0}
-use Rattle.lexing.specs.answers.{Rest, word_reply}
-use Rattle.lexing.specs.declared.answers.Lost.{Lost}
+use Rattle.lexing.specs.answers.{Rest, word_reply, Lost}
 use Rattle.lexing.proofs.Onward.{Ends, Onward}
 use Rattle.lexing.proofs.steps.Laws.{rest_clear}
 use Rattle.lexing.proofs.TokenLocality.{whitespace0_chain}

@@ -15,9 +15,8 @@ use Rattle.lexing.specs.reply.{Reply, ok, fail, stop, ret, no_nearer}
 use Rattle.lexing.specs.words.{Word, keyword, any_keyword}
 use Rattle.lexing.specs.blanks.{Doc, no_doc, whitespace0, whitespace1}
 use Rattle.lexing.specs.word_sets.{same_bytes, struct_set}
-use Rattle.lexing.specs.answers.{Rest, doc_of, word_at, word_reply, lost_reply, BlankTo}
+use Rattle.lexing.specs.answers.{Rest, doc_of, word_at, word_reply, lost_reply, BlankTo, Lost}
 use Rattle.lexing.specs.declared.blanks.Blank.{Blank}
-use Rattle.lexing.specs.declared.answers.Lost.{Lost}
 use Rattle.lexing.proofs.Slicing.{Took, blank_took, or_here}
 use Rattle.lexing.proofs.blanks.Laws.{gap_none, gap_some}
 use Rattle.lexing.proofs.Tests.{and_left, and_right}

@@ -1,5 +1,5 @@
 -- Members of clusters, counted.
-use Rattle.lexing.specs.declared.answers.Lost.TheVariants.{Fail}
+use Rattle.lexing.specs.declared.answers.LostBy.TheVariants.{Fail}
 use Rattle.std.specs.Prelude.{Ok, Err}
 use mathlib.Core.Path.{◌≡◌, refl, sym, subst}
 use mathlib.Core.List.{List}
@@ -7,8 +7,7 @@ use Prim.Native.Nat.{ℕ}
 use native.Mathlib.Omega.{arith}
 use Rattle.lexing.specs.bytes.{ascii}
 use Rattle.lexing.specs.blanks.{Doc}
-use Rattle.lexing.specs.answers.{lost_reply, Read}
-use Rattle.lexing.specs.declared.answers.Lost.{Lost}
+use Rattle.lexing.specs.answers.{lost_reply, Read, Lost}
 use Rattle.lexing.proofs.Slicing.{walks}
 use Rattle.lexing.proofs.Onward.{Onward}
 use Rattle.items.specs.entries.{parse_bitmap_after_doc_maturity, parse_enum_after_doc_maturity}

@@ -15,8 +15,7 @@ use Rattle.lexing.specs.bytes.{ascii, within, lower}
 use Rattle.lexing.specs.reply.{Reply, ok, fail, stop, Parser, ret, ◌or◌, no_nearer, opt, pick}
 use Rattle.lexing.specs.words.{Word, bytes_of, is_keyword, is_lower, keyword, any_keyword}
 use Rattle.lexing.specs.word_sets.{same_bytes}
-use Rattle.lexing.specs.answers.{Rest, lost_reply, word_at, word_reply, BlankAt, Read}
-use Rattle.lexing.specs.declared.answers.Lost.{Lost}
+use Rattle.lexing.specs.answers.{Rest, lost_reply, word_at, word_reply, BlankAt, Read, Lost}
 use Rattle.lexing.proofs.Tests.{false_if, and_right}
 use Rattle.lexing.proofs.Locality.{chain_opt}
 use Rattle.lexing.proofs.TokenLocality.{any_keyword_chain}
@@ -28,7 +27,7 @@ use Rattle.items.specs.structs.{StructField as StructFieldOf, struct_fields, reg
 use Rattle.items.specs.records.{at, bits, value, word_extent, documented, field_record, struct_number, response_of, struct_records}
 use Rattle.lexing.specs.buffers.{each, words_bytes, put}
 use Rattle.items.specs.layout.{packed, width, from_top, offset, size, layout, further_word, record_words, catalogue_words, catalogue_bytes, word_count, text_limit}
-use Rattle.items.specs.answers.{Front, first_of, doc_span_word, doc_span_bit, front_of}
+use Rattle.items.specs.answers.{Front, first_of, doc_span_word, doc_span_bit, front_of, kind_number}
 use Rattle.items.specs.inner.structs.{StructFrom, after_shared, not_shared, type_of, head_at, HeadBetween, StructHeadTo, kind_by, type_by, struct_words, StructWordTo, code_reply, struct_kind_number, response_number, struct_first}
 use Rattle.items.specs.declared.writing.FrontParts.{FrontParts}
 use Rattle.items.specs.declared.structs.StructKind.{StructKind}
@@ -215,7 +214,7 @@ struct_headed = record {
 
 -- the three words of a struct's first record
 pub struct_first_put : (f : FrontParts) (h : StructHeadParts) (p v i a o s : ℕ) (l l₁ : List ℕ) → v ≡ doc_span_bit f.doc → i ≡ struct_kind_number h.kind
-    → a ≡ first_of (record { kind = a_struct; place = f.place; maturity = f.maturity; doc_present = v; flags = i * 32 + h.scoped * 16; name = h.name; name_length = h.end - h.name; first_privilege = View; second_privilege = View }) → o ≡ doc_span_word f.doc
+    → a ≡ first_of (record { kind = kind_number a_struct; place = f.place; maturity = f.maturity; doc_present = v; flags = i * 32 + h.scoped * 16; name = h.name; name_length = h.end - h.name; first_privilege = View; second_privilege = View }) → o ≡ doc_span_word f.doc
     → s ≡ response_number h.kind h.code → l₁ ≡ put p (words_bytes (a ∷ o ∷ s ∷ [])) l → l₁ ≡ put p (catalogue_bytes layout (struct_first f h ∷ [])) l
 unfolding from_top packed width offset size further_word
 struct_first_put f h p v i a o s l l₁ d e w b z e₁ =

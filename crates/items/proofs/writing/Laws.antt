@@ -2,7 +2,7 @@
 use Rattle.items.specs.declared.maturity.Maturity.{Maturity}
 use Rattle.items.specs.declared.levels.Privilege.{Privilege}
 use Rattle.items.specs.declared.levels.Privilege.TheVariants.{View}
-use Rattle.lexing.specs.declared.answers.Lost.TheVariants.{Stop}
+use Rattle.lexing.specs.declared.answers.LostBy.TheVariants.{Stop}
 use Rattle.std.specs.Prelude.{None, Option as CodeOption, Some, Ok, Err}
 use mathlib.Core.Path.{◌≡◌, refl, sym, ap, ◌∙◌, subst}
 use mathlib.Core.List.{List, [], ◌∷◌, ◌++◌, map, append_assoc, append-nil}
@@ -13,9 +13,8 @@ use lib.ListN.{length, drop, take, length-append}
 use lib.Seq.{drop_at, take-take, take-append-le, length-take-le}
 use Rattle.lexing.specs.reply.{Reply, ok, fail, stop, Parser, many0}
 use Rattle.lexing.specs.word_sets.{bit}
-use Rattle.lexing.specs.answers.{Rest, lost_reply, doc_of, BlankTo, ReadTo}
+use Rattle.lexing.specs.answers.{Rest, lost_reply, doc_of, BlankTo, ReadTo, Lost}
 use Rattle.lexing.specs.declared.blanks.Blank.{Blank}
-use Rattle.lexing.specs.declared.answers.Lost.{Lost}
 use Rattle.lexing.specs.declared.blanks.DocSpan.{DocSpan}
 use Rattle.lexing.proofs.Losses.{by_lost}
 use Rattle.lexing.proofs.DocPlace.{DocIn, doc_in}
@@ -66,29 +65,29 @@ doc_bit_small : (d : CodeOption DocSpan) → doc_span_bit d < 2
 doc_bit_small None = omega arith
 doc_bit_small (Some x) = omega arith
 
-pub documented_fits : (f : FrontParts) {k : Kind} {v g o n : ℕ} {x y : Privilege} → FrontFits f → v ≡ doc_span_bit f.doc → g < 128 → o ≤ text_limit → n ≤ text_limit
+pub documented_fits : (f : FrontParts) {k v g o n : ℕ} {x y : Privilege} → FrontFits f → v ≡ doc_span_bit f.doc → g < 128 → o ≤ text_limit → n ≤ text_limit
     → Fits (record { kind = k; place = f.place; maturity = f.maturity; doc_present = v; flags = g; name = o; name_length = n; first_privilege = x; second_privilege = y })
 documented_fits f h e b c d = record { place_fits = h.place_fits; doc_present_fits = omega (arith, e, doc_bit_small f.doc); flags_fits = b; name_fits = omega (arith, c); name_length_fits = omega (arith, d) }
 
 pub documented_bytes : (k : Kind) (p : ℕ) (m : Maturity) (d : CodeOption DocSpan) (fl : List Bits) (e : Extent) (x y : Privilege) (l : List Further) (g : ℕ) → g ≡ from_top 7 fl
     → catalogue_bytes layout (documented (kind_number k) p (maturity_number m) (doc_of d) fl e (privilege_number x) (privilege_number y) l ∷ [])
-    ≡ words_bytes (first_of (record { kind = k; place = p; maturity = m; doc_present = doc_span_bit d; flags = g; name = offset e; name_length = size e; first_privilege = x; second_privilege = y }) ∷ doc_span_word d ∷ map (further_word layout) l)
+    ≡ words_bytes (first_of (record { kind = kind_number k; place = p; maturity = m; doc_present = doc_span_bit d; flags = g; name = offset e; name_length = size e; first_privilege = x; second_privilege = y }) ∷ doc_span_word d ∷ map (further_word layout) l)
 unfolding catalogue_bytes catalogue_words each record_words layout further_word documented
 documented_bytes k p m d fl e x y l g h = rw (h, doc_bit_is d, doc_word d) (ap words_bytes (append-nil _))
 
 -- such a record of three words: what the code has computed of it
 pub documented_put : (k : Kind) (p : ℕ) (m : Maturity) (d : CodeOption DocSpan) (fl : List Bits) (e : Extent) (x y : Privilege) (w : Further) (q g v a o s : ℕ) (l l₁ : List ℕ) → g ≡ from_top 7 fl → v ≡ doc_span_bit d
-    → a ≡ first_of (record { kind = k; place = p; maturity = m; doc_present = v; flags = g; name = offset e; name_length = size e; first_privilege = x; second_privilege = y }) → o ≡ doc_span_word d → s ≡ further_word layout w
+    → a ≡ first_of (record { kind = kind_number k; place = p; maturity = m; doc_present = v; flags = g; name = offset e; name_length = size e; first_privilege = x; second_privilege = y }) → o ≡ doc_span_word d → s ≡ further_word layout w
     → l₁ ≡ put q (words_bytes (a ∷ o ∷ s ∷ [])) l → l₁ ≡ put q (catalogue_bytes layout (documented (kind_number k) p (maturity_number m) (doc_of d) fl e (privilege_number x) (privilege_number y) (w ∷ []) ∷ [])) l
 documented_put k p m d fl e x y w q g v a o s l l₁ h z c b f e₁ = rw (documented_bytes k p m d fl e x y (w ∷ []) g h, ← z) (rw (c, b, f) at e₁)
 
 -- a record without one
-pub plain_fits : {k : Kind} {m : Maturity} {g o n : ℕ} → g < 128 → o ≤ text_limit → n ≤ text_limit → Fits (record { kind = k; place = 0; maturity = m; doc_present = 0; flags = g; name = o; name_length = n; first_privilege = View; second_privilege = View })
+pub plain_fits : {k : ℕ} {m : Maturity} {g o n : ℕ} → g < 128 → o ≤ text_limit → n ≤ text_limit → Fits (record { kind = k; place = 0; maturity = m; doc_present = 0; flags = g; name = o; name_length = n; first_privilege = View; second_privilege = View })
 plain_fits c d e = record { place_fits = omega arith; doc_present_fits = omega arith; flags_fits = c; name_fits = omega (arith, d); name_length_fits = omega (arith, e) }
 
 pub plain_bytes : (k : Kind) (m : Maturity) (fl : List Bits) (e : Extent) (l : List Further) (g : ℕ) → g ≡ from_top 7 fl
     → catalogue_bytes layout (plain (kind_number k) (maturity_number m) fl e l ∷ [])
-    ≡ words_bytes (first_of (record { kind = k; place = 0; maturity = m; doc_present = 0; flags = g; name = offset e; name_length = size e; first_privilege = View; second_privilege = View }) ∷ map (further_word layout) l)
+    ≡ words_bytes (first_of (record { kind = kind_number k; place = 0; maturity = m; doc_present = 0; flags = g; name = offset e; name_length = size e; first_privilege = View; second_privilege = View }) ∷ map (further_word layout) l)
 unfolding catalogue_bytes catalogue_words each record_words layout plain
 plain_bytes k m fl e l g h = rw h (ap words_bytes (append-nil _))
 

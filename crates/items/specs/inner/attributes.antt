@@ -1,6 +1,6 @@
 -- What the readers and writers of attributes promise.
 use Rattle.items.specs.declared.attributes.Privileges.{Privileges}
-use Rattle.lexing.specs.declared.answers.Lost.TheVariants.{Fail}
+use Rattle.lexing.specs.declared.answers.LostBy.TheVariants.{Fail}
 use Rattle.std.specs.Prelude.{ℕ, ◌<◌, List, [], ◌∷◌, ◌≡◌, Bool, true, false, Ok, Err, Result, Some, None, Option as CodeOption}
 use Rattle.lexing.specs.answers.{Answer, got, lost, ReadTo, word_at, reply, doc_of, Read as ReadOf}
 use Rattle.items.specs.members.{Privileges as PrivilegesOf, attribute_access, parse_attribute_after_doc_maturity, Access as AccessOf, access_entry, comma, separated_list0}

@@ -1,5 +1,5 @@
 -- What the readers of default values promise.
-use Rattle.lexing.specs.declared.answers.Lost.TheVariants.{Fail, Stop}
+use Rattle.lexing.specs.declared.answers.LostBy.TheVariants.{Fail, Stop}
 use Rattle.std.specs.Prelude.{ℕ, ◌+◌, ◌<◌, ◌≡◌, List, Ok, Err}
 use Rattle.std.proofs.Math.Option.{Option, none, some}
 use Rattle.lexing.specs.reply.{Parser, ◌>>◌, opt, fail}

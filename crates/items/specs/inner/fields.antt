@@ -1,5 +1,5 @@
 -- What the readers and writers of fields promise.
-use Rattle.lexing.specs.declared.answers.Lost.TheVariants.{Fail, Stop}
+use Rattle.lexing.specs.declared.answers.LostBy.TheVariants.{Fail, Stop}
 use Rattle.std.specs.Prelude.{ℕ, ◌≤◌, ◌<◌, ◌+◌, ◌-◌, ◌≡◌, List, [], ◌∷◌, length, Ok, Err, Some, None, Option as CodeOption, is_some}
 use Rattle.lexing.specs.reply.{Parser, Reply, opt}
 use Rattle.lexing.specs.answers.{Answer, got, ReadTo, word_between, reply, Read, read_answer}

@@ -83,7 +83,7 @@ deep_rest f = mapped (deep_tail f) (λ s. s.read)
 
 -- the first word of a record that has only a kind, flags and a name
 abbrev pub plain_word : Kind → (flags name end : ℕ) → ℕ
-plain_word k g o e = first_of (record { kind = k; place = 0; maturity = Stable; doc_present = 0; flags = g; name = o; name_length = e - o; first_privilege = View; second_privilege = View })
+plain_word k g o e = first_of (record { kind = kind_number k; place = 0; maturity = Stable; doc_present = 0; flags = g; name = o; name_length = e - o; first_privilege = View; second_privilege = View })
 
 -- records by offsets: a name and nothing else, a device type, an instance of an attribute
 abbrev pub name_parts : (kind name end : ℕ) → Record

@@ -9,7 +9,7 @@ use Rattle.lexing.specs.reply.{ok, fail, stop, Parser, opt}
 use Rattle.lexing.specs.answers.{Rest, number_of, Skips, optional_step}
 use Rattle.std.specs.Prelude.{Ok, Err}
 use Rattle.lexing.specs.answers.{Step}
-use Rattle.lexing.specs.declared.answers.Lost.TheVariants.{Fail, Stop}
+use Rattle.lexing.specs.declared.answers.LostBy.TheVariants.{Fail, Stop}
 use Rattle.lexing.proofs.Onward.{Onward}
 use Rattle.lexing.proofs.Slicing.{Took, took}
 

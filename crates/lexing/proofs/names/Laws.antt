@@ -9,8 +9,7 @@ use Rattle.lexing.specs.words.{Word, parse_id}
 use Rattle.lexing.specs.integers.{positive_integer}
 use Rattle.lexing.specs.blanks.{whitespace0}
 use Rattle.std.specs.Prelude.{Ok, Err}
-use Rattle.lexing.specs.answers.{Rest, Read, lost_reply, number_reply, NameIn, NumberAt, word_at, word_between}
-use Rattle.lexing.specs.declared.answers.Lost.{Lost}
+use Rattle.lexing.specs.answers.{Rest, Read, lost_reply, number_reply, NameIn, NumberAt, word_at, word_between, Lost}
 use Rattle.lexing.proofs.Onward.{Onward, advances_onward, parse_id_advances, tag_advances, integer_advances}
 use Rattle.lexing.proofs.TokenLocality.{keyword_chain, whitespace0_chain, whitespace1_chain}
 use Rattle.lexing.proofs.Slicing.{Took, took, on, walks, rebase}

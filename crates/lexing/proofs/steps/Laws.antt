@@ -12,11 +12,10 @@ use Rattle.lexing.specs.reply.{ok, Parser, ret, ◌>>=◌, ◌>>◌, position, f
 use Rattle.lexing.specs.words.{keyword, tag}
 use Rattle.lexing.specs.integers.{positive_integer}
 use Rattle.lexing.specs.blanks.{Doc, no_doc, whitespace0, whitespace1}
-use Rattle.lexing.specs.answers.{Rest, BlankTo, doc_of, lost_reply, number_reply, read_answer, tag_reply, word_reply, Skips, SkipsAt, BlankAt, NumberAt}
-use Rattle.lexing.specs.declared.answers.Lost.{Lost}
+use Rattle.lexing.specs.answers.{Rest, BlankTo, doc_of, lost_reply, number_reply, read_answer, tag_reply, word_reply, Skips, SkipsAt, BlankAt, NumberAt, Lost}
 use Rattle.std.specs.Prelude.{Ok, Err, None}
 use Rattle.lexing.specs.answers.{Step, Read}
-use Rattle.lexing.specs.declared.answers.Lost.TheVariants.{Fail}
+use Rattle.lexing.specs.declared.answers.LostBy.TheVariants.{Fail}
 use Rattle.lexing.specs.declared.blanks.Blank.{Blank}
 use Rattle.std.specs.Prelude.{None}
 use Rattle.lexing.proofs.Onward.{Onward, advances_onward, tag_advances, integer_advances}

@@ -9,13 +9,12 @@ use borrow.Author.Tests.{eq-eqb, ne_eqb}
 use Rattle.lexing.specs.bytes.{quote, backslash}
 use Rattle.lexing.specs.reply.{ok, fail}
 use Rattle.lexing.specs.strings.{Escape, string_rest, span_from, string_with}
-use Rattle.lexing.specs.answers.{Rest, reply, step_answer, span_to, string_reply, lost_reply}
+use Rattle.lexing.specs.answers.{Rest, reply, step_answer, span_to, string_reply, lost_reply, Lost}
 use Rattle.lexing.specs.inner.strings.{escape_of, piece_inside, piece_is}
 use Rattle.std.specs.Prelude.{Result, Ok, Err}
 use Rattle.lexing.specs.answers.{Step}
-use Rattle.lexing.specs.declared.answers.Lost.TheVariants.{Fail, Stop}
+use Rattle.lexing.specs.declared.answers.LostBy.TheVariants.{Fail, Stop}
 use Rattle.lexing.specs.declared.answers.Refusal.TheVariants.{EscapedReturn}
-use Rattle.lexing.specs.declared.answers.Lost.{Lost}
 use Rattle.lexing.specs.declared.strings.Escaped.{Escaped}
 use Rattle.lexing.specs.declared.strings.Escaped.TheVariants.{Allowed, Forbidden, Panics}
 use Rattle.lexing.specs.declared.strings.Piece.{Piece}

@@ -19,6 +19,7 @@ use Rattle.lexing.specs.inner.eights.{pack, bytes_from, failing, is_ascii}
 use Rattle.std.proofs.lemmas.List.{get_or-take, get_or-drop}
 use Rattle.std.proofs.lemmas.Option.{none-some, same_Some}
 use Rattle.lexing.proofs.Tests.{within_of}
+use Rattle.lexing.proofs.Scans.{both_runs}
 use Rattle.lexing.proofs.eights.Laws.{Bytes, no_bits, passing, some_passing}
 
 -- texts one after the other
@@ -311,6 +312,14 @@ or_none = record { each = below_none _ }
 -- one more byte after a run
 pub or_more : {r : ℕ} {u : List ℕ} {i n : ℕ} → Bounds r u i n → Bounds (bit_or r (get_or u (i + n) 0)) u i (n + 1)
 or_more {r} {u} {i} {n} p = record { each = below_more _ n (λ j h. omega (arith, p.each j h, or_left r (get_or u (i + n) 0))) (or_right r (get_or u (i + n) 0)) }
+
+-- two runs of bytes, the second after the first
+or_join : (n m : ℕ) {r s : ℕ} {u : List ℕ} {i : ℕ} → Bounds r u i n → Bounds s u (i + n) m → Bounds (bit_or r s) u i (n + m)
+or_join n m {r} {s} {u} {i} p q = record { each = both_runs (λ k. get_or u k 0 ≤ bit_or r s) i n m (λ j h. omega (arith, p.each j h, or_left r s)) (λ j h. omega (arith, q.each j h, or_right r s)) }
+
+-- four runs of n bytes
+pub or_four : (n : ℕ) {r s t v : ℕ} {u : List ℕ} {i : ℕ} → Bounds r u i n → Bounds s u (i + n) n → Bounds t u (i + (n + n)) n → Bounds v u (i + (n + n + n)) n → Bounds (bit_or (bit_or (bit_or r s) t) v) u i (n + n + n + n)
+or_four n p q a b = or_join (n + n + n) n (or_join (n + n) n (or_join n n p q) a) b
 
 -- an ASCII byte with n others after it
 pub ascii_run : (n : ℕ) {u : List ℕ} {i r : ℕ} → get_or u i 0 < 0x80 → i + (n + 1) ≤ length u → Bounds r u (i + 1) n → r < 0x80 → AsciiAt u i (n + 1)

@@ -20,17 +20,16 @@ use Rattle.lexing.specs.reply.{Reply, ok, fail, stop, ret, ◌>>=◌, ◌>>◌, 
 use Rattle.lexing.specs.words.{Word, bytes_of, is_key_letter, is_key, is_keyword, is_lower, keyword, any_keyword}
 use Rattle.lexing.specs.blanks.{Doc, whitespace1}
 use Rattle.lexing.specs.word_sets.{next_word, set_step, keywords_set, same_bytes, contains, bit, flags, set_flags, field_set, struct_set, event_set, command_set, attribute_set}
-use Rattle.lexing.specs.answers.{Rest, lost_reply, word_at, word_reply, doc_of, BlankTo, set_of, WordSetTo}
+use Rattle.lexing.specs.answers.{Rest, lost_reply, word_at, word_reply, doc_of, BlankTo, set_of, WordSetTo, Lost}
 use Rattle.lexing.specs.inner.word_sets.{KeywordEnd, there, missing, set_gap, start_reply, with_flag, initial, LowerAt, IsEight, EightFlag, some, none}
 use Rattle.lexing.specs.inner.words.{KeyAt}
 use Rattle.lexing.specs.inner.eights.{pack, bytes_from, failing, is_capital}
-use Rattle.lexing.specs.declared.answers.Lost.{Lost}
 use Rattle.lexing.specs.declared.word_sets.WordSet.{WordSet}
 use Rattle.std.specs.Prelude.{Ok, Err, Option, Some, None}
-use Rattle.lexing.specs.declared.answers.Lost.TheVariants.{Fail}
+use Rattle.lexing.specs.declared.answers.LostBy.TheVariants.{Fail}
 use Rattle.lexing.specs.declared.blanks.Blank.{Blank}
 use Rattle.lexing.specs.declared.word_sets.KeywordSet.{KeywordSet}
-use Rattle.lexing.specs.declared.word_sets.KeywordSet.TheVariants.{Field, Struct, Event, Command, Attribute}
+use Rattle.lexing.specs.declared.word_sets.KeywordSet.TheVariants.{Field, Struct, Event, Command, Attribute, Empty}
 use Rattle.std.specs.Prelude.{map}
 use Rattle.lexing.proofs.Losses.{by_lost}
 use Rattle.lexing.proofs.Tests.{and_left, and_right, or_false, or_true, false_if}
@@ -98,6 +97,7 @@ set_apart Struct = refl
 set_apart Event = refl
 set_apart Command = refl
 set_apart Attribute = refl
+set_apart Empty = refl
 
 pub set_most : (n : KeywordSet) → length (set_of n) ≤ 4
 unfolding field_set struct_set event_set command_set attribute_set
@@ -106,6 +106,7 @@ set_most Struct = omega arith
 set_most Event = omega arith
 set_most Command = omega arith
 set_most Attribute = omega arith
+set_most Empty = omega arith
 
 unfoldable all_keys : List (List ℕ) → Bool
 all_keys [] = true
@@ -118,6 +119,7 @@ set_all_keys Struct = refl
 set_all_keys Event = refl
 set_all_keys Command = refl
 set_all_keys Attribute = refl
+set_all_keys Empty = refl
 
 key_of : (ks : List (List ℕ)) (k : ℕ) → k < length ks → all_keys ks ≡ true → is_key (get_or ks k []) ≡ true
 unfolding all_keys

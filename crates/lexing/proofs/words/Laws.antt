@@ -15,13 +15,12 @@ use Rattle.std.specs.List.{list_all}
 use Rattle.lexing.specs.bytes.{within, is_letter, is_digit, is_word, lower, list_take_while, list_drop_while}
 use Rattle.lexing.specs.reply.{Reply, ok, fail, stop, Parser, ret, ◌>>=◌, position, fail_at, pick}
 use Rattle.lexing.specs.words.{Word, word, bytes_of, parse_id, is_key_letter, are_key_letters, is_key, is_keyword, keyword, tag}
-use Rattle.lexing.specs.answers.{Rest, lost_reply, word_at, word_reply, WordAt}
+use Rattle.lexing.specs.answers.{Rest, lost_reply, word_at, word_reply, WordAt, Lost}
 use Rattle.lexing.specs.inner.eights.{pack, bytes_from, failing, is_alpha}
 use Rattle.lexing.specs.inner.words.{word_end, is_key_byte, Agree, KeyAt, HasKey}
-use Rattle.lexing.specs.declared.answers.Lost.{Lost}
 use Rattle.std.specs.Prelude.{Ok, Err}
 use Rattle.lexing.specs.answers.{Step}
-use Rattle.lexing.specs.declared.answers.Lost.TheVariants.{Fail}
+use Rattle.lexing.specs.declared.answers.LostBy.TheVariants.{Fail}
 use Rattle.lexing.proofs.Scans.{first_of, take_run, drop_run, run_le, run_byte, run_stops, run_passes, RunAt, turns, runs_on}
 use Rattle.lexing.proofs.TokenRuns.{id_nil, id_yes, id_no}
 use Rattle.lexing.proofs.Slicing.{Took, rest_from, word_took}

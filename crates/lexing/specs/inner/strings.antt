@@ -1,8 +1,7 @@
 -- What the private functions of the readers of strings promise.
 use Rattle.std.specs.Prelude.{ℕ, ◌+◌, ◌-◌, ◌≤◌, ◌<◌, ◌≡◌, false, List, length, drop, Result, Ok, Err}
 use Rattle.lexing.specs.strings.{Escape, allowed, forbidden, panics, string_rest}
-use Rattle.lexing.specs.answers.{reply, step_answer}
-use Rattle.lexing.specs.declared.answers.Lost.{Lost}
+use Rattle.lexing.specs.answers.{reply, step_answer, Lost}
 use Rattle.lexing.specs.declared.strings.Escaped.{Escaped}
 use Rattle.lexing.specs.declared.strings.Escaped.TheVariants.{Allowed, Forbidden, Panics}
 use Rattle.lexing.specs.declared.strings.Piece.{Piece}

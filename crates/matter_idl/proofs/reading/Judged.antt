@@ -8,9 +8,8 @@ use native.Mathlib.Omega.{arith}
 use lib.Dec.{leb}
 use lib.ListN.{length}
 use Rattle.lexing.proofs.Numbers.{stop_part, part_text}
-use Rattle.lexing.specs.answers.{Rest, lost_reply}
+use Rattle.lexing.specs.answers.{Rest, lost_reply, Lost}
 use Rattle.lexing.specs.utf8.{utf8_error}
-use Rattle.lexing.specs.declared.answers.Lost.{Lost}
 use Rattle.lexing.proofs.Losses.{by_lost}
 use Rattle.lexing.proofs.Runs.{same}
 use Rattle.lexing.proofs.Onward.{Ends, Onward}

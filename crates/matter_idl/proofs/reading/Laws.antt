@@ -8,8 +8,7 @@ use native.Mathlib.Decide.{ℕ_discrete}
 use lib.ListN.{length, drop}
 use Rattle.lexing.specs.reply.{Reply, ok, fail, stop, Parser, ret, ◌>>◌, many0}
 use Rattle.lexing.specs.blanks.{whitespace0, whitespace1}
-use Rattle.lexing.specs.answers.{lost_reply, Rest, doc_of, BlankTo}
-use Rattle.lexing.specs.declared.answers.Lost.{Lost}
+use Rattle.lexing.specs.answers.{lost_reply, Rest, doc_of, BlankTo, Lost}
 use Rattle.lexing.specs.declared.blanks.Blank.{Blank}
 use Rattle.lexing.proofs.blanks.Laws.{gap_none, gap_some}
 use Rattle.lexing.proofs.Repetition.{ManyAt, before, many0_step, many0_stop}
@@ -27,7 +26,7 @@ use Rattle.items.specs.answers.items.{unhoisted_item, DeclarationCountTo}
 use Rattle.items.specs.declared.writing.Wrote.{Wrote}
 use Rattle.std.specs.Prelude.{Ok, Err, None}
 use Rattle.lexing.specs.declared.answers.Refusal.{Refusal}
-use Rattle.lexing.specs.declared.answers.Lost.TheVariants.{Fail, Stop}
+use Rattle.lexing.specs.declared.answers.LostBy.TheVariants.{Fail, Stop}
 use Rattle.items.proofs.Locality.{item_consumes}
 use Rattle.items.proofs.RecordsFit.{all_append}
 use Rattle.items.proofs.RecordWords.{each_elementwise, catalogue_bytes_none, catalogue_bytes_append, catalogue_bytes_length, word_count_append}

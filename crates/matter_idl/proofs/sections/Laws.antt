@@ -10,7 +10,7 @@ use lib.ListN.{length, take, drop, get_or, drop_of_length-le}
 use lib.Seq.{drop-cons, take-suc, take_all}
 use borrow.Author.Count.{below_more}
 use Rattle.lexing.proofs.Tests.{or_false}
-use Rattle.lexing.proofs.Scans.{turns}
+use Rattle.lexing.proofs.Scans.{turns, both_runs}
 use Rattle.matter_idl.specs.sections.{line_feed, cut_after, before_first, cut_from, sections}
 use Rattle.matter_idl.specs.inner.sections.{cut_at, Cutless, prefixed, left_at, Uncut, FirstSection}
 
@@ -94,6 +94,14 @@ cutless_none = record { each = λ e j h. absurd (omega arith) }
 -- one byte more
 pub cutless_more : {r s : Bool} {u : List ℕ} {i n : ℕ} → Cutless r u i n → s ≡ cut_at u (i + n) → Cutless (r || s) u i (n + 1)
 cutless_more {r} {s} {u} {i} {n} p c = record { each = λ e. below_more _ n (p.each (or_false r s e).0) (sym c ∙ (or_false r s e).1) }
+
+-- n bytes, and m after them
+cutless_join : (n m : ℕ) {r s : Bool} {u : List ℕ} {i : ℕ} → Cutless r u i n → Cutless s u (i + n) m → Cutless (r || s) u i (n + m)
+cutless_join n m {r} {s} {u} {i} p q = record { each = λ e. both_runs (λ k. cut_at u k ≡ false) i n m (p.each (or_false r s e).0) (q.each (or_false r s e).1) }
+
+-- four times n bytes
+pub cutless_four : (n : ℕ) {r s t v : Bool} {u : List ℕ} {i : ℕ} → Cutless r u i n → Cutless s u (i + n) n → Cutless t u (i + (n + n)) n → Cutless v u (i + (n + n + n)) n → Cutless (((r || s) || t) || v) u i (n + n + n + n)
+cutless_four n p q a b = cutless_join (n + n + n) n (cutless_join (n + n) n (cutless_join n n p q) a) b
 
 pub uncut_run : (n : ℕ) {r : Bool} {u : List ℕ} {i : ℕ} → Uncut u i → i + n ≤ length u → Cutless r u i n → r ≡ false → Uncut u (i + n)
 uncut_run n {u = u} {i = i} h l c e = turns (Uncut u) i n h (λ j q g. uncut_more g (omega arith) refl (c.each e j q))

@@ -2,10 +2,9 @@
 use Rattle.std.specs.Prelude.{ℕ, ◌+◌, ◌-◌, ◌*◌, ◌≤◌, ◌≡◌, List, length, drop, Result, Ok, Err}
 use Rattle.lexing.specs.reply.{ok}
 use Rattle.lexing.specs.outcomes.{part_numbers, text_numbers, Among}
-use Rattle.lexing.specs.answers.{number_of}
+use Rattle.lexing.specs.answers.{number_of, Lost}
 use Rattle.lexing.specs.declared.answers.Refusal.TheVariants.{NoItem}
-use Rattle.lexing.specs.declared.answers.Lost.TheVariants.{Fail, Stop}
-use Rattle.lexing.specs.declared.answers.Lost.{Lost}
+use Rattle.lexing.specs.declared.answers.LostBy.TheVariants.{Fail, Stop}
 use Rattle.items.specs.items.{Item}
 use Rattle.items.specs.layout.{layout, word_count, text_limit}
 use Rattle.matter_idl.specs.hoisting.{Tables, hoisted}

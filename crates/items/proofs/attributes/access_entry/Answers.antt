@@ -1,4 +1,4 @@
-use Rattle.lexing.specs.declared.answers.Lost.TheVariants.{Fail}
+use Rattle.lexing.specs.declared.answers.LostBy.TheVariants.{Fail}
 use Rattle.items.specs.members.{access_entry}
 use Rattle.items.proofs.levels.Laws.{level_at_none, level_at_took, colon_on}
 use Rattle.items.proofs.attributes.Laws.{entry_none, entry_is, operation_took}

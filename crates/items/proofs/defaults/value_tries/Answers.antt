@@ -1,4 +1,4 @@
-use Rattle.lexing.specs.declared.answers.Lost.TheVariants.{Stop}
+use Rattle.lexing.specs.declared.answers.LostBy.TheVariants.{Stop}
 use mathlib.Core.Path.{refl}
 use native.Mathlib.Omega.{arith}
 use Rattle.lexing.proofs.Slicing.{or_here}

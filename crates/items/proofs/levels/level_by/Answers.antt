@@ -1,7 +1,7 @@
 use mathlib.Core.Path.{refl}
 use Rattle.items.specs.inner.levels.{numbered}
 use Rattle.items.proofs.Keywords.{keyword_value, keyword_not}
-use Rattle.lexing.specs.declared.answers.Lost.TheVariants.{Fail}
+use Rattle.lexing.specs.declared.answers.LostBy.TheVariants.{Fail}
 use Rattle.lexing.proofs.AnswerLaws.{read_is, read_not}
 use Rattle.items.proofs.levels.level_by.Goals as goal
 

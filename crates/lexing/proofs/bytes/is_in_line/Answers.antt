@@ -12,3 +12,7 @@ returns c =
       | in-10 w ↦ elim w.in-10.is [ inl e ↦ rw (w.matches-is, e) | inr e ↦ rw (w.matches-is, e) ]
       | in_default w ↦ rw (w.matches-is, ne_eqb c.args.x lf (λ e. grind arith), ne_eqb c.args.x cr (λ e. grind arith))
     ]
+
+pub returns-then-x-gt13 : goal.returns-then-x-gt13
+unfolding in_line
+returns-then-x-gt13 c = rw (ne_eqb c.args.x lf (λ e. grind arith), ne_eqb c.args.x cr (λ e. grind arith))

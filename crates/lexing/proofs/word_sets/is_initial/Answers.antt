@@ -23,6 +23,10 @@ pub returns-in-Struct : goal.returns-in-Struct
 unfolding initial field_set struct_set event_set command_set attribute_set
 returns-in-Struct c = search rules
 
+pub returns-in-Empty : goal.returns-in-Empty
+unfolding initial field_set struct_set event_set command_set attribute_set
+returns-in-Empty c = search rules
+
 pub returns-in-116 : goal.returns-in-116
 unfolding initial field_set struct_set event_set command_set attribute_set
 returns-in-116 c = search rules
