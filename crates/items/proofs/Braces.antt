@@ -22,9 +22,8 @@ use Rattle.items.specs.inner.counts.{EndsIn, closed_count, ClosedTo}
 use Rattle.items.specs.declared.writing.Wrote.{Wrote}
 use Rattle.items.proofs.Locality.{close_moves}
 use Rattle.lexing.proofs.steps.Laws.{tag_after_took, skips_lost}
-use Rattle.items.proofs.counts.Laws.{Counted, count_took, count_lost, count_is, count_not}
+use Rattle.items.proofs.counts.Laws.{Counted, count_took, count_lost, count_is, count_not, closed_is_lost}
 use Rattle.items.proofs.writing.Laws.{no_room, written_took}
-use Rattle.lexing.proofs.Calm.{calm_then, calm_blanks, calm_tag}
 
 -- what is lost, where a failure is caught
 abbrev pub caught : {A : Type 0} → (ℕ → Parser A) → Lost → Parser A
@@ -204,5 +203,4 @@ module _ {A : Type 0} {f : A → List Record} {m : Parser A} (w : Onward m) {b :
 
       go : (y : Result ℕ Lost) → SkipsAt (whitespace0 >> tag 125) y b u e → CountTo f (braces m) (closed_count n y) b u
       go (Ok d) s = let z = tag_after_took 125 s in count_is f (braces m) b u k.value n d k.words (omega (arith, k.few, k.step.up, t.up, z.up)) (braces_read m b u t k.step z)
-      go (Err (Fail p)) s = count_not f (braces m) b u (Fail p) (braces_unclosed m b u t k.step (Fail p) (skips_lost s))
-      go (Err (Stop i p)) s = absurd (rw (← skips_lost s) at ((calm_then calm_blanks (calm_tag 125)).runs e (drop (e - b) u)))
+      go (Err l) s = rw (← closed_is_lost n l s) (count_not f (braces m) b u l (braces_unclosed m b u t k.step l (skips_lost s)))

@@ -20,7 +20,7 @@ use Rattle.items.specs.clusters.{mapped}
 use Rattle.items.specs.records.{Record}
 use Rattle.items.specs.layout.{layout, word_count}
 use Rattle.items.specs.answers.{counted, count_end, CountTo, Room}
-use Rattle.items.specs.inner.counts.{ClosedTo, fail_no_earlier}
+use Rattle.items.specs.inner.counts.{closed_count, ClosedTo, fail_no_earlier}
 use Rattle.items.proofs.Mapped.{mapped_twice, value_as, TookAs, took_as, lost_as, mapped_ok, mapped_not}
 use Rattle.items.proofs.RecordWords.{word_count_none, word_count_more}
 use Rattle.items.specs.inner.runs.{Elementwise, Repeats}
@@ -125,11 +125,15 @@ count_after f m k w (Ok (i, c)) {b} {n} {u} {v} q e h =
     count_is f m b u s.value i c s.words (omega (arith, h.few, q.from, t.up)) (sym t.goes ∙ e)
 count_after f m k w (Err l) {b} {n} {u} {v} q e h = count_not f m b u l (count_lost n v h ∙ (ap (k n) q.same ∙ e))
 
+-- a closing brace never stops, so what is lost at it is handed on as it is
+pub closed_is_lost : (n : ℕ) (l : Lost) {b : ℕ} {u : List ℕ} {c : ℕ} → SkipsAt (whitespace0 >> tag 125) (Err l) b u c → Err l ≡ closed_count n (Err l)
+closed_is_lost n (Fail p) h = refl
+closed_is_lost n (Stop i p) {b} {u} {c} h = absurd (rw (← skips_lost h) at ((calm_then calm_blanks (calm_tag 125)).runs c (drop (c - b) u)))
+
 -- The ways of a count that the closing brace follows.
 module _ {n c b : ℕ} {u : List ℕ} where
   pub closed_lost : {l : Lost} → SkipsAt (whitespace0 >> tag 125) (Err l) b u c → ClosedTo (Ok (n, c)) (Err l) b u
-  closed_lost {l = Fail p} h = record { close = Err (Fail p); skips = h; is = refl }
-  closed_lost {l = Stop i p} h = absurd (rw (← skips_lost h) at ((calm_then calm_blanks (calm_tag 125)).runs c (drop (c - b) u)))
+  closed_lost {l} h = record { close = Err l; skips = h; is = closed_is_lost n l h }
 
   pub closed_is : {R : Type 0} {d : ℕ} → SkipsAt (whitespace0 >> tag 125) (Ok d) b u c → ClosedTo {R = R} (Ok (n, c)) (Ok (n, d)) b u
   closed_is {d = d} h = record { close = Ok d; skips = h; is = refl }
