@@ -22,7 +22,7 @@ use Rattle.items.specs.inner.counts.{EndsIn, closed_count, ClosedTo}
 use Rattle.items.specs.declared.writing.Wrote.{Wrote}
 use Rattle.items.proofs.Locality.{close_moves}
 use Rattle.lexing.proofs.steps.Laws.{tag_after_took, skips_lost}
-use Rattle.items.proofs.counts.Laws.{Counted, count_took, count_lost, count_is, count_not, closed_is_lost}
+use Rattle.items.proofs.counts.Laws.{Counted, count_took, count_lost, count_is, count_not, closing_count}
 use Rattle.items.proofs.writing.Laws.{no_room, written_took}
 
 -- what is lost, where a failure is caught
@@ -196,11 +196,11 @@ module _ {A : Type 0} {f : A → List Record} {m : Parser A} (w : Onward m) {b :
 
   pub braces_counted : (a x : Read ℕ) → CountTo f m a c r → ClosedTo a x b u → CountTo f (braces m) x b u
   braces_counted (Err l) x h e = rw e (count_not f (braces m) b u l (braces_lost m b u t l q (count_lost c r h)))
-  braces_counted (Ok (n, e)) x h g = rw g.is (go g.close g.skips)
+  braces_counted (Ok (n, e)) x h g = rw (closing_count g) (go g.close g.skips)
     where
       k : Counted f m b u c n e
       k = count_took w q h
 
       go : (y : Result ℕ Lost) → SkipsAt (whitespace0 >> tag 125) y b u e → CountTo f (braces m) (closed_count n y) b u
       go (Ok d) s = let z = tag_after_took 125 s in count_is f (braces m) b u k.value n d k.words (omega (arith, k.few, k.step.up, t.up, z.up)) (braces_read m b u t k.step z)
-      go (Err l) s = rw (← closed_is_lost n l s) (count_not f (braces m) b u l (braces_unclosed m b u t k.step l (skips_lost s)))
+      go (Err l) s = count_not f (braces m) b u l (braces_unclosed m b u t k.step l (skips_lost s))

@@ -9,7 +9,7 @@ use lib.ListN.{drop, length-drop}
 use Rattle.lexing.specs.reply.{ok, Parser, ◌>>◌, many0, fail, no_nearer}
 use Rattle.lexing.specs.words.{tag}
 use Rattle.lexing.specs.blanks.{whitespace0}
-use Rattle.lexing.specs.answers.{Rest, lost_reply, ReadTo, SkipsAt, Read, Lost}
+use Rattle.lexing.specs.answers.{Rest, lost_reply, ReadTo, SkipsAt, Read, Step, Lost}
 use Rattle.lexing.proofs.Losses.{by_lost}
 use Rattle.lexing.proofs.Onward.{Onward}
 use Rattle.lexing.proofs.Locality.{Consumes}
@@ -20,7 +20,7 @@ use Rattle.items.specs.clusters.{mapped}
 use Rattle.items.specs.records.{Record}
 use Rattle.items.specs.layout.{layout, word_count}
 use Rattle.items.specs.answers.{counted, count_end, CountTo, Room}
-use Rattle.items.specs.inner.counts.{closed_count, ClosedTo, fail_no_earlier}
+use Rattle.items.specs.inner.counts.{closed_count, closed_by, Closing, ClosedTo, fail_no_earlier}
 use Rattle.items.proofs.Mapped.{mapped_twice, value_as, TookAs, took_as, lost_as, mapped_ok, mapped_not}
 use Rattle.items.proofs.RecordWords.{word_count_none, word_count_more}
 use Rattle.items.specs.inner.runs.{Elementwise, Repeats}
@@ -126,9 +126,14 @@ count_after f m k w (Ok (i, c)) {b} {n} {u} {v} q e h =
 count_after f m k w (Err l) {b} {n} {u} {v} q e h = count_not f m b u l (count_lost n v h ∙ (ap (k n) q.same ∙ e))
 
 -- a closing brace never stops, so what is lost at it is handed on as it is
-pub closed_is_lost : (n : ℕ) (l : Lost) {b : ℕ} {u : List ℕ} {c : ℕ} → SkipsAt (whitespace0 >> tag 125) (Err l) b u c → Err l ≡ closed_count n (Err l)
+pub closed_is_lost : (n : ℕ) (l : Lost) {b : ℕ} {u : List ℕ} {c : ℕ} → SkipsAt (whitespace0 >> tag 125) (Err l) b u c → Err l ≡ closed_by n (Err l)
 closed_is_lost n (Fail p) h = refl
 closed_is_lost n (Stop i p) {b} {u} {c} h = absurd (rw (← skips_lost h) at ((calm_then calm_blanks (calm_tag 125)).runs c (drop (c - b) u)))
+
+-- so where a refusal ends all reading, what the brace answers is handed on
+pub closed_is_count : (n : ℕ) (k : Step) {b : ℕ} {u : List ℕ} {c : ℕ} → SkipsAt (whitespace0 >> tag 125) k b u c → closed_by n k ≡ closed_count n k
+closed_is_count n (Ok d) h = refl
+closed_is_count n (Err l) h = sym (closed_is_lost n l h)
 
 -- The ways of a count that the closing brace follows.
 module _ {n c b : ℕ} {u : List ℕ} where
@@ -137,6 +142,9 @@ module _ {n c b : ℕ} {u : List ℕ} where
 
   pub closed_is : {R : Type 0} {d : ℕ} → SkipsAt (whitespace0 >> tag 125) (Ok d) b u c → ClosedTo {R = R} (Ok (n, c)) (Ok (n, d)) b u
   closed_is {d = d} h = record { close = Ok d; skips = h; is = refl }
+
+  pub closing_count : {r : Read ℕ} (h : Closing n c r b u) → r ≡ closed_count n h.close
+  closing_count h = h.is ∙ closed_is_count n h.close h.skips
 
 -- a count that is raised
 pub count_no_earlier : {A : Type 0} (f : A → List Record) (m k : Parser A) (q : ℕ) (r : Read ℕ) (b : ℕ) (u : List ℕ) → CountTo f m r b u → k b u ≡ no_nearer q (m b u) → CountTo f k (fail_no_earlier r q) b u
